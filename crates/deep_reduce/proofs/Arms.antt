@@ -1,7 +1,7 @@
 -- What a step is known to have made, in the arm for it.
-use Rattle.std.proofs.Common.{◌≡◌, ◌<◌, ◌+◌, ◌^◌, ℕ, ℤ, subst, Some, None, ◌≤◌, List, true, false, sym, ◌∙◌, ap, arith, Result, refl, IfErr}
-use Rattle.deep_reduce.proofs.Shared.{Tree, State, base_in, exponent_in, IsPowerAnswer, IsStep, rewritten, IfFinished, IfJoined, IsFinished, IsGathered, IsPairAt, Joining, Rewrites, tree_of, Gives, IsHeldAsPowerOf, IfDone, Step, children_of, without_root, forest, counted, counted_among, HasPowersOf, SpansTree, mult, is_mult, is_undef, has_undef, IsHeldAsProduct, IsFactorHeld, AreFactorsHeld, KeepsRoom, HandsOn, IfGathered, given_told, numbers_among, and_parts, is_half_num, power, none, more, IsPowerMisfit, has_no_power, has_number_power, is_rewritable, OfOverflow, NumberFault}
-use Rattle.node_bounds.proofs.JointRooms.{finished_keeps, gathered_hands_on}
+use Rattle.std.proofs.Common.{◌≡◌, ◌<◌, ◌+◌, ◌^◌, ℕ, ℤ, subst, Some, None, true, false, ◌∙◌, ap, arith, Result, refl, IfErr}
+use Rattle.deep_reduce.proofs.Shared.{Tree, State, base_in, exponent_in, IsPowerAnswer, IsStep, rewritten, IfFinished, IfJoined, IsFinished, IsGathered, IsPairAt, Joining, Rewrites, tree_of, Gives, IsHeldAsPowerOf, IfDone, Step, children_of, without_root, forest, is_undef, has_undef, HandsOn, given_told, and_parts, is_half_num, power, none, more, IsPowerMisfit, has_no_power, has_number_power, is_rewritable, OfOverflow, NumberFault, KeepsFactorBounds, KeepsProductBounds}
+use Rattle.node_bounds.proofs.JointRooms.{gathered_hands_on}
 use Rattle.deep_reduce.proofs.Settled.{gathered_product}
 use Rattle.deep_reduce.proofs.EasyNodes.{number_defined}
 use Rattle.product_reduce.specs.declared.gathering.Joining.TheVariants as joining
@@ -37,33 +37,19 @@ module _ (i : ℕ) (old new : State) where
 pub is_held : {s : Step} {h : ℕ} (new : State) → s ≡ step.Done h → (n : ℤ) (b : Tree) → IfDone s (λ k. IsHeldAsPowerOf n b (tree_of k new)) → IsHeldAsPowerOf n b (tree_of h new)
 is_held new e n b k = subst (λ (x : Step). IfDone x (λ k. IsHeldAsPowerOf n b (tree_of k new))) e k
 
--- ---- gathered factors
+-- ---- the bounds of what is gathered
 
-module _ (i : ℕ) (old new : State) (m : is_mult (tree_of i old) ≡ true) where
+module _ (i : ℕ) (old new : State) where
+  pub is_bounded : {s : Joining} {h : ℕ} → s ≡ joining.Done h → IfFinished s (λ k. KeepsProductBounds (children_of (tree_of i old)) (tree_of k new))
+      → KeepsProductBounds (children_of (tree_of i old)) (tree_of h new)
+  is_bounded e b = subst (λ (s : Joining). IfFinished s (λ k. KeepsProductBounds (children_of (tree_of i old)) (tree_of k new))) e b
+
   pub gathered_hands : {s : Joining} {h at : ℕ} → s ≡ joining.Joined h at → IfJoined s (λ k n. Gives (without_root i (forest old)) (forest new) k (IsGathered (children_of (tree_of i old))))
-      → IfJoined s (λ k n. counted_among (children_of (tree_of k new)) ≤ counted_among (children_of (tree_of i old))) → IfJoined s (λ k n. numbers_among (children_of (tree_of k new)) ≤ 2)
-      → IfGathered s (λ k. HasPowersOf (children_of (tree_of i old)) (tree_of k new)) → ((gs : List ℕ) → SpansTree gs (tree_of i old) → IfGathered s (λ k. SpansTree gs (tree_of k new)))
-      → ((m l : ℕ) → has_undef (children_of (tree_of i old)) ≡ false → AreFactorsHeld (children_of (tree_of i old)) m l → IfJoined s (λ k n. AreFactorsHeld (children_of (tree_of k new)) m l))
-      → HandsOn (children_of (tree_of i old)) (children_of (tree_of h new))
-  gathered_hands {h = h} e g c n p k a =
+      → IfJoined s (λ k n. KeepsFactorBounds (children_of (tree_of i old)) (tree_of k new)) → HandsOn (children_of (tree_of i old)) (children_of (tree_of h new))
+  gathered_hands {h = h} e g b =
       let j = given_told (is_gathered i old new e g) in
-      gathered_hands_on (children_of (tree_of i old)) (tree_of h new) (product_words (tree_of h new) (gathered_product _ _ j))
-      (subst (λ (s : Joining). IfJoined s (λ k n. counted_among (children_of (tree_of k new)) ≤ counted_among (children_of (tree_of i old)))) e c) (subst (λ (s : Joining). IfJoined s (λ k n. numbers_among (children_of (tree_of k new)) ≤ 2)) e n)
-      (subst (λ (s : Joining). IfGathered s (λ k. HasPowersOf (children_of (tree_of i old)) (tree_of k new))) e p)
-      (λ gs x. subst (λ (s : Joining). IfGathered s (λ k. SpansTree gs (tree_of k new))) e (k gs (subst (SpansTree gs) (sym (product_words (tree_of i old) m)) x)))
-      (λ x l b. subst (λ (s : Joining). IfJoined s (λ k n. AreFactorsHeld (children_of (tree_of k new)) x l)) e (a x l j.joinable.defined b))
-
-  pub finished_hands : {s : Joining} {h : ℕ} → s ≡ joining.Done h → IfFinished s (λ k. counted (tree_of k new) ≤ counted (tree_of i old)) → IfGathered s (λ k. HasPowersOf (children_of (tree_of i old)) (tree_of k new))
-      → ((gs : List ℕ) → SpansTree gs (tree_of i old) → IfGathered s (λ k. SpansTree gs (tree_of k new))) → KeepsRoom (counted (mult (children_of (tree_of i old)))) (mult (children_of (tree_of i old))) (tree_of h new)
-  finished_hands {h = h} e c p k =
-      let few : counted (tree_of h new) ≤ counted (tree_of i old) = subst (λ (s : Joining). IfFinished s (λ k. counted (tree_of k new) ≤ counted (tree_of i old))) e c in
-      finished_keeps (children_of (tree_of i old)) (tree_of h new) (omega (arith, few, ap counted (product_words (tree_of i old) m)))
-      (subst (λ (s : Joining). IfGathered s (λ k. HasPowersOf (children_of (tree_of i old)) (tree_of k new))) e p)
-      (λ gs x. subst (λ (s : Joining). IfGathered s (λ k. SpansTree gs (tree_of k new))) e (k gs (subst (SpansTree gs) (sym (product_words (tree_of i old) m)) x)))
-
-  pub finished_holds : {s : Joining} {h : ℕ} → s ≡ joining.Done h → ((m l : ℕ) → has_undef (children_of (tree_of i old)) ≡ false → AreFactorsHeld (children_of (tree_of i old)) m l → IfFinished s (λ k. IsFactorHeld (tree_of k new) m l))
-      → is_undef (tree_of h new) ≡ has_undef (children_of (tree_of i old)) → IsHeldAsProduct (children_of (tree_of i old)) (tree_of h new)
-  finished_holds {h = h} e a u d m l b = subst (λ (s : Joining). IfFinished s (λ k. IsFactorHeld (tree_of k new) m l)) e (a m l (sym u ∙ d) b)
+      gathered_hands_on (children_of (tree_of i old)) (tree_of h new) (product_words (tree_of h new) (gathered_product _ _ j)) j.joinable.defined
+      (subst (λ (s : Joining). IfJoined s (λ k n. KeepsFactorBounds (children_of (tree_of i old)) (tree_of k new))) e b)
 
 -- ---- operations that do not fit
 
@@ -84,7 +70,8 @@ sides_defined t p h k = ap (λ (x : Tree). has_undef (children_of x)) p ∙ both
 number_sides : (b e : Tree) → has_number_power b e ≡ true → (is_undef b ≡ false) × (is_undef e ≡ false)
 number_sides b e h = grind (arith, number_defined, and_parts)
 
-pub misfit_fault : (t : Tree) (f : NumberFault) → t ≡ power (base_in t) (exponent_in t) → OfOverflow (IsPowerMisfit (base_in t) (exponent_in t)) f → OfOverflow (λ o. has_undef (children_of t) ≡ false) f
+pub misfit_fault : (t : Tree) (f : NumberFault) → t ≡ power (base_in t) (exponent_in t) → OfOverflow (IsPowerMisfit (base_in t) (exponent_in t)) f
+    → OfOverflow (λ o. has_undef (children_of t) ≡ false) f
 misfit_fault t f h k = grind (arith, number_sides, sides_defined)
 
 base_defined : (b e : Tree) → has_no_power b e ≡ false → is_undef b ≡ false

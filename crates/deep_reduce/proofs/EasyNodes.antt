@@ -36,7 +36,8 @@ whole_number r n h = number_whole r (num (whole_fraction n)) (whole_no_half (num
 
 -- and of half of an odd whole number
 half_lacks : (b h : Fraction) → h.den ≡ 2 → (int_is_negative b.num || is_zero_fraction b && int_is_negative h.num) ≡ true → lacks_power (num b) (num h) ≡ true
-half_lacks b h d e = or_right (has_no_power (num b) (num h)) (has_no_half_power (num b) (num h)) (and_from (h.den == 2) (int_is_negative b.num || is_zero_fraction b && int_is_negative h.num) (eq-eqb h.den 2 d) e)
+half_lacks b h d e =
+    or_right (has_no_power (num b) (num h)) (has_no_half_power (num b) (num h)) (and_from (h.den == 2) (int_is_negative b.num || is_zero_fraction b && int_is_negative h.num) (eq-eqb h.den 2 d) e)
 
 half_defined : (b h : Fraction) → h.den ≡ 2 → int_is_negative b.num ≡ false → (int_is_negative h.num ≡ true → num b ≢ num zero_fraction) → lacks_power (num b) (num h) ≡ false
 half_defined b h k a c = grind (arith, or_from, false_from_ne_true, and_parts, one_is_not_two, eqb-true, or_other, zero_is)
@@ -130,7 +131,8 @@ div_decides a c b d h k e =
     let divisor = λ (n : ¬ (IsBad (div a b))). easy_divisor a b d e n (kept k.reduces.meanings) (number_words d (r n)) in
     record {
       bad = λ x. by (bad_div a b x);
-      defined = λ n. or_from (is_undef c) (lacks_power d (num minus_one_fraction)) (number_defined c (l n)) (whole_lacks d (negsuc 0) false (whole_power_defined d (negsuc 0) (r n) (λ z. (divisor n).0)));
+      defined = λ n.
+          or_from (is_undef c) (lacks_power d (num minus_one_fraction)) (number_defined c (l n)) (whole_lacks d (negsuc 0) false (whole_power_defined d (negsuc 0) (r n) (λ z. (divisor n).0)));
       number = λ n. and_from (is_number c) (is_number_power d (num minus_one_fraction)) (l n) (whole_number d (negsuc 0) (whole_power_number d (negsuc 0) (r n) (λ i z. (divisor n).1)));
     }
   where
@@ -178,7 +180,9 @@ power_decides b c g x h k e =
     zero_base z (inl (n, low, w)) = ap (lacks_power c) (exponent_answer (whole_fraction n) w) ∙ whole_lacks c n true (zero_power n c low (zero_answer b c h base z))
     zero_base z (inr (q, low, (d, w))) =
         (λ i. lacks_power (zero_answer b c h base z i) (exponent_answer q w i))
-        ∙ half_lacks zero_fraction q d (or_right (int_is_negative zero_fraction.num) (is_zero_fraction zero_fraction && int_is_negative q.num) (and_from (is_zero_fraction zero_fraction) (int_is_negative q.num) zero_test low))
+        ∙ half_lacks zero_fraction q d
+        (or_right (int_is_negative zero_fraction.num) (is_zero_fraction zero_fraction && int_is_negative q.num)
+        (and_from (is_zero_fraction zero_fraction) (int_is_negative q.num) zero_test low))
 
     negative_base : IsNegative b → (q : Fraction) → IsHalf g q → lacks_power c x ≡ true
     negative_base m q (d, w) =

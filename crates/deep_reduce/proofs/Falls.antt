@@ -31,7 +31,8 @@ product_falls t v h = rank_second _ _ _ _ h.nests (omega (arith, h.loads))
 summed_falls : (b : Tree) (ts : Trees) (p : Tree) → IsSummed b ts p → (nest p ≤ nest_over b ts) × (weight (base_in p) ≡ weight b)
 summed_falls b ts p h = (omega (arith, over_power b ts h.exponent h.sum.number h.sum.nest, ap nest h.is), ap (λ (x : Tree). weight (base_in x)) h.is)
 
-joint_power : (t p : Tree) → t ≡ power (base_in t) (add (children_of (exponent_in t))) → IsSummed (base_in t) (children_of (exponent_in t)) p → (nest p ≤ nest_of_joint t) × (weight (base_in p) ≡ weight (base_in t))
+joint_power : (t p : Tree) → t ≡ power (base_in t) (add (children_of (exponent_in t))) → IsSummed (base_in t) (children_of (exponent_in t)) p
+    → (nest p ≤ nest_of_joint t) × (weight (base_in p) ≡ weight (base_in t))
 joint_power t p e h =
     let f = summed_falls (base_in t) (children_of (exponent_in t)) p h in
     (omega (arith, f.0, ap nest_of_joint e), f.1)

@@ -1,5 +1,5 @@
 -- What nodes over rationals reduce to, where their values fit.
-use Rattle.std.proofs.Common.{◌≡◌, ◌≢◌, ◌<◌, ◌↔◌, Bool, Option, Some, None, Result, ◌+◌, ◌≤◌, ◌++◌, ℕ, ℤ, pos, negsuc, true, false, not, refl, sym, ap, ◌∙◌, subst, arith}
+use Rattle.std.proofs.Common.{◌≡◌, ◌≢◌, ◌<◌, ◌↔◌, Bool, Option, Some, None, Result, ◌+◌, ◌≤◌, ◌++◌, ℕ, ℤ, negsuc, true, false, not, refl, sym, ap, ◌∙◌, subst, arith}
 use Rattle.std.specs.Prelude.{IfOk, IfSome, IsErr, Ok, Err}
 use Rattle.std.proofs.lemmas.Nat.{mul-le}
 use Rattle.std.specs.Result.{result_ok}
@@ -7,7 +7,7 @@ use Rattle.calc_terms.specs.declared.kind.Kind.TheVariants as kind
 use Rattle.rational128.proofs.LowestTerms.{ratio_parts}
 use Rattle.rational128.proofs.Products.{parts_fit}
 use Rattle.calc_terms.specs.declared.rat.Rat.{Rat}
-use Rattle.deep_reduce.proofs.Shared.{Fraction, HasNodesFor, simple_room, Overflow, int_is_zero, ratio_of, children_of, root_kind, count, nth, value_of, Tree, num, add, mult, power, neg, sub, div, Trees, none, more, value, Surd, negative, inverse, minus_one_fraction, one_fraction, zero_fraction, whole_fraction, is_zero_fraction, fraction_fits, add_op, mul_op, calculated, exactly, plain_value, powered, PlainValue, IsPlainAnswer, IsNodeAnswer, Reduces, keeps, number_reduced, lacks_power, HoldsNode, HoldsPower, AreFactorsHeld, is_half_num, whole_no_half, whole_is, holds_whole, holds_half, holds_kept, IsFactorHeld, raised_high, raised_low, whole_numerator, whole_denominator, is_number}
+use Rattle.deep_reduce.proofs.Shared.{Fraction, HasNodesFor, simple_room, Overflow, ratio_of, children_of, root_kind, count, nth, value_of, Tree, num, add, mult, power, neg, sub, div, Trees, none, more, value, Surd, negative, inverse, minus_one_fraction, one_fraction, zero_fraction, whole_fraction, is_zero_fraction, fraction_fits, add_op, mul_op, calculated, exactly, plain_value, powered, PlainValue, IsPlainAnswer, IsNodeAnswer, Reduces, keeps, number_reduced, lacks_power, HoldsNode, HoldsPower, AreFactorsHeld, is_half_num, whole_no_half, whole_is, holds_whole, holds_half, holds_kept, IsFactorHeld, raised_high, raised_low, whole_numerator, whole_denominator, is_number}
 use Rattle.calc_algebra.proofs.MeaningRewrites as rewrites
 use Rattle.calc_algebra.proofs.NumberRewrites.{sum_of_numbers, product_of_rationals, negative_power_of_rational}
 use Rattle.calc_algebra.specs.Surds.{surd_times}
@@ -39,7 +39,9 @@ sum_over : (p q : Fraction) → IsNumberOver (value (num p) ++ value (num q)) (n
 sum_over p q = rational_over (plus p q) (plus p q) (num (plus p q)) (value (num p) ++ value (num q)) refl refl (rational_sum p q (num p) (num q) refl refl) (sum_parts p q (num p) (num q) refl refl)
 
 product_over : (p q : Fraction) → IsNumberOver (surd_times (value (num p)) (value (num q))) (num (times p q))
-product_over p q = rational_over (times p q) (times p q) (num (times p q)) (surd_times (value (num p)) (value (num q))) refl refl (rational_product p q (num p) (num q) refl refl) (product_parts p q (num p) (num q) refl refl)
+product_over p q =
+    rational_over (times p q) (times p q) (num (times p q)) (surd_times (value (num p)) (value (num q))) refl refl (rational_product p q (num p) (num q) refl refl)
+    (product_parts p q (num p) (num q) refl refl)
 
 -- what holds the values holds the number
 over_held : (v : Surd) (q : Fraction) (h l : ℕ) → IsNumberOver v (num q) → IsHeld v h l → IsFactorHeld (num q) h l
@@ -185,9 +187,11 @@ not_false : (b : Bool) → (b ≡ false → ⊥) → b ≡ true
 not_false b h = grind arith
 
 -- a result where there is one fits, and is what the operation gives
-pub calculated_is : (op : Operation) (p q : Fraction) (r : Result Rat Overflow) (o : Option Rat) → o ≡ result_ok r → IfOk r (λ x. value_of x ≡ result_of op p q) → (IsErr r ↔ (operation_fits op p q ≡ false))
+pub calculated_is : (op : Operation) (p q : Fraction) (r : Result Rat Overflow) (o : Option Rat) → o ≡ result_ok r → IfOk r (λ x. value_of x ≡ result_of op p q)
+    → (IsErr r ↔ (operation_fits op p q ≡ false))
     → IfSome o (λ x. (operation_fits op p q ≡ true) × (value_of x ≡ result_of op p q))
-calculated_is op p q (Ok x) o e v f = subst (λ (y : Option Rat). IfSome y (λ z. (operation_fits op p q ≡ true) × (value_of z ≡ result_of op p q))) (sym e) (not_false (operation_fits op p q) (λ n. absurd (let h = f.1 n in cc)), v)
+calculated_is op p q (Ok x) o e v f =
+    subst (λ (y : Option Rat). IfSome y (λ z. (operation_fits op p q ≡ true) × (value_of z ≡ result_of op p q))) (sym e) (not_false (operation_fits op p q) (λ n. absurd (let h = f.1 n in cc)), v)
 calculated_is op p q (Err x) o e v f = subst (λ (y : Option Rat). IfSome y (λ z. (operation_fits op p q ≡ true) × (value_of z ≡ result_of op p q))) (sym e) tt
 
 pub some_told : {P Q : Rat → Type 0} (o : Option Rat) → IfSome o P → ((x : Rat) → P x → Q x) → IfSome o Q

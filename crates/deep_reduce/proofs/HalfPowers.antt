@@ -1,6 +1,6 @@
 -- Powers whose exponent is half of an odd whole number, from the root of the base and a power of it.
 use Rattle.std.proofs.Common.{◌≡◌, ℕ, suc, List, ◌+◌, ◌≤◌, zero, ℤ, pos, negsuc, true, false, ◌&&◌, ◌||◌, ◌==◌, not, Some, None, refl, sym, ap, ◌∙◌, subst, arith, ◌≤ℤ◌, ◌*◌, ◌^◌, ◌<◌, length, Err, nat_le}
-use Rattle.deep_reduce.proofs.Shared.{and_parts, eqb-true, false_from_ne_true, ints, half_is_odd, number_words, number_test, keeps, kept, reduces_after, is_number, IsNumber, is_half_num, is_reduced, Rewrites, nest, weight, Fraction, whole_fraction, is_zero_fraction, int_is_negative, int_is_even, Tree, num, undef, power, root, names, is_undef, is_num, is_root, IsHeldAsRootPower, IsFactorHeld, IsHeldAsPowerOf, lacks_power, is_number_power, IsReducedPower, parts_reduced, IsRooted, SpansTree, is_zero, numerator, base_in, exponent_in, has_no_power, has_number_power, IsPowerAnswer, power_of_root, rewritten, transparent_whole, root_once, undef_base_kept, by_half, one_is_not_two, whole_no_half, number_weight, whole_is, argument_of, has_no_root, IsRootAnswer, and_from, or_cases, or_left, or_right, or_parts, and_right, not_from_false, cases_Bool, pow_pos, is_whole_num, reduced_words, counted, num_bytes, tree_bytes, size, SpansRootOf, LacksBelow, full_as, LacksRoot, LacksStep, IsFull, NumberFault, power_room, scaled, and_left, classes}
+use Rattle.deep_reduce.proofs.Shared.{and_parts, eqb-true, false_from_ne_true, ints, half_is_odd, number_words, number_test, keeps, kept, reduces_after, is_number, IsNumber, is_half_num, is_reduced, Rewrites, weight, Fraction, whole_fraction, is_zero_fraction, int_is_negative, int_is_even, Tree, num, undef, power, root, names, is_undef, is_num, is_root, IsHeldAsRootPower, IsFactorHeld, IsHeldAsPowerOf, lacks_power, is_number_power, IsReducedPower, parts_reduced, IsRooted, SpansTree, is_zero, numerator, base_in, exponent_in, has_no_power, has_number_power, IsPowerAnswer, power_of_root, rewritten, transparent_whole, root_once, undef_base_kept, by_half, one_is_not_two, whole_no_half, number_weight, whole_is, argument_of, has_no_root, IsRootAnswer, and_from, or_cases, or_left, or_right, or_parts, and_right, not_from_false, cases_Bool, pow_pos, is_whole_num, reduced_words, counted, num_bytes, tree_bytes, size, SpansRootOf, LacksBelow, full_as, LacksRoot, LacksStep, IsFull, NumberFault, power_room, scaled, and_left, classes}
 use Rattle.node_bounds.proofs.Clashes.{contrary, or_other, undef_words, and_other}
 use Rattle.node_bounds.proofs.HeldRoots.{half_held, root_answer_held}
 use Rattle.deep_reduce.proofs.EasyNodes.{whole_power_number, whole_power_defined, zero_power}
@@ -9,7 +9,7 @@ use Rattle.deep_reduce.proofs.Opened.{rewritten_written}
 use Rattle.node_bounds.proofs.Calm.{calm_no_half}
 use Rattle.node_bounds.proofs.PowerRooms.{half_room, root_room}
 use Rattle.radical_forms.proofs.RootValues.{of_root}
-use Rattle.calc_measures.proofs.Weights.{some_weight, to_number}
+use Rattle.calc_measures.proofs.Weights.{some_weight}
 use Rattle.deep_reduce.proofs.Lacking.{lacks_as}
 use Rattle.calc_algebra.proofs.MeaningRewrites as rewrites
 use Rattle.power_reduce.proofs.Answered.{number_nest}
@@ -70,14 +70,16 @@ rooted b r e h = record {
 half_undefined : (b r u : Tree) (q : Fraction) → (q.den == 2) ≡ true → is_undef b ≡ false → IsRootAnswer b r → IsPowerAnswer r (num (whole_fraction q.num)) u → lacks_power b (num q) ≡ true → u ≡ undef
 half_undefined b r u q h k a c d = grind (arith, or_other, no_at_most, undefined_sides, and_parts)
 
-half_number : (b r u : Tree) (q : Fraction) → (q.den == 2) ≡ true → IsRootAnswer b r → IsPowerAnswer r (num (whole_fraction q.num)) u → is_number_power b (num q) ≡ true → lacks_power b (num q) ≡ false → is_number u ≡ true
+half_number : (b r u : Tree) (q : Fraction) → (q.den == 2) ≡ true → IsRootAnswer b r → IsPowerAnswer r (num (whole_fraction q.num)) u → is_number_power b (num q) ≡ true
+    → lacks_power b (num q) ≡ false → is_number u ≡ true
 half_number b r u q h k a c d = grind (arith, and_parts, or_other, no_number, or_parts, number_sides, and_other)
 
 root_kinds : (b r : Tree) → IsRootAnswer b r → (is_undef r || is_number r || is_root r) ≡ true
 root_kinds b r h = grind (arith, or_left, or_right)
 
 -- the power of the reduced root is that of the base
-pub half_finished : (b e r u : Tree) → is_half_num e ≡ true → is_undef b ≡ false → Rewrites (power b e) (power_of_root b e) → IsRootAnswer b r → ((gs : List ℕ) → SpansTree gs (root b) → SpansTree gs r) → IsPowerAnswer r (num (whole_fraction (numerator e))) u
+pub half_finished : (b e r u : Tree) → is_half_num e ≡ true → is_undef b ≡ false → Rewrites (power b e) (power_of_root b e) → IsRootAnswer b r
+    → ((gs : List ℕ) → SpansTree gs (root b) → SpansTree gs r) → IsPowerAnswer r (num (whole_fraction (numerator e))) u
     → IsHeldAsRootPower (numerator e) b u → IsReducedPower b e u
 half_finished b (num q) r u h d w k s a x = record {
   reduces = reduces_after w (reduces_after (rooted b r (num (whole_fraction q.num)) k) a.reduces);
@@ -131,7 +133,8 @@ pub last_exponent : {b e u v : Tree} → IsHalfStep b e u → IsRooted u v → e
 last_exponent s k = ap exponent_in (rooted_is _ _ _ _ s k).is
 
 -- what holds the base holds the root, unless that is Undef
-pub rooted_held : {b e u v : Tree} {h l : ℕ} → is_reduced b ≡ true → IsHalfStep b e u → IsRooted u v → (h ≡ 0 → l ≡ 0) → is_undef (base_in v) ≡ false → IsFactorHeld b h l → IsFactorHeld (base_in v) h l
+pub rooted_held : {b e u v : Tree} {h l : ℕ} → is_reduced b ≡ true → IsHalfStep b e u → IsRooted u v → (h ≡ 0 → l ≡ 0) → is_undef (base_in v) ≡ false → IsFactorHeld b h l
+    → IsFactorHeld (base_in v) h l
 rooted_held m s k z d a = grind (arith, root_answer_held, rooted_is)
 
 pub half_after : {b e u v : Tree} (r : Tree) → is_half_num e ≡ true → IsHalfStep b e u → Rewrites (power b e) u → IsRooted u v → IsPowerAnswer (base_in v) (exponent_in v) r
@@ -155,10 +158,12 @@ base_bytes gs b h k = grind (arith, num_bytes, pow_pos, tree_bytes, reduced_word
 rooted_bytes : (gs : List ℕ) (b e : Tree) → is_reduced b ≡ true → SpansRootOf gs b → 96 + size (power_of_root b e) ≤ power_room (1 + counted b) (2 ^ length gs)
 rooted_bytes gs b e r s = omega (arith, base_bytes gs b r s, num_bytes (whole_fraction (numerator e)), pow_pos (length gs))
 
-pub step_finds_none : (gs : List ℕ) (t : Tree) (free : ℕ) (f : NumberFault) → is_reduced (base_in t) ≡ true → SpansRootOf gs (base_in t) → LacksRoot t free f → LacksBelow (power_room (1 + counted (base_in t)) (2 ^ length gs)) (free + size t) f
+pub step_finds_none : (gs : List ℕ) (t : Tree) (free : ℕ) (f : NumberFault) → is_reduced (base_in t) ≡ true → SpansRootOf gs (base_in t) → LacksRoot t free f
+    → LacksBelow (power_room (1 + counted (base_in t)) (2 ^ length gs)) (free + size t) f
 step_finds_none gs t free f r s k = full_as f k (λ full l. omega (arith, l, rooted_bytes gs (base_in t) (exponent_in t) r s))
 
-pub base_finds_none : {b e u : Tree} (gs : List ℕ) (free bytes : ℕ) (f : NumberFault) → is_reduced b ≡ true → SpansRootOf gs b → IsHalfStep b e u → free + size u ≡ bytes → LacksBelow (96 + size u) (free + size u) f → LacksBelow (power_room (1 + counted b) (2 ^ length gs)) bytes f
+pub base_finds_none : {b e u : Tree} (gs : List ℕ) (free bytes : ℕ) (f : NumberFault) → is_reduced b ≡ true → SpansRootOf gs b → IsHalfStep b e u → free + size u ≡ bytes
+    → LacksBelow (96 + size u) (free + size u) f → LacksBelow (power_room (1 + counted b) (2 ^ length gs)) bytes f
 base_finds_none {b = b} {e = e} gs free bytes f r s h m k = lacks_as f k (λ l. omega (arith, l, m, ap size h.is, rooted_bytes gs b e r s))
 
 -- the last step

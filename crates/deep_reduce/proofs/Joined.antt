@@ -64,6 +64,10 @@ first_joined t u ts h = grind arith
 pub pair_rewritten : (n : ℕ) (ts : Trees) → IsPairAt n ts → Rewrites (mult ts) (mult (joined_pair n (suc n) ts))
 pair_rewritten zero (more t (more u ts)) p =
     let all = more t (more u ts) in
-    subst (λ (us : Trees). Rewrites (mult all) (mult us)) (first_joined t u ts (partners_of_pair t u p.pair)) (record { no_new_name = no_new_name (names_joined all); meanings = keeps (joined_keeps all) })
+    subst (λ (us : Trees). Rewrites (mult all) (mult us)) (first_joined t u ts (partners_of_pair t u p.pair)) (record {
+      no_new_name =
+          no_new_name (names_joined all);
+      meanings = keeps (joined_keeps all);
+    })
 pair_rewritten (suc n) (more t ts) p = let w = p.within in factors_rewritten (Rewrites-refl t) (pair_rewritten n ts (record { within = omega arith; pair = p.pair }))
 pair_rewritten n ts p = absurd (let w = p.within in omega arith)

@@ -1,6 +1,6 @@
 -- Where a call inside of another one finds no bytes, the outer one has fewer than it needs.
 use Rattle.std.proofs.Common.{rules, ◌≡◌, ℕ, suc, ◌+◌, ◌^◌, ◌≤◌, ◌<◌, List, length, true, false, Result, refl, sym, ap, ◌∙◌, subst, arith, inl, inr, IfErr, IsOk}
-use Rattle.deep_reduce.proofs.Shared.{is_whole_num, is_half_num, base_of, SpansRoot, SpansTree, SpansTrees, whole_fraction, Tree, num, add, mult, power, root, Trees, none, more, append, is_mult, size, sizes, IsOver, IsCalmAtZero, IsJoinedFrom, IsRewritten, whole_power_room, HandsOn, IsSummed, AreReducedPowers, IsLifted, IsProductOfPowers, State, free_of, LacksBelow, full_as, refusal_as, base_in, exponent_in, parts_of, LacksStep, parts_span, whole_is, exponent_of, joint, nth, children_of, Forest, empty, bytes_in, kids, root_tree, put, Stands, forest, KeepsRefusals, NumberFault, used_forest, sizes-plains, HasCalmExponent, IsCalm, AreCalm, zeros, product_count, sum_count, sum_room, product_room, whole_number, scaled, sizes_append, cases_Bool}
+use Rattle.deep_reduce.proofs.Shared.{is_whole_num, is_half_num, base_of, SpansRoot, SpansTree, SpansTrees, whole_fraction, Tree, num, add, mult, power, root, Trees, none, more, append, is_mult, size, sizes, IsCalmAtZero, IsJoinedFrom, IsRewritten, whole_power_room, HandsOn, IsSummed, AreReducedPowers, IsLifted, IsProductOfPowers, LacksBelow, full_as, refusal_as, base_in, exponent_in, parts_of, LacksStep, parts_span, whole_is, exponent_of, joint, nth, children_of, Forest, NumberFault, HasCalmExponent, IsCalm, AreCalm, zeros, product_count, sum_count, sum_room, product_room, whole_number, scaled, sizes_append, cases_Bool}
 use Rattle.node_bounds.proofs.Clashes.{clash}
 use Rattle.deep_reduce.proofs.Rows.{IsNext}
 use Rattle.node_bounds.proofs.JointRooms.{joined_calm, joined_spans, summed_calm, summed_spans}
@@ -8,7 +8,6 @@ use Rattle.node_bounds.proofs.Calm.{all_nth, calm_exponent, calm_no_half, calm_p
 use Rattle.node_bounds.proofs.JointBytes.{IsJoining, joining, exponents_lack as sum_lacks, power_lacks as joint_power_lacks, split_bytes}
 use Rattle.node_bounds.proofs.PowerBytes.{argument_needs, inner_needs, exponents_lack, part_lacks, product_lacks, split_at, all_first}
 use Rattle.node_bounds.proofs.Rewritten.{parts_calm, parts_single, powers_raised, exponents_calm, exponents_span, raised_calm, by_product, by_power}
-use Rattle.calc_terms.specs.declared.kind.Kind.TheVariants as kind
 use Rattle.product_reduce.proofs.Stepped.{mult_words as product_words}
 
 -- ---- refusals
@@ -29,7 +28,8 @@ pub record IsHandedOn (gs : List ℕ) (ns : List (List ℕ)) (t u : Tree) : Type
   pub spanned : SpansTree gs u
   pub needs : product_room (product_count (children_of u)) (2 ^ length gs) ≤ product_room (product_count (children_of t)) (2 ^ length gs)
 
-pub handed_on : (t u : Tree) → is_mult t ≡ true → u ≡ mult (children_of u) → HandsOn (children_of t) (children_of u) → (gs : List ℕ) (ns : List (List ℕ)) → IsCalmAtZero ns t → SpansTree gs t → IsHandedOn gs ns t u
+pub handed_on : (t u : Tree) → is_mult t ≡ true → u ≡ mult (children_of u) → HandsOn (children_of t) (children_of u) → (gs : List ℕ) (ns : List (List ℕ)) → IsCalmAtZero ns t → SpansTree gs t
+    → IsHandedOn gs ns t u
 handed_on t u m e h gs ns c s =
     let w = product_words t m in
     let k = subst (IsCalmAtZero ns) w c in
@@ -46,14 +46,16 @@ exponent_spans gs t h k = grind arith
 
 -- the exponent alone was handed on
 pub exponent_lacks : (gs : List ℕ) (t x : Tree) (free old : ℕ) (f : NumberFault) → t ≡ power (base_in t) (add (children_of (exponent_in t))) → x ≡ exponent_in t → free ≡ old
-    → LacksBelow (sum_room (sum_count (children_of x)) (2 ^ length gs)) (free + size x) f → LacksBelow (8 + size (base_in t) + sum_room (sum_count (children_of (exponent_in t))) (2 ^ length gs)) (old + size t) f
+    → LacksBelow (sum_room (sum_count (children_of x)) (2 ^ length gs)) (free + size x) f
+    → LacksBelow (8 + size (base_in t) + sum_room (sum_count (children_of (exponent_in t))) (2 ^ length gs)) (old + size t) f
 exponent_lacks gs t x free old f h k a b = grind (arith, lacks_as)
 
 -- ---- joints
 
 module _ (gs : List ℕ) (at : ℕ) (ts us : Trees) (k : IsJoinedFrom at ts us) (s : SpansTrees gs ts) where
   -- the joint x was handed on
-  pub joint_sum_lacks : (x : Tree) (free old : ℕ) → x ≡ nth at us → free ≡ old → free + size x < 8 + size (base_in x) + sum_room (sum_count (children_of (exponent_in x))) (2 ^ length gs) → old + size (mult us) < product_room (product_count ts) (2 ^ length gs)
+  pub joint_sum_lacks : (x : Tree) (free old : ℕ) → x ≡ nth at us → free ≡ old → free + size x < 8 + size (base_in x) + sum_room (sum_count (children_of (exponent_in x))) (2 ^ length gs)
+      → old + size (mult us) < product_room (product_count ts) (2 ^ length gs)
   joint_sum_lacks x free old e same l =
       let j : IsJoining at ts us = joining at ts us k in
       let is : x ≡ joint (nth at ts) (nth (suc at) ts) = e ∙ j.is in
@@ -66,7 +68,8 @@ module _ (gs : List ℕ) (at : ℕ) (ts us : Trees) (k : IsJoinedFrom at ts us) 
       )
 
   -- and then the power v of its base
-  pub joint_power_short : (x v : Tree) (free old : ℕ) → x ≡ nth at us → base_in v ≡ base_in x → free ≡ old + size x → free < whole_power_room (base_in v) (2 ^ length gs) → old + size (mult us) < product_room (product_count ts) (2 ^ length gs)
+  pub joint_power_short : (x v : Tree) (free old : ℕ) → x ≡ nth at us → base_in v ≡ base_in x → free ≡ old + size x → free < whole_power_room (base_in v) (2 ^ length gs)
+      → old + size (mult us) < product_room (product_count ts) (2 ^ length gs)
   joint_power_short x v free old e b same l =
       let base : base_in v ≡ base_of (nth at ts) = b ∙ ap base_in (e ∙ (joining at ts us k).is) in
       omega (arith, joint_power_lacks gs at ts us k s free (subst (λ (y : Tree). free < whole_power_room y (2 ^ length gs)) base l), split_bytes gs at ts us k s, ap size e, same)
@@ -88,8 +91,8 @@ joint_ready gs ns at ts us v k c s m =
     let calm = all_nth (HasCalmExponent (zeros ns)) at us j.within (subst (AreCalm (zeros ns)) (sym k.is) (joined_calm at ts k.pair c).calm.1) in
     subst (IsReadyJoint gs ns) (sym n.is) (record {
       is = refl;
-      calm = summed_calm _ _ _ n.exponent (record { once = c.once; calm = subst (IsCalm (zeros ns)) j.is calm }) n.sum n.room;
-      spanned = summed_spans gs _ _ _ n.exponent (subst (SpansTree gs) j.is (joint_at_spans gs at ts us k s.1)) n.room;
+      calm = summed_calm _ _ _ n.exponent (record { once = c.once; calm = subst (IsCalm (zeros ns)) j.is calm }) n.sum n.bounds.room;
+      spanned = summed_spans gs _ _ _ n.exponent (subst (SpansTree gs) j.is (joint_at_spans gs at ts us k s.1)) n.bounds.room;
     })
 
 -- ---- bytes of children
@@ -108,7 +111,8 @@ pub power_refused : {ns : List (List ℕ)} (n m : ℕ) (t : Tree) (f : NumberFau
     → (is_whole_num (exponent_in t) ≡ false → is_half_num (exponent_in t) ≡ false → false ≡ true) → LacksBelow n m f
 power_refused {ns} n m t f p c room others = elim (cases_Bool (is_whole_num (exponent_in t))) [ inl w ↦ room w | inr w ↦ let no : false ≡ true = others w (calm_no_half (subst (IsCalmAtZero ns) p c)) in cc ]
 
-pub power_result : {ns : List (List ℕ)} {A : Type 0} (n m : ℕ) (t : Tree) (r : Result A NumberFault) → t ≡ power (base_in t) (exponent_in t) → IsCalmAtZero ns t → (is_whole_num (exponent_in t) ≡ true → IfErr r (LacksBelow n m))
+pub power_result : {ns : List (List ℕ)} {A : Type 0} (n m : ℕ) (t : Tree) (r : Result A NumberFault) → t ≡ power (base_in t) (exponent_in t) → IsCalmAtZero ns t
+    → (is_whole_num (exponent_in t) ≡ true → IfErr r (LacksBelow n m))
     → (is_whole_num (exponent_in t) ≡ false → is_half_num (exponent_in t) ≡ false → IsOk r) → IfErr r (LacksBelow n m)
 power_result n m t r h k a b = grind (arith, power_refused)
 
@@ -121,7 +125,8 @@ pub record IsReadyFor (gs : List ℕ) (ns : List (List ℕ)) (need own : ℕ) (v
   pub lacks : (bytes : ℕ) → bytes < need → bytes < own
 
 -- a product of powers
-pub ready_product : (gs : List ℕ) (ns : List (List ℕ)) (b e t v : Tree) → is_mult t ≡ true → IsRewritten b e t → IsCalmAtZero ns (power b e) → SpansTree gs (power b e) → IsProductOfPowers (children_of t) v
+pub ready_product : (gs : List ℕ) (ns : List (List ℕ)) (b e t v : Tree) → is_mult t ≡ true → IsRewritten b e t → IsCalmAtZero ns (power b e) → SpansTree gs (power b e)
+    → IsProductOfPowers (children_of t) v
     → IsReadyFor gs ns (product_room (product_count (children_of v)) (2 ^ length gs)) (whole_power_room b (2 ^ length gs)) v
 ready_product gs ns b e t v m w c s p =
     by_product (λ (x y : Tree). IsCalmAtZero ns (power x e) → SpansTree gs (power x e) → AreReducedPowers (children_of y) p.factors
@@ -138,7 +143,8 @@ ready_product gs ns b e t v m w c s p =
 pub ready_power : (gs : List ℕ) (ns : List (List ℕ)) (b e t v : Tree) → is_mult t ≡ false → IsRewritten b e t → IsCalmAtZero ns (power b e) → SpansTree gs (power b e) → IsLifted t v
     → IsReadyFor gs ns (whole_power_room (base_in v) (2 ^ length gs)) (whole_power_room b (2 ^ length gs)) v
 ready_power gs ns b e t v m w c s l =
-    by_power (λ (x y : Tree). IsCalmAtZero ns (power x e) → SpansTree gs (power x e) → IsLifted y v → IsReadyFor gs ns (whole_power_room (base_in v) (2 ^ length gs)) (whole_power_room x (2 ^ length gs)) v) b e t m w
+    by_power (λ (x y : Tree). IsCalmAtZero ns (power x e) → SpansTree gs (power x e) → IsLifted y v → IsReadyFor gs ns (whole_power_room (base_in v) (2 ^ length gs))
+    (whole_power_room x (2 ^ length gs)) v) b e t m w
     (λ a z r n c s k. as_tree (power a (num (whole_fraction z))) (root a) k (record {
       calm = calm_power (record { once = c.once; calm = c.calm.1.1 }) (record { once = c.once; calm = tt }) (whole_number (zeros ns) (num (whole_fraction z)) (whole_is z));
       spanned = (tt, s.1.1, tt);
@@ -150,11 +156,13 @@ ready_power gs ns b e t v m w c s l =
       lacks = λ bytes l. omega (arith, l, inner_needs d f (2 ^ length gs) r);
     })) c s l
   where
-    as_tree : (x own : Tree) → v ≡ x → IsReadyFor gs ns (whole_power_room (base_in x) (2 ^ length gs)) (whole_power_room own (2 ^ length gs)) x → IsReadyFor gs ns (whole_power_room (base_in v) (2 ^ length gs)) (whole_power_room own (2 ^ length gs)) v
+    as_tree : (x own : Tree) → v ≡ x → IsReadyFor gs ns (whole_power_room (base_in x) (2 ^ length gs)) (whole_power_room own (2 ^ length gs)) x
+        → IsReadyFor gs ns (whole_power_room (base_in v) (2 ^ length gs)) (whole_power_room own (2 ^ length gs)) v
     as_tree x own i h = subst (λ (y : Tree). IsReadyFor gs ns (whole_power_room (base_in y) (2 ^ length gs)) (whole_power_room own (2 ^ length gs)) y) (sym i) h
 
 -- the exponent x of a power, a product of exponents
-pub ready_exponent : (gs : List ℕ) (ns : List (List ℕ)) (b e t x : Tree) → is_mult t ≡ false → is_mult x ≡ true → x ≡ exponent_in t → IsRewritten b e t → IsCalmAtZero ns (power b e) → SpansTree gs (power b e)
+pub ready_exponent : (gs : List ℕ) (ns : List (List ℕ)) (b e t x : Tree) → is_mult t ≡ false → is_mult x ≡ true → x ≡ exponent_in t → IsRewritten b e t → IsCalmAtZero ns (power b e)
+    → SpansTree gs (power b e)
     → IsCalmAtZero ns x × SpansTree gs x × ((bytes : ℕ) → bytes < product_room (product_count (children_of x)) (2 ^ length gs) → bytes + 8 + size (base_in t) < whole_power_room b (2 ^ length gs))
 ready_exponent gs ns b e t x m k h w c s =
     by_power (λ (d u : Tree). x ≡ exponent_in u → IsCalmAtZero ns (power d e) → SpansTree gs (power d e) → Ready x u d) b e t m w (λ a z r n h c s. clash (sym k ∙ ap is_mult h))
@@ -162,7 +170,8 @@ ready_exponent gs ns b e t x m k h w c s =
     (exponents_calm d f e w.whole c, exponents_span gs d f e s, λ bytes l. exponents_lack gs d f e bytes r w.whole s.1.1 l)) h c s
   where
     Ready : Tree → Tree → Tree → Type 0
-    Ready y u d = IsCalmAtZero ns y × SpansTree gs y × ((bytes : ℕ) → bytes < product_room (product_count (children_of y)) (2 ^ length gs) → bytes + 8 + size (base_in u) < whole_power_room d (2 ^ length gs))
+    Ready y u d =
+        IsCalmAtZero ns y × SpansTree gs y × ((bytes : ℕ) → bytes < product_room (product_count (children_of y)) (2 ^ length gs) → bytes + 8 + size (base_in u) < whole_power_room d (2 ^ length gs))
 
 -- the next power x of a product, the first of which are reduced
 pub record IsReadyPart (gs : List ℕ) (ns : List (List ℕ)) (b x : Tree) (others : Trees) : Type 0 where

@@ -28,4 +28,5 @@ pub mod Sides
 pub mod Told
 pub mod TreeBits
 pub mod Shared
+pub mod Connected
 pub mod NumberBeside

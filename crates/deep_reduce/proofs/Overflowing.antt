@@ -90,10 +90,12 @@ module _ (done answers : Trees) (t : Tree) (rest : Trees) (o : Overflow) (reduce
   pub first_overflow : (n : Tree) → children_of n ≡ append done (more t rest) → is_overflow (plain_value n) ≡ true → IsFirstOverflow done t (nodes_to_overflow n)
   first_overflow (add ts) e x = by_first (folded add_op) ts (λ v. refl) e (overflow_plain (add ts) x) (overflow_of (add ts) x)
   first_overflow (mult ts) e x = by_first (folded mul_op) ts (λ v. refl) e (overflow_plain (mult ts) x) (overflow_of (mult ts) x)
-  first_overflow (power a b) e x = by_first (on_two (λ p q. powered p q.num q.den)) (more a (more b none)) (λ v. refl) e (pair_plain (is_plain a) (is_plain b) (overflow_plain (power a b) x)) (overflow_of (power a b) x)
+  first_overflow (power a b) e x =
+      by_first (on_two (λ p q. powered p q.num q.den)) (more a (more b none)) (λ v. refl) e (pair_plain (is_plain a) (is_plain b) (overflow_plain (power a b) x)) (overflow_of (power a b) x)
   first_overflow (root a) e x = cc
   first_overflow (neg a) e x = by_first (on_one (λ q. exactly (negative q))) (more a none) (λ v. refl) e (ap (λ (b : Bool). b && true) (overflow_plain (neg a) x)) (overflow_of (neg a) x)
-  first_overflow (sub a b) e x = by_first (on_two (λ p q. calculated add_op p (negative q))) (more a (more b none)) (λ v. refl) e (pair_plain (is_plain a) (is_plain b) (overflow_plain (sub a b) x)) (overflow_of (sub a b) x)
+  first_overflow (sub a b) e x =
+      by_first (on_two (λ p q. calculated add_op p (negative q))) (more a (more b none)) (λ v. refl) e (pair_plain (is_plain a) (is_plain b) (overflow_plain (sub a b) x)) (overflow_of (sub a b) x)
   first_overflow (div a b) e x = by_first (on_two divided) (more a (more b none)) (λ v. refl) e (pair_plain (is_plain a) (is_plain b) (overflow_plain (div a b) x)) (overflow_of (div a b) x)
   first_overflow n e x = absurd (no_child done t rest e)
 

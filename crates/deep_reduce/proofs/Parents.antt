@@ -19,13 +19,15 @@ two_of : (ts : Trees) → count ts ≡ 2 → ts ≡ more (nth 0 ts) (more (nth 1
 two_of (more t (more u none)) e = refl
 two_of t e = absurd (omega arith)
 
-pub first_out : {i h : ℕ} {old mid : Forest} → IsHanded i old → count (children_of (plain (root_tree i old))) ≡ 2 → Ends h (tree_nth 0 (kids (root_tree i old))) (put i (without_nth 0 (kids (root_tree i old))) old) mid
+pub first_out : {i h : ℕ} {old mid : Forest} → IsHanded i old → count (children_of (plain (root_tree i old))) ≡ 2
+    → Ends h (tree_nth 0 (kids (root_tree i old))) (put i (without_nth 0 (kids (root_tree i old))) old) mid
     → IsTakenOut (held_at i old) i (nth 0 (children_of (plain (root_tree i old)))) (more (nth 1 (children_of (plain (root_tree i old)))) none) old mid h
 first_out {i = i} {old = old} h e d =
     let ts = children_of (plain (root_tree i old)) in
     taken_out 0 none (nth 0 ts) (more (nth 1 ts) none) (subst (λ (us : Trees). IsParent (held_at i old) i us old) (two_of ts e) (parent_handed h)) refl d
 
-pub both_out : {i h k : ℕ} {t u : Tree} {x : Payload} {old mid new : Forest} (a : IsTakenOut x i t (more u none) old mid h) → Ends k (tree_nth 0 (kids (root_tree i mid))) (put i (without_nth 0 (kids (root_tree i mid))) mid) new
+pub both_out : {i h k : ℕ} {t u : Tree} {x : Payload} {old mid new : Forest} (a : IsTakenOut x i t (more u none) old mid h)
+    → Ends k (tree_nth 0 (kids (root_tree i mid))) (put i (without_nth 0 (kids (root_tree i mid))) mid) new
     → (ts : Trees) → t ≡ nth 0 ts → u ≡ nth 1 ts → AreTakenOut i ts old new h k
 both_out {i = i} {u = u} {old = old} {mid = mid} a d ts p q =
     let b = taken_out 0 none u none (parent_end a.parent a.gives.ends) refl d in
@@ -44,7 +46,8 @@ pub record IsTakenAlone (i : ℕ) (t : Tree) (old new : Forest) (h : ℕ) : Type
   pub owned : IsOwned i new
   pub given : {end : Forest} → end ≡ without_root i new → Gives (without_root i old) end h (λ u. u ≡ t)
 
-pub alone_out : {i h : ℕ} {old new : Forest} (t : Tree) → IsHanded i old → children_of (plain (root_tree i old)) ≡ more t none → Ends h (tree_nth 0 (kids (root_tree i old))) (put i (without_nth 0 (kids (root_tree i old))) old) new
+pub alone_out : {i h : ℕ} {old new : Forest} (t : Tree) → IsHanded i old → children_of (plain (root_tree i old)) ≡ more t none
+    → Ends h (tree_nth 0 (kids (root_tree i old))) (put i (without_nth 0 (kids (root_tree i old))) old) new
     → IsTakenAlone i t old new h
 alone_out {i = i} {h = h} {old = old} {new = new} t hand e d =
     let a = taken_out 0 none t none (subst (λ (us : Trees). IsParent (held_at i old) i us old) e (parent_handed hand)) refl d in

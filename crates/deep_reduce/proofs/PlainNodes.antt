@@ -83,10 +83,12 @@ module _ (P : PlainValue → Type 0) (n : P nothing) where
       (λ qs s. subst P (product_value qs) (subst (λ (x : Trees). P (plain_value (mult x))) s (k (ap are_rationals s ∙ nums_rational qs)))) (children_told ts us e h))
 
   -- two children
-  by_pair : (f : Fraction → Fraction → PlainValue) (c d : Tree) (qs : List Fraction) → more c (more d none) ≡ nums qs → ((p q : Fraction) → c ≡ num p → d ≡ num q → P (f p q)) → P (on_two f (values qs))
+  by_pair : (f : Fraction → Fraction → PlainValue) (c d : Tree) (qs : List Fraction) → more c (more d none) ≡ nums qs → ((p q : Fraction) → c ≡ num p → d ≡ num q → P (f p q))
+      → P (on_two f (values qs))
   by_pair f c d qs s k = grind arith
 
-  pair_kept : (f : Fraction → Fraction → PlainValue) (a b c d : Tree) → is_plain a && is_plain b ≡ true → IsReducedFrom a c → IsReducedFrom b d → (has_undef (more c (more d none)) ≡ true → P undefined)
+  pair_kept : (f : Fraction → Fraction → PlainValue) (a b c d : Tree) → is_plain a && is_plain b ≡ true → IsReducedFrom a c → IsReducedFrom b d
+      → (has_undef (more c (more d none)) ≡ true → P undefined)
       → ((p q : Fraction) → c ≡ num p → d ≡ num q → P (f p q)) → P (on_two f (gather (plain_of a) (gather (plain_of b) (values []))))
   pair_kept f a b c d e h k u v = by_told P (on_two f) (gather (plain_of a) (gather (plain_of b) (values []))) (more c (more d none)) (λ x. refl) n u (λ qs s. by_pair f c d qs s v)
       (one_told a c (gather (plain_of b) (values [])) (more d none) (and_parts (is_plain a) (is_plain b) e).0 h (one_told b d (values []) none (and_parts (is_plain a) (is_plain b) e).1 k none_told))
@@ -152,7 +154,8 @@ later_decides v u g o h k = grind arith
 
 pub child_decides : (done answers : Trees) (t : Tree) (rest : Trees) (o : Overflow) → AreReducedFrom done answers → are_plain (append done (more t rest)) ≡ true → IsPlainOverflow (plain_value t) o
     → Decides (plain_of_children (append done (more t rest))) o
-child_decides none none t rest o h e k = this_decides (plain_of t) (plain_of_children rest) o (subst (λ (v : PlainValue). IsPlainOverflow v o) (is_plain_value t (and_parts (is_plain t) (are_plain rest) e).0) k)
+child_decides none none t rest o h e k =
+    this_decides (plain_of t) (plain_of_children rest) o (subst (λ (v : PlainValue). IsPlainOverflow v o) (is_plain_value t (and_parts (is_plain t) (are_plain rest) e).0) k)
 child_decides (more x xs) (more u us) t rest o h e k =
     let all = append xs (more t rest) in
     later_decides (plain_of x) u (plain_of_children all) o (subst (λ (v : PlainValue). IsPlainAnswer v u) (is_plain_value x (and_parts (is_plain x) (are_plain all) e).0) h.0.plain)
@@ -177,9 +180,11 @@ module _ (done answers : Trees) (t : Tree) (rest : Trees) (o : Overflow) (reduce
   pub child_overflow : (n : Tree) → children_of n ≡ append done (more t rest) → IsPlainOverflow (plain_value n) o
   child_overflow (add ts) e = as_plain (λ v. IsPlainOverflow v o) (add ts) tt (λ p. by_child (folded add_op) ts (λ v. refl) e p)
   child_overflow (mult ts) e = as_plain (λ v. IsPlainOverflow v o) (mult ts) tt (λ p. by_child (folded mul_op) ts (λ v. refl) e p)
-  child_overflow (power a b) e = as_plain (λ v. IsPlainOverflow v o) (power a b) tt (λ p. by_child (on_two (λ p q. powered p q.num q.den)) (more a (more b none)) (λ v. refl) e (pair_plain (is_plain a) (is_plain b) p))
+  child_overflow (power a b) e =
+      as_plain (λ v. IsPlainOverflow v o) (power a b) tt (λ p. by_child (on_two (λ p q. powered p q.num q.den)) (more a (more b none)) (λ v. refl) e (pair_plain (is_plain a) (is_plain b) p))
   child_overflow (root a) e = tt
   child_overflow (neg a) e = as_plain (λ v. IsPlainOverflow v o) (neg a) tt (λ p. by_child (on_one (λ q. exactly (negative q))) (more a none) (λ v. refl) e (ap (λ (x : Bool). x && true) p))
-  child_overflow (sub a b) e = as_plain (λ v. IsPlainOverflow v o) (sub a b) tt (λ p. by_child (on_two (λ p q. calculated add_op p (negative q))) (more a (more b none)) (λ v. refl) e (pair_plain (is_plain a) (is_plain b) p))
+  child_overflow (sub a b) e =
+      as_plain (λ v. IsPlainOverflow v o) (sub a b) tt (λ p. by_child (on_two (λ p q. calculated add_op p (negative q))) (more a (more b none)) (λ v. refl) e (pair_plain (is_plain a) (is_plain b) p))
   child_overflow (div a b) e = as_plain (λ v. IsPlainOverflow v o) (div a b) tt (λ p. by_child (on_two divided) (more a (more b none)) (λ v. refl) e (pair_plain (is_plain a) (is_plain b) p))
   child_overflow n e = absurd (no_child done t rest e)

@@ -20,7 +20,9 @@ div_rewrites a b c h = record {
     name = λ x m. both (names a) (names b) (names a) (names c ++ []) (λ y k. k)
         (λ y k. subst (λ ys. Contains ys y) (append-nil (names b)) (h.no_new_name.name y (subst (λ ys. Contains ys y) (append-nil (names c)) k))) x m;
   };
-  meanings = keeps (rewrites.KeepsMeanings-trans (div_as_product a b) (rewrites.KeepsMeanings-product_more (rewrites.KeepsMeanings-refl a) (rewrites.KeepsMeanings-product_more (kept h.meanings) (rewrites.KeepsMeanings-refl (mult none)))));
+  meanings =
+      keeps (rewrites.KeepsMeanings-trans (div_as_product a b)
+      (rewrites.KeepsMeanings-product_more (rewrites.KeepsMeanings-refl a) (rewrites.KeepsMeanings-product_more (kept h.meanings) (rewrites.KeepsMeanings-refl (mult none)))));
 }
 
 -- a division of rationals
@@ -71,7 +73,8 @@ module _ (a b c : Tree) (fit : (q : Fraction) → b ≡ num q → fraction_fits 
     root_room = λ k. cc;
     held = λ d m l k.
         let e = answer_defined (two a c) r h.undefined d in
-        h.held d m l (two_factors a c k.dividend (known.held (second_side a c e) (k.k + 2 * k.n) (2 * k.k + 2 * k.n) (holds_whole (negsuc 0) k.k k.n refl k.divisor (omega arith) (omega arith))) k.high k.low);
+        h.held d m l (two_factors a c k.dividend
+        (known.held (second_side a c e) (k.k + 2 * k.n) (2 * k.k + 2 * k.n) (holds_whole (negsuc 0) k.k k.n refl k.divisor (omega arith) (omega arith))) k.high k.low);
     leaf = λ k. cc;
   }
     where
@@ -93,5 +96,6 @@ module _ (a b c : Tree) (fit : (q : Fraction) → b ≡ num q → fraction_fits 
       record { defined = d; rational = λ e. subst (λ (v : PlainValue). IsPlainOverflow v o) (quotient_value u (are_two a b e)) (h.rational (factors_rational u e)) }
 
 -- the inverse of a rational fits
-pub inverse_overflow : (a b : Tree) (o : Overflow) → ((q : Fraction) → b ≡ num q → fraction_fits q ≡ true) → IsNodeOverflow (inverse_tree b) o → has_undef (two a b) ≡ false → IsNodeOverflow (div a b) o
+pub inverse_overflow : (a b : Tree) (o : Overflow) → ((q : Fraction) → b ≡ num q → fraction_fits q ≡ true) → IsNodeOverflow (inverse_tree b) o → has_undef (two a b) ≡ false
+    → IsNodeOverflow (div a b) o
 inverse_overflow a b o h k c = grind (arith, are_two, zero_inverse, inverse_value)

@@ -1,6 +1,6 @@
 -- A node over the answers of its children, from the tree as it was.
 use Rattle.std.proofs.Common.{◌≡◌, ℕ, true, Ok, Err, Result, refl, sym, arith, IfErr, List, length, ◌^◌, ◌+◌, false, ◌<◌, Bool, if◌then◌else◌, ap, inl, inr, nat_le}
-use Rattle.deep_reduce.proofs.Shared.{eqb-true, is_reduced, are_reduced, is_half_num, Tree, num, symbol, undef, Trees, none, more, count, nodes, nodes_of, root_size, sizes, has_undef, HasFewBits, HoldsNode, HasNodesFor, SpansNode, IsNodeAnswer, IsNodeOverflow, IsReducedFrom, MayLack, MayOverflow, IsCalmAtZero, SpansRootOf, LacksBelow, OfFull, base_in, exponent_in, Overflow, IsNext, is_leaf, nth, children_of, IfOverflow, NumberFault, simple_room, all_written_bytes, and_from, leb-true, leb-false, all_simple, high, low, bits, most_bits, unbounded_bits, append, cases_Bool}
+use Rattle.deep_reduce.proofs.Shared.{eqb-true, is_reduced, are_reduced, is_half_num, Tree, num, symbol, undef, Trees, none, more, count, nodes, nodes_of, root_size, sizes, has_undef, AreFewBits, HoldsNode, HasNodesFor, SpansNode, IsNodeAnswer, IsNodeOverflow, IsReducedFrom, MayLack, MayOverflow, IsCalmAtZero, SpansRootOf, LacksBelow, OfFull, base_in, exponent_in, Overflow, IsNext, is_leaf, nth, children_of, IfOverflow, NumberFault, simple_room, all_written_bytes, and_from, leb-true, leb-false, all_simple, high, low, bits, most_bits, unbounded_bits, append, cases_Bool, bits_limit}
 use Rattle.deep_reduce.proofs.ChildRooms.{all_small, child_room, node_lacks}
 use Rattle.deep_reduce.proofs.NodeAnswers.{node_answered}
 use Rattle.deep_reduce.proofs.NodeRewrites.{AreReducedFrom, IsOver, over_number, over_symbol, over_undef, over_sum, over_product, over_power, over_root, over_neg, over_sub, over_div}
@@ -59,26 +59,27 @@ simple_bits t s = ap (λ (b : Bool). if b then most_bits t else unbounded_bits) 
 other_bits : (t : Tree) → all_simple t ≡ false → bits t ≡ unbounded_bits
 other_bits t s = ap (λ (b : Bool). if b then most_bits t else unbounded_bits) s
 
-pub child_beyond : (t : Tree) (before : Trees) (c : Tree) (rest : Trees) → children_of t ≡ append before (more c rest) → 124 < bits c → 124 < bits t
+pub child_beyond : (t : Tree) (before : Trees) (c : Tree) (rest : Trees) → children_of t ≡ append before (more c rest) → bits_limit < bits c → bits_limit < bits t
 child_beyond t before c rest e l = elim (cases_Bool (all_simple t)) [
   | inl s ↦ omega (arith, l, simple_bits t s, simple_bits c (child_room t before c rest e s).simple, child_bits t before c rest e)
   | inr s ↦ omega (arith, other_bits t s)
 ]
 
 -- a node that few bits hold fits
-pub node_beyond : (t u : Tree) → IsOver t u → ((h l : ℕ) → (has_undef (children_of u) ≡ false → HoldsNode u h l) → HasFewBits h l → ⊥) → 124 < bits t
-node_beyond t u h fits = elim (cases_Bool (all_simple t)) [ inl s ↦ simple s (nat_le (bits t) 124) refl | inr s ↦ omega (arith, other_bits t s) ]
+pub node_beyond : (t u : Tree) → IsOver t u → ((h l : ℕ) → (has_undef (children_of u) ≡ false → HoldsNode u h l) → AreFewBits h l → ⊥) → bits_limit < bits t
+node_beyond t u h fits = elim (cases_Bool (all_simple t)) [ inl s ↦ simple s (nat_le (bits t) bits_limit) refl | inr s ↦ omega (arith, other_bits t s) ]
   where
-    simple : all_simple t ≡ true → (b : Bool) → nat_le (bits t) 124 ≡ b → 124 < bits t
-    simple s false e = leb-false (bits t) 124 e
-    simple s true e = absurd (fits (high t) (low t) (holds_over t u s h) (omega (arith, leb-true (bits t) 124 e, simple_bits t s, own_bits t)))
+    simple : all_simple t ≡ true → (b : Bool) → nat_le (bits t) bits_limit ≡ b → bits_limit < bits t
+    simple s false e = leb-false (bits t) bits_limit e
+    simple s true e = absurd (fits (high t) (low t) (holds_over t u s h) (omega (arith, leb-true (bits t) bits_limit e, simple_bits t s, own_bits t)))
 
 -- ---- a child that is not reduced
 
 pub child_lacks : (t c : Tree) (before done behind : Trees) (bytes : ℕ) → IsNext IsReducedFrom t before done c behind → MayLack c bytes → MayLack t (bytes + (root_size t + sizes done + sizes behind))
 child_lacks t c before done behind bytes h k = grind (arith, child_room, root_over, all_small, all_written_bytes)
 
-pub child_overflows : (t c : Tree) (before done behind : Trees) (place : ℕ) (o : Overflow) → IsNext IsReducedFrom t before done c behind → MayOverflow c place o → MayOverflow t (nodes_of before + place) o
+pub child_overflows : (t c : Tree) (before done behind : Trees) (place : ℕ) (o : Overflow) → IsNext IsReducedFrom t before done c behind → MayOverflow c place o
+    → MayOverflow t (nodes_of before + place) o
 child_overflows t c before done behind place o n h = record {
   plain = child_overflow before done c behind o n.answered h.plain t n.split;
   at_its_node = λ v. let f = first_overflow before done c behind o n.answered h.plain t n.split v in omega (arith, f.many-is, h.at_its_node f.overflows);
@@ -89,19 +90,23 @@ child_overflows t c before done behind place o n h = record {
 
 module _ (t u : Tree) (r : Result ℕ NumberFault) (h : IsOver t u) where
   pub step_lacks : (bytes : ℕ) → ((gs : List ℕ) (ns : List (List ℕ)) (n : ℕ) → HasNodesFor n u → IsCalmAtZero ns u → SpansNode gs u → IfErr r (LacksBelow (simple_room n (2 ^ length gs)) bytes))
-      → ((gs : List ℕ) (n : ℕ) → HasNodesFor n u → is_half_num (exponent_in u) ≡ true → SpansRootOf gs (base_in u) → IfErr r (LacksBelow (simple_room n (2 ^ length gs)) bytes)) → IfErr r (OfFull (λ full. MayLack t bytes))
+      → ((gs : List ℕ) (n : ℕ) → HasNodesFor n u → is_half_num (exponent_in u) ≡ true → SpansRootOf gs (base_in u) → IfErr r (LacksBelow (simple_room n (2 ^ length gs)) bytes))
+      → IfErr r (OfFull (λ full. MayLack t bytes))
   step_lacks bytes room half = by r room half
     where
       by : (x : Result ℕ NumberFault) → ((gs : List ℕ) (ns : List (List ℕ)) (n : ℕ) → HasNodesFor n u → IsCalmAtZero ns u → SpansNode gs u → IfErr x (LacksBelow (simple_room n (2 ^ length gs)) bytes))
-          → ((gs : List ℕ) (n : ℕ) → HasNodesFor n u → is_half_num (exponent_in u) ≡ true → SpansRootOf gs (base_in u) → IfErr x (LacksBelow (simple_room n (2 ^ length gs)) bytes)) → IfErr x (OfFull (λ full. MayLack t bytes))
+          → ((gs : List ℕ) (n : ℕ) → HasNodesFor n u → is_half_num (exponent_in u) ≡ true → SpansRootOf gs (base_in u) → IfErr x (LacksBelow (simple_room n (2 ^ length gs)) bytes))
+          → IfErr x (OfFull (λ full. MayLack t bytes))
       by (Ok a) k l = tt
       by (Err (number.Full full)) k l = λ s. node_lacks t u bytes (number.Full full) h s (record { room = k; root_room = l })
       by (Err (number.Overflow o)) k l = tt
 
-  pub step_overflows : IfOverflow r (IsNodeOverflow u) → ((h l : ℕ) → (has_undef (children_of u) ≡ false → HoldsNode u h l) → HasFewBits h l → IfOverflow r (λ o. ⊥)) → IfOverflow r (MayOverflow t (nodes t))
+  pub step_overflows : IfOverflow r (IsNodeOverflow u) → ((h l : ℕ) → (has_undef (children_of u) ≡ false → HoldsNode u h l) → AreFewBits h l → IfOverflow r (λ o. ⊥))
+      → IfOverflow r (MayOverflow t (nodes t))
   step_overflows x fits = by r x fits
     where
-      by : (y : Result ℕ NumberFault) → IfOverflow y (IsNodeOverflow u) → ((h l : ℕ) → (has_undef (children_of u) ≡ false → HoldsNode u h l) → HasFewBits h l → IfOverflow y (λ o. ⊥)) → IfOverflow y (MayOverflow t (nodes t))
+      by : (y : Result ℕ NumberFault) → IfOverflow y (IsNodeOverflow u) → ((h l : ℕ) → (has_undef (children_of u) ≡ false → HoldsNode u h l) → AreFewBits h l → IfOverflow y (λ o. ⊥))
+          → IfOverflow y (MayOverflow t (nodes t))
       by (Ok a) k l = tt
       by (Err (number.Full full)) k l = tt
       by (Err (number.Overflow o)) k l = record { plain = overflowed_plain t u o h k; at_its_node = λ v. sym (last_overflow t u h v); beyond_bits = node_beyond t u h l }

@@ -1,6 +1,6 @@
 -- The loop over the powers of a product, each of which is reduced in its place.
 use Rattle.std.proofs.Common.{◌≡◌, ℕ, suc, ◌+◌, ◌≤◌, ◌<◌, refl, sym, ap, ◌∙◌, subst, arith}
-use Rattle.deep_reduce.proofs.Shared.{nest, nest_of, weight, Tree, Trees, none, more, append, count, taken, IsReducedPower, weight_of_bases, IsTransparent, AreTransparent, AreReducedPowers, base_in, exponent_in, Forest, Gives, root_tree, put, append-none, count_append, mult, nth, plain, children_of, set_child, set_tree, ChangesTree, changes_after, changes_as, changes_none, IsHanded, given_told, State, tree_of, forest}
+use Rattle.deep_reduce.proofs.Shared.{nest, nest_of, weight, Tree, Trees, none, more, append, count, IsReducedPower, weight_of_bases, IsTransparent, AreTransparent, AreReducedPowers, base_in, exponent_in, Forest, Gives, root_tree, append-none, count_append, mult, nth, plain, children_of, set_child, set_tree, ChangesTree, changes_after, changes_as, changes_none, IsHanded, given_told}
 use Rattle.reduce_walk.proofs.Walks.{append_assoc, none_left}
 
 -- ---- lists
@@ -80,11 +80,13 @@ pub next_of : {i at : ℕ} {ts : Trees} {old new : Forest} (n : IsNext i at ts o
 next_of {ts = ts} n h = subst (λ (x : Trees). IsPowerOf x n.t) (sym n.split) (power_among n.done n.t n.rest (subst AreTransparent n.split h))
 
 -- it is taken out
-pub next_told : {i at h : ℕ} {ts : Trees} {old mid others new : Forest} (n : IsNext i at ts old mid) → Gives others new h (λ u. u ≡ nth at (children_of (plain (root_tree i mid)))) → plain (root_tree h new) ≡ n.t
+pub next_told : {i at h : ℕ} {ts : Trees} {old mid others new : Forest} (n : IsNext i at ts old mid) → Gives others new h (λ u. u ≡ nth at (children_of (plain (root_tree i mid))))
+    → plain (root_tree h new) ≡ n.t
 next_told {at = at} n g = given_told g ∙ ap (λ (x : Tree). nth at (children_of x)) n.now.tree ∙ nth_behind n.reduced n.t n.rest n.count-is
 
 -- and put back reduced
-pub next_reduced : {i at : ℕ} {ts : Trees} {old mid new : Forest} (n : IsNext i at ts old mid) (u : Tree) → IsReducedPower (base_in n.t) (exponent_in n.t) u → ChangesTree i (set_child at u (plain (root_tree i mid))) mid new → IsPartReduced i (at + 1) ts old new
+pub next_reduced : {i at : ℕ} {ts : Trees} {old mid new : Forest} (n : IsNext i at ts old mid) (u : Tree) → IsReducedPower (base_in n.t) (exponent_in n.t) u
+    → ChangesTree i (set_child at u (plain (root_tree i mid))) mid new → IsPartReduced i (at + 1) ts old new
 next_reduced {at = at} n u power a = record {
   done = append n.done (more n.t none);
   reduced = append n.reduced (more u none);

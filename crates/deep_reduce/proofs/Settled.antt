@@ -1,11 +1,11 @@
 -- A product whose joint is reduced in its place.
 use Rattle.std.proofs.Common.{◌≡◌, ℕ, zero, suc, ◌+◌, ◌≤◌, ◌<◌, inl, inr, true, false, refl, sym, ap, ◌∙◌, subst, arith, add-one, Option, MatchOption, IfSome}
-use Rattle.deep_reduce.proofs.Shared.{and_parts, Contains-append_left, Contains-append_right, Contains-append_cases, nest, nest_of, weight, load_of_factor, load_of_factors, is_reduced, is_opaque_exponent, base_of, are_reduced, Tree, add, mult, power, Trees, none, more, count, is_mult, names, KeepsMeanings-refl, KeepsMeanings-power, IsReducedProduct, IsReducedPower, counted, KeepsRoom, KeepsSumRoom, nest_of_joint, set_tree, Joins, joins_gathered, joins_pair, joins_then, HandsOn, IsLess, IsSummed, IsSettled, AddsCounts, IsHeldAsProduct, removed, base_in, exponent_in, AreJoinable, IsFinished, IsGathered, exponent_of, have_partners, IsJointAt, IsNextPair, IsPairAt, NoPairBetween, joined_pair, joint_there, neighbours_joint, Rewrites, keeps, kept, Rewrites-refl, Rewrites-trans, rewrites_of, reduces_after, IsSumAnswer, nth, children_of, load_product, base_is_reduced, exponent_is_reduced}
+use Rattle.deep_reduce.proofs.Shared.{and_parts, Contains-append_left, Contains-append_right, Contains-append_cases, nest, nest_of, weight, load_of_factor, load_of_factors, is_reduced, is_opaque_exponent, base_of, are_reduced, Tree, add, mult, power, Trees, none, more, count, is_mult, names, KeepsMeanings-refl, KeepsMeanings-power, IsReducedProduct, IsReducedPower, nest_of_joint, set_tree, Joins, joins_gathered, joins_pair, joins_then, HandsOn, IsLess, IsSummed, IsSettled, removed, base_in, exponent_in, AreJoinable, IsFinished, IsGathered, exponent_of, have_partners, IsJointAt, IsNextPair, IsPairAt, NoPairBetween, joined_pair, joint_there, neighbours_joint, Rewrites, keeps, kept, Rewrites-refl, Rewrites-trans, rewrites_of, reduces_after, IsSumAnswer, nth, children_of, load_product, base_is_reduced, exponent_is_reduced, KeepsSumBounds, KeepsProductBounds}
 use Rattle.node_bounds.proofs.Clashes.{contrary, undef_words}
 use Rattle.deep_reduce.proofs.Heavy.{factor_load, over_power}
 use Rattle.calc_measures.proofs.Weights.{some_weight}
 use Rattle.deep_reduce.proofs.Joined.{JointsBelow, IsLessLoaded, pair_loaded, numbers_opened, factors_rewritten, pair_rewritten}
-use Rattle.node_bounds.proofs.JointRooms.{settled_hands_on, hands_on_next, keeps_next}
+use Rattle.node_bounds.proofs.JointRooms.{settled_hands_on, hands_on_next, keeps_next, finished_keeps}
 use Rattle.node_bounds.proofs.HeldJoints.{first_reduced, settled_held}
 use Rattle.node_bounds.proofs.ProductCounts.{product_counts, product_joins_none}
 use Rattle.deep_reduce.proofs.Joints.{transparent_exponent, joint_load, reduced_joint}
@@ -136,7 +136,17 @@ pub record IsPairJoined (at : ℕ) (ts : Trees) (u : Tree) : Type 0 where
 pub pair_joined : (at : ℕ) (ts : Trees) (u : Tree) → are_reduced ts ≡ true → IsPairAt at ts → u ≡ mult (joined_pair at (at + 1) ts) → IsPairJoined at ts u
 pair_joined at ts u r p e =
     let whole : u ≡ mult (joined_pair at (suc at) ts) = e ∙ ap (λ (n : ℕ). mult (joined_pair at n ts)) (add-one at) in
-    subst (IsPairJoined at ts) (sym whole) (record { is = refl; joint = neighbours_joint at ts r p; less = pair_loaded at ts r p; rewrites = pair_rewritten at ts p; pair = p; reduced = r; whole = refl; joint-is = joint_there at ts p })
+    subst (IsPairJoined at ts) (sym whole) (record {
+      is =
+          refl;
+      joint = neighbours_joint at ts r p;
+      less = pair_loaded at ts r p;
+      rewrites = pair_rewritten at ts p;
+      pair = p;
+      reduced = r;
+      whole = refl;
+      joint-is = joint_there at ts p;
+    })
 
 pub settled_less : (at : ℕ) (ts : Trees) (u v : Tree) → IsPairJoined at ts u → IsSettled at (children_of u) v → IsLess ts v
 settled_less at ts u v j s =
@@ -144,6 +154,9 @@ settled_less at ts u v j s =
     let p = j.joint in
     let a = answered (nth at us) s.exponent s.factor (joint_at p) s.sum s.answer in
     let here : Rewrites (mult us) (mult (set_tree at s.factor us)) = replaced_rewritten at s.factor us a.rewrites in
+    let sum = subst (λ (x : Tree). IsSumAnswer (children_of (exponent_in x)) s.exponent) j.joint-is s.sum in
+    let bounds = subst (λ (x : Tree). KeepsSumBounds (children_of (exponent_in x)) s.exponent) j.joint-is s.bounds in
+    let answer = subst (λ (x : Tree). IsReducedPower (base_in x) s.exponent s.factor) j.joint-is s.answer in
     subst (IsLess ts) (sym s.is) (record {
       is = refl;
       some = omega (arith, replaced_count at s.factor us, p.within);
@@ -151,15 +164,11 @@ settled_less at ts u v j s =
       rewrites = Rewrites-trans (subst (Rewrites (mult ts)) j.is j.rewrites) here;
       nests = replaced_nest at (nest_of ts) s.factor us p.within j.less.nests p.others a.nests;
       loads = omega (arith, replaced_load at s.factor us p.within, a.loads, j.less.load);
-      joins =
-          subst (λ (xs : Trees). Joins ts (set_tree at s.factor xs)) (sym j.whole)
-          (joins_pair at s.exponent s.factor j.pair (subst (λ (x : Tree). IsSumAnswer (children_of (exponent_in x)) s.exponent) j.joint-is s.sum) (subst (λ (x : Tree). IsReducedPower (base_in x) s.exponent s.factor) j.joint-is s.answer));
+      joins = subst (λ (xs : Trees). Joins ts (set_tree at s.factor xs)) (sym j.whole) (joins_pair at s.exponent s.factor j.pair sum answer);
       hands_on =
-          settled_hands_on at ts us (base_of (nth at ts)) (exponent_of (nth at ts)) (exponent_of (nth (suc at) ts)) s.exponent s.factor j.pair j.whole p.within j.joint-is
-          (subst (λ (x : Tree). IsSumAnswer (children_of (exponent_in x)) s.exponent) j.joint-is s.sum) (subst (λ (x : Tree). KeepsSumRoom (children_of (exponent_in x)) s.exponent) j.joint-is s.room)
-          (subst (λ (x : Tree). IsReducedPower (base_in x) s.exponent s.factor) j.joint-is s.answer).room
-          (settled_held at ts us j.pair j.reduced j.whole s.exponent s.factor (base_is_reduced (nth at ts) (first_reduced at ts us j.pair j.reduced j.whole)) s.sum.reduces.reduced
-          (subst (λ (x : Tree). AddsCounts (children_of (exponent_in x)) s.exponent) j.joint-is s.counts) (subst (λ (x : Tree). IsReducedPower (base_in x) s.exponent s.factor) j.joint-is s.answer));
+          settled_hands_on at ts us (base_of (nth at ts)) (exponent_of (nth at ts)) (exponent_of (nth (suc at) ts)) s.exponent s.factor j.pair j.whole p.within j.joint-is sum bounds.room answer.room
+          (settled_held at ts us j.pair j.reduced j.whole s.exponent s.factor
+          (base_is_reduced (nth at ts) (first_reduced at ts us j.pair j.reduced j.whole)) s.sum.reduces.reduced bounds.counts answer);
     })
 
 pub settled_within : (at : ℕ) (us : Trees) (v : Tree) → IsJointAt at us → IsSettled at us v → at < count (children_of v)
@@ -227,14 +236,14 @@ product_after ts c v t r j l a = record {
   counts = product_joins_none ts t r j.partners;
 }
 
-pub product_finished : (ts : Trees) (t : Tree) → are_reduced ts ≡ true → IsFinished ts t → KeepsRoom (counted (mult ts)) (mult ts) t → IsHeldAsProduct ts t → IsReducedProduct ts t
-product_finished ts t r f k a = record {
+pub product_finished : (ts : Trees) (t : Tree) → are_reduced ts ≡ true → IsFinished ts t → KeepsProductBounds ts t → IsReducedProduct ts t
+product_finished ts t r f b = record {
   reduces = f.reduces;
   undefined = λ e. undef_words t (f.undefined ∙ e);
   number = f.number;
   nest = f.nest;
   load = f.load;
-  room = k;
-  held = a;
+  room = finished_keeps ts t b;
+  held = λ d h l a. b.held h l (sym f.undefined ∙ d) a;
   counts = product_counts ts t r f;
 }

@@ -27,6 +27,7 @@ pub use Rattle.calc_terms.specs.Fits.{add_op, fraction_fits, mul_op}
 pub use Rattle.calc_terms.specs.Fractions.{Fraction, inverse, is_zero_fraction, lowest, minus_one_fraction, whole_fraction}
 unfoldable pub use Rattle.calc_terms.specs.Fractions.{negative, one_fraction, zero_fraction}
 pub use Rattle.calc_terms.specs.Integers.{int_is_even, int_is_negative, int_is_zero}
+pub use Rattle.calc_terms.specs.Limits.{bits_limit, number_limit}
 pub use Rattle.calc_terms.specs.Payload.{Payload, bare, rational, size_of_payload}
 pub use Rattle.calc_terms.specs.Rat.{ratio_of, value_of}
 pub use Rattle.calc_terms.specs.Trees.{AllPartsOf, HasTwo, IsPart, IsPartOf, Tree, Trees, add, append, are_rationals, count, div, first, has_undef, in_add, in_base, in_dividend, in_divisor, in_exponent, in_left, in_mult, in_neg, in_right, in_root, is_add, is_div, is_mult, is_num, is_root, is_sub, is_symbol, is_undef, itself, later, more, mult, names, names_of, neg, nodes, nodes_of, none, num, power, root, root_kind, root_size, size, sizes, sub, symbol, undef}
@@ -39,17 +40,22 @@ pub use Rattle.coefficients.proofs.Lacks.{sum_whole as sum_words}
 pub use Rattle.coefficients.proofs.Rooms.{sizes_append}
 pub use Rattle.coefficients.proofs.Splits.{Leads, in_front}
 pub use Rattle.coefficients.specs.Coefficients.{factors_of}
+pub use Rattle.deep_reduce.specs.Connectives.{joined_by, joined_room, kind_of, neutral_of, of_sides, turned, turned_room}
 pub use Rattle.deep_reduce.specs.Halves.{IsRooted}
 pub use Rattle.deep_reduce.specs.Nodes.{IsNodeAnswer, IsNodeOverflow, has_no_value, has_number, is_neg}
 pub use Rattle.deep_reduce.specs.Pairs.{GivesSides}
 pub use Rattle.deep_reduce.specs.Reductions.{IsReducedFrom, IsWithinTree, MayLack, MayOverflow}
 pub use Rattle.deep_reduce.specs.Unfinished.{AreTransparent, Finishes, IsLess, IsNested, IsSettled, IsTransparent, IsUnfinished, Joins, joins_gathered, joins_none, joins_pair, joins_then, nest_of_joint, nest_of_rewritten, nest_over, weight_below, weight_of_bases}
+pub use Rattle.deep_reduce.specs.declared.connective.Connective.{Connective}
 pub use Rattle.node_bounds.specs.Answers.{IsReducedPower, IsReducedProduct, has_no_half_power, is_number_power, lacks_power}
-pub use Rattle.node_bounds.specs.Bits.{AddsCounts, HasFewBits, IsHeldAsProduct, IsHeldAsRootPower}
+pub use Rattle.node_bounds.specs.Bits.{IsHeldAsProduct, IsHeldAsRootPower}
+pub use Rattle.product_reduce.specs.Bounds.{KeepsFactorBounds, KeepsProductBounds}
+pub use Rattle.sum_reduce.specs.Bounds.{KeepsSumBounds}
+pub use Rattle.tree_bits.specs.Rows.{AreFewBits}
 pub use Rattle.node_bounds.specs.HandedOn.{AreReducedPowers, HandsOn, IsLifted, IsMultiplied, IsProductOfPowers, IsSummed}
 pub use Rattle.node_bounds.specs.NodeBits.{HoldsDifference, HoldsNode, HoldsPower, HoldsQuotient, holds_half, holds_kept, holds_whole}
 pub use Rattle.node_bounds.specs.NodeRooms.{HasNodesFor, KeepsNodeRoom, SpansNode, factors_room, node_count}
-pub use Rattle.node_bounds.specs.Rooms.{IsCalmAtZero, IsJoinedFrom, IsRewritten, KeepsRoom, KeepsRootRoom, KeepsSumRoom, SpansRootOf, power_count, whole_power_room}
+pub use Rattle.node_bounds.specs.Rooms.{IsCalmAtZero, IsJoinedFrom, IsRewritten, KeepsRoom, KeepsRootRoom, SpansRootOf, power_count, whole_power_room}
 pub use Rattle.node_pool.specs.State.{State, free_of}
 pub use Rattle.number_forms.proofs.RationalBits.{as_num}
 pub use Rattle.number_forms.proofs.Rooms.{full_as, refusal_as}
@@ -75,7 +81,7 @@ pub use Rattle.product_reduce.proofs.Joined.{one_base}
 pub use Rattle.product_reduce.proofs.JointBounds.{base_reduced as base_is_reduced, exponent_reduced as exponent_is_reduced}
 pub use Rattle.product_reduce.proofs.Neighbours.{joint_there, neighbours_joint, partners_of_pair}
 pub use Rattle.product_reduce.proofs.Small.{undef_reduced}
-pub use Rattle.product_reduce.specs.Answers.{AreJoinable, IfFinished, IfGathered, IfJoined, IsFinished}
+pub use Rattle.product_reduce.specs.Answers.{AreJoinable, IfFinished, IfJoined, IsFinished}
 pub use Rattle.product_reduce.specs.Bits.{AreFactorsHeld, IsFactorHeld, none_held}
 pub use Rattle.product_reduce.specs.Factors.{opened, others_in}
 pub use Rattle.product_reduce.specs.Gathering.{IsGathered}

@@ -15,7 +15,8 @@ pub record IsPaired (k : Kind) (p : ℕ) (t u : Tree) (others new : Forest) : Ty
   pub rest : without_root p new ≡ others
 
 -- the new tree comes first
-pub new_first : {f g h : Forest} {i j p : ℕ} {t : Tree} {k : Kind} → Gives f g i (λ u. u ≡ t) → IsHanded j f → Gives (without_root j (without_root i g)) h p (λ u. u ≡ compound k (two (plain (root_tree i g)) (plain (root_tree j g))))
+pub new_first : {f g h : Forest} {i j p : ℕ} {t : Tree} {k : Kind} → Gives f g i (λ u. u ≡ t) → IsHanded j f
+    → Gives (without_root j (without_root i g)) h p (λ u. u ≡ compound k (two (plain (root_tree i g)) (plain (root_tree j g))))
     → IsPaired k p t (plain (root_tree j f)) (without_root j f) h
 new_first {j = j} {k = k} n o g = record {
   handed = given_handed g;
@@ -24,7 +25,8 @@ new_first {j = j} {k = k} n o g = record {
 }
 
 -- the new tree comes second
-pub new_second : {f g h : Forest} {i j p : ℕ} {t : Tree} {k : Kind} → Gives f g i (λ u. u ≡ t) → IsHanded j f → Gives (without_root i (without_root j g)) h p (λ u. u ≡ compound k (two (plain (root_tree j g)) (plain (root_tree i g))))
+pub new_second : {f g h : Forest} {i j p : ℕ} {t : Tree} {k : Kind} → Gives f g i (λ u. u ≡ t) → IsHanded j f
+    → Gives (without_root i (without_root j g)) h p (λ u. u ≡ compound k (two (plain (root_tree j g)) (plain (root_tree i g))))
     → IsPaired k p (plain (root_tree j f)) t (without_root j f) h
 new_second {j = j} {k = k} n o g = record {
   handed = given_handed g;
@@ -43,7 +45,8 @@ pub record IsBeside (ts : Trees) (left made : ℕ) (others new : Forest) : Type 
   pub tree : plain (root_tree left new) ≡ nth 0 ts
   pub rest : without_root made (without_root left new) ≡ others
 
-pub left_beside : {ts : Trees} {others f g : Forest} {left right made : ℕ} {Told : Tree → Type 0} → GivesSides ts others f left right → Gives (without_root right f) g made Told → IsBeside ts left made others g
+pub left_beside : {ts : Trees} {others f g : Forest} {left right made : ℕ} {Told : Tree → Type 0} → GivesSides ts others f left right → Gives (without_root right f) g made Told
+    → IsBeside ts left made others g
 left_beside {left = left} s m =
     let rest = given_rest s.right-given in
     let there = handed_at (given_handed s.left-given) rest in
@@ -60,12 +63,14 @@ pub rewritten_front : {ts : Trees} {old f g : Forest} {i left right : ℕ} → G
 rewritten_front s k = search (rules, behind_first, behind_new, front_same, front_end, front_without, front_after_one)
 
 -- and both were put under a new node
-pub paired_front : {ts : Trees} {old f g h : Forest} {i left right made : ℕ} {Told : Tree → Type 0} → GivesSides ts (without_root i old) f left right → KeepsFront (right ∷ []) f g → Gives (without_root right f) g made Told
+pub paired_front : {ts : Trees} {old f g h : Forest} {i left right made : ℕ} {Told : Tree → Type 0} → GivesSides ts (without_root i old) f left right → KeepsFront (right ∷ []) f g
+    → Gives (without_root right f) g made Told
     → KeepsFront (left ∷ made ∷ []) g h → KeepsFront (i ∷ []) old h
 paired_front s k m l = search (rules, behind_first, behind_new, front_same, front_at, front_end, front_without, front_after_two, given_rest, rewritten_front)
 
 -- and the new node was reduced
-pub reduced_front : {old h end : Forest} {i p : ℕ} {Told : Tree → Type 0} {others : Forest} → KeepsFront (i ∷ []) old h → Gives others h p Told → others ≡ without_root i old → KeepsFront (p ∷ []) h end → KeepsFront (i ∷ []) old end
+pub reduced_front : {old h end : Forest} {i p : ℕ} {Told : Tree → Type 0} {others : Forest} → KeepsFront (i ∷ []) old h → Gives others h p Told → others ≡ without_root i old
+    → KeepsFront (p ∷ []) h end → KeepsFront (i ∷ []) old end
 reduced_front k g e l = front_after_one (behind_new g.ends (front_at (front_without behind_first front_same) e)) k l
 
 -- ---- a left side and the last tree
@@ -74,7 +79,8 @@ without_both : {f : Forest} {left made : ℕ} → KeepsFront (left ∷ made ∷ 
 without_both = front_without (behind_later behind_first) (front_without behind_first front_same)
 
 -- both were put under a new node, which was reduced
-pub joined_front : {f h end : Forest} {left made p : ℕ} {Told : Tree → Type 0} → KeepsFront (left ∷ made ∷ []) f h → Gives (without_root made (without_root left f)) h p Told → KeepsFront (p ∷ []) h end → KeepsFront (left ∷ made ∷ []) f end
+pub joined_front : {f h end : Forest} {left made p : ℕ} {Told : Tree → Type 0} → KeepsFront (left ∷ made ∷ []) f h → Gives (without_root made (without_root left f)) h p Told
+    → KeepsFront (p ∷ []) h end → KeepsFront (left ∷ made ∷ []) f end
 joined_front k g l = front_after_one (behind_new g.ends without_both) k l
 
 -- ---- bytes

@@ -1,6 +1,6 @@
 -- What the calls on sums, products, powers and roots answer, as answers of a node.
-use Rattle.std.proofs.Common.{◌≡◌, ℕ, ◌<◌, ◌⊎◌, inl, inr, true, false, ◌&&◌, List, length, refl, sym, ap, ◌∙◌, subst, arith, append-nil, ◌||◌, Contains, [], ◌++◌}
-use Rattle.deep_reduce.proofs.Shared.{fraction_fits, mul_op, Fraction, minus_one_fraction, negative, zero_fraction, one_fraction, is_number, value, PlainValue, exactly, undefined, overflow, nothing, calculated, plain_value, is_reduced, int_is_negative, Tree, num, symbol, undef, add, mult, power, root, neg, sub, div, Trees, none, more, names, is_undef, is_num, IsPart, IsPartOf, itself, in_add, in_mult, in_base, in_exponent, in_root, in_neg, in_left, in_right, in_dividend, in_divisor, first, later, has_undef, are_rationals, IsReducedProduct, IsReducedPower, IsNodeAnswer, IsNodeOverflow, has_no_value, SpansTree, KeepsSumRoom, base_in, IfRational, IsRootAnswer, Overflow, keeps, kept, Rewrites-refl, reduces, reduces_after, IsPlainAnswer, HasNoNewName, Rewrites, Reduces, IsNoLargerThanRoot, IsSumHeld, addends_of_each, IsTreeHeld, IsSumAnswer, children_of, and_from, and_parts, or_cases, or_from, or_left, or_right, or_parts, number_reduced, symbol_reduced, undef_reduced, as_num, undef_inside, rationals_defined, KeepsNodeRoom, node_count, KeepsRootRoom, HoldsNode, has_number, is_half_num, exponent_in, IsFactorHeld, is_leaf}
+use Rattle.std.proofs.Common.{◌≡◌, ℕ, ◌⊎◌, inl, inr, true, false, ◌&&◌, List, refl, sym, ◌∙◌, subst, arith, append-nil, ◌||◌, Contains, [], ◌++◌}
+use Rattle.deep_reduce.proofs.Shared.{fraction_fits, mul_op, Fraction, minus_one_fraction, negative, zero_fraction, one_fraction, is_number, value, PlainValue, exactly, undefined, overflow, nothing, calculated, plain_value, is_reduced, int_is_negative, Tree, num, symbol, undef, add, mult, power, root, neg, sub, div, Trees, none, more, names, is_undef, is_num, IsPart, IsPartOf, itself, in_add, in_mult, in_base, in_exponent, in_root, in_neg, in_left, in_right, in_dividend, in_divisor, first, later, has_undef, are_rationals, IsReducedProduct, IsReducedPower, IsNodeAnswer, IsNodeOverflow, has_no_value, SpansTree, base_in, IfRational, IsRootAnswer, Overflow, keeps, kept, Rewrites-refl, reduces, reduces_after, IsPlainAnswer, Rewrites, Reduces, IsNoLargerThanRoot, IsSumAnswer, children_of, and_from, and_parts, or_cases, or_from, or_left, or_right, or_parts, number_reduced, symbol_reduced, undef_reduced, as_num, undef_inside, rationals_defined, KeepsNodeRoom, node_count, KeepsRootRoom, HoldsNode, has_number, is_half_num, exponent_in, IsFactorHeld, is_leaf, KeepsSumBounds}
 use Rattle.node_bounds.proofs.Clashes.{undef_words, undef_test, rational_number}
 use Rattle.calc_algebra.proofs.UndefRewrites.{undef_part}
 use Rattle.deep_reduce.proofs.EasyNodes.{number_defined}
@@ -56,7 +56,8 @@ undefined_answer u h = grind (arith, undef_reduced, no_names, keeps, undef_part,
 -- ---- leaves
 
 -- a tree that is its own answer
-own_answer : (t : Tree) → is_reduced t ≡ true → (has_no_value t ≡ true → t ≡ undef) → (has_number t ≡ true → has_no_value t ≡ false → is_number t ≡ true) → (are_rationals (children_of t) ≡ true → IsPlainAnswer (plain_value t) t)
+own_answer : (t : Tree) → is_reduced t ≡ true → (has_no_value t ≡ true → t ≡ undef) → (has_number t ≡ true → has_no_value t ≡ false → is_number t ≡ true)
+    → (are_rationals (children_of t) ≡ true → IsPlainAnswer (plain_value t) t)
     → KeepsNodeRoom (node_count t) t t → (is_half_num (exponent_in t) ≡ true → KeepsRootRoom (base_in t) t) → ((h l : ℕ) → HoldsNode t h l → IsFactorHeld t h l) → IsNodeAnswer t t
 own_answer t r u n p k o a = record { reduces = reduces (Rewrites-refl t) r; undefined = u; number = n; rational = p; room = k; root_room = o; held = λ d. a; leaf = λ h. refl }
 
@@ -71,8 +72,8 @@ undef_answer = own_answer undef undef_reduced (λ h. refl) (λ h n. cc) (λ h. r
 
 -- ---- sums, products, powers and roots
 
-pub sum_answer : (ts : Trees) (r : Tree) → IsSumAnswer ts r → KeepsSumRoom ts r → ((h l : ℕ) → has_undef ts ≡ false → IsSumHeld (addends_of_each ts) h l → IsTreeHeld r h l) → (are_rationals ts ≡ true → IsPlainAnswer (plain_value (add ts)) r) → IsNodeAnswer (add ts) r
-sum_answer ts r a k b p = record { reduces = a.reduces; undefined = λ h. undef_words r (a.undefined ∙ h); number = λ h n. a.number h; rational = p; room = sum_room ts r k; root_room = λ h. cc; held = λ d h l x. tree_factor r a.reduces.reduced d (b h l (sym a.undefined ∙ d) x); leaf = λ h. cc }
+pub sum_answer : (ts : Trees) (r : Tree) → IsSumAnswer ts r → KeepsSumBounds ts r → (are_rationals ts ≡ true → IsPlainAnswer (plain_value (add ts)) r) → IsNodeAnswer (add ts) r
+sum_answer ts r a b p = record { reduces = a.reduces; undefined = λ h. undef_words r (a.undefined ∙ h); number = λ h n. a.number h; rational = p; room = sum_room ts r b.room; root_room = λ h. cc; held = λ d h l x. tree_factor r a.reduces.reduced d (b.held h l (sym a.undefined ∙ d) x); leaf = λ h. cc }
 
 pub product_answer : (ts : Trees) (r : Tree) → IsReducedProduct ts r → (are_rationals ts ≡ true → IsPlainAnswer (plain_value (mult ts)) r) → IsNodeAnswer (mult ts) r
 product_answer ts r a p = record { reduces = a.reduces; undefined = a.undefined; number = λ h n. a.number h; rational = p; room = product_node_room ts r a.room; root_room = λ h. cc; held = a.held; leaf = λ h. cc }
@@ -80,7 +81,8 @@ product_answer ts r a p = record { reduces = a.reduces; undefined = a.undefined;
 pub power_answer : (b e r : Tree) → IsReducedPower b e r → (are_rationals (two b e) ≡ true → IsPlainAnswer (plain_value (power b e)) r) → IsNodeAnswer (power b e) r
 power_answer b e r a p = record { reduces = a.reduces; undefined = a.undefined; number = a.number; rational = p; room = power_node_room b e r a.room; root_room = a.root_room; held = power_answer_held b e r a; leaf = λ h. cc }
 
-pub root_answer : (a r : Tree) → is_reduced a ≡ true → IsRootAnswer a r → ((gs : List ℕ) → SpansTree gs (root a) → SpansTree gs r) → IfRational a (λ q. int_is_negative q.num ≡ false → IsNoLargerThanRoot q (value r)) → IsNodeAnswer (root a) r
+pub root_answer : (a r : Tree) → is_reduced a ≡ true → IsRootAnswer a r → ((gs : List ℕ) → SpansTree gs (root a) → SpansTree gs r)
+    → IfRational a (λ q. int_is_negative q.num ≡ false → IsNoLargerThanRoot q (value r)) → IsNodeAnswer (root a) r
 root_answer a r x h s m = record { reduces = h.reduces; undefined = λ e. undef_words r (h.undefined ∙ e); number = h.number; rational = λ e. tt; room = root_node_room a r h s; root_room = λ k. cc; held = λ d i l k. root_answer_held a r x h m k.1 d k.0; leaf = λ k. cc }
 
 pub empty_sum_answer : (r : Tree) → r ≡ num zero_fraction → IsNodeAnswer (add none) r
@@ -114,7 +116,8 @@ module _ (a r : Tree) (fit : (q : Fraction) → a ≡ num q → fraction_fits q 
   neg_answer h = record {
     reduces = reduces_after (neg_rewrites a) h.reduces;
     undefined = λ e. h.undefined (or_left (is_undef a) false e);
-    number = λ n d. h.number (and_from (is_number (num minus_one_fraction)) (is_number a && true) (rational_number minus_one_fraction) (and_from (is_number a) true n refl)) (or_from (is_undef a) false d refl);
+    number = λ n d.
+        h.number (and_from (is_number (num minus_one_fraction)) (is_number a && true) (rational_number minus_one_fraction) (and_from (is_number a) true n refl)) (or_from (is_undef a) false d refl);
     rational = λ e.
         let (q, is) = as_num a (and_parts (is_num a) true e).0 in
         let w : IsPlainAnswer (exactly (negative q)) r = subst (λ (v : PlainValue). IsPlainAnswer v r) (neg_value q is) (h.rational e) in
@@ -133,7 +136,9 @@ module _ (a r : Tree) (fit : (q : Fraction) → a ≡ num q → fraction_fits q 
 sub_rewrites : (a b c : Tree) → Reduces (neg b) c → Rewrites (sub a b) (add (two a c))
 sub_rewrites a b c h = record {
   no_new_name = record { name = λ x m. both (names a) (names b) (names a) (names c ++ []) (λ y k. k) (λ y k. h.no_new_name.name y (subst (λ ys. Contains ys y) (append-nil (names c)) k)) x m };
-  meanings = keeps (rewrites.KeepsMeanings-trans (rewrites.sub_as_neg a b) (rewrites.KeepsMeanings-sum_more (rewrites.KeepsMeanings-refl a) (rewrites.KeepsMeanings-sum_more (kept h.meanings) (rewrites.KeepsMeanings-refl (add none)))));
+  meanings =
+      keeps (rewrites.KeepsMeanings-trans (rewrites.sub_as_neg a b)
+      (rewrites.KeepsMeanings-sum_more (rewrites.KeepsMeanings-refl a) (rewrites.KeepsMeanings-sum_more (kept h.meanings) (rewrites.KeepsMeanings-refl (add none)))));
 }
 
 pub two_rationals : (p q : Fraction) (a c : Tree) → a ≡ num p → c ≡ num q → are_rationals (two a c) ≡ true

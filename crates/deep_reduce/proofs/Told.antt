@@ -1,10 +1,10 @@
 -- What calls on a node of a kind tell, in the words of any node.
-use Rattle.std.proofs.Common.{◌≡◌, ◌≢◌, ℕ, List, pos, negsuc, true, false, ◌&&◌, refl, sym, ap, ◌∙◌, subst, arith, inl, inr, Result}
-use Rattle.deep_reduce.proofs.Shared.{false_from_ne_true, lowest, whole_fraction, zero_fraction, one_fraction, minus_one_fraction, ratio_of, value_of, PlainValue, nothing, plain_value, is_half_num, is_reduced, is_whole_num, are_reduced, Tree, num, symbol, undef, add, mult, power, root, neg, sub, div, Trees, none, more, count, is_add, is_mult, is_root, is_sub, is_div, is_num, root_kind, are_rationals, has_undef, value, int_is_negative, IsNoLargerThanRoot, IsSumHeld, addends_of_each, IsTreeHeld, IsReducedProduct, IsReducedPower, SpansTree, IsNodeAnswer, IsNodeOverflow, is_neg, KeepsSumRoom, base_in, exponent_in, no_plain_value, whole_no_half, whole_is, NamesProduct, argument_of, IfRational, IsRootAnswer, Overflow, IsPlainAnswer, IsPlainOverflow, IsSumAnswer, nth, children_of, and_from, and_parts, cases_Bool, NumberFault, IfOverflow}
+use Rattle.std.proofs.Common.{◌≡◌, ◌≢◌, ℕ, List, negsuc, true, false, ◌&&◌, refl, sym, ap, ◌∙◌, subst, arith, inl, inr, Result}
+use Rattle.deep_reduce.proofs.Shared.{false_from_ne_true, lowest, minus_one_fraction, ratio_of, value_of, PlainValue, nothing, plain_value, is_half_num, is_reduced, is_whole_num, are_reduced, Tree, num, symbol, undef, add, mult, power, root, neg, sub, div, Trees, none, more, is_add, is_mult, is_root, is_sub, is_div, is_num, root_kind, are_rationals, has_undef, value, int_is_negative, IsNoLargerThanRoot, IsReducedProduct, IsReducedPower, SpansTree, IsNodeAnswer, IsNodeOverflow, is_neg, base_in, exponent_in, no_plain_value, whole_no_half, whole_is, NamesProduct, argument_of, IfRational, IsRootAnswer, Overflow, IsPlainAnswer, IsPlainOverflow, IsSumAnswer, nth, children_of, and_from, and_parts, cases_Bool, NumberFault, IfOverflow, KeepsSumBounds}
 use Rattle.node_bounds.proofs.Clashes.{contrary}
 use Rattle.calc_terms.specs.declared.rat.Rat.{Rat}
 use Rattle.calc_terms.specs.Ratio.{Ratio, whole}
-use Rattle.deep_reduce.proofs.Steps.{two, sum_answer, product_answer, power_answer, root_answer, empty_sum_answer, empty_product_answer, number_answer, symbol_answer, undef_answer}
+use Rattle.deep_reduce.proofs.Steps.{two, sum_answer, product_answer, power_answer, root_answer, number_answer, symbol_answer, undef_answer}
 use Rattle.calc_terms.specs.declared.kind.Kind.TheVariants as kind
 
 -- ---- kinds
@@ -38,23 +38,19 @@ div_is t h = grind arith
 pub neg_children : (t : Tree) → is_neg t ≡ true → children_of t ≡ more (nth 0 (children_of t)) none
 neg_children t e = ap children_of (neg_is t e)
 
-pub sub_children : (t : Tree) → is_sub t ≡ true → children_of t ≡ more (nth 0 (children_of t)) (more (nth 1 (children_of t)) none)
-sub_children t e = ap children_of (sub_is t e)
-
-pub div_children : (t : Tree) → is_div t ≡ true → children_of t ≡ more (nth 0 (children_of t)) (more (nth 1 (children_of t)) none)
-div_children t e = ap children_of (div_is t e)
-
 -- ---- answers
 
-pub sum_told : (t r : Tree) → is_add t ≡ true → IsSumAnswer (children_of t) r → KeepsSumRoom (children_of t) r → ((h l : ℕ) → has_undef (children_of t) ≡ false → IsSumHeld (addends_of_each (children_of t)) h l → IsTreeHeld r h l) → (are_rationals (children_of t) ≡ true → IsPlainAnswer (plain_value t) r) → IsNodeAnswer t r
-sum_told (add ts) r e a k b p = sum_answer ts r a k b p
-sum_told t r e a k b p = cc
+pub sum_told : (t r : Tree) → is_add t ≡ true → IsSumAnswer (children_of t) r → KeepsSumBounds (children_of t) r → (are_rationals (children_of t) ≡ true → IsPlainAnswer (plain_value t) r)
+    → IsNodeAnswer t r
+sum_told (add ts) r e a b p = sum_answer ts r a b p
+sum_told t r e a b p = cc
 
 pub product_told : (t r : Tree) → is_mult t ≡ true → IsReducedProduct (children_of t) r → (are_rationals (children_of t) ≡ true → IsPlainAnswer (plain_value t) r) → IsNodeAnswer t r
 product_told (mult ts) r e a p = product_answer ts r a p
 product_told t r e a p = cc
 
-pub power_told : (t r : Tree) → t ≡ power (base_in t) (exponent_in t) → IsReducedPower (base_in t) (exponent_in t) r → (are_rationals (children_of t) ≡ true → IsPlainAnswer (plain_value t) r) → IsNodeAnswer t r
+pub power_told : (t r : Tree) → t ≡ power (base_in t) (exponent_in t) → IsReducedPower (base_in t) (exponent_in t) r
+    → (are_rationals (children_of t) ≡ true → IsPlainAnswer (plain_value t) r) → IsNodeAnswer t r
 power_told t r h k a = grind (arith, power_answer)
 
 -- both sides are rationals
@@ -73,10 +69,12 @@ half_no_whole e h = false_from_ne_true (is_whole_num e) (λ w. contrary h (whole
 half_plain : (t : Tree) → t ≡ power (base_in t) (exponent_in t) → are_rationals (children_of t) ≡ true → is_half_num (exponent_in t) ≡ true → plain_value t ≡ nothing
 half_plain t k h e = let s = power_sides t k h in ap plain_value k ∙ no_plain_value (base_in t) (exponent_in t) s.0 s.1 (half_no_whole (exponent_in t) e)
 
-pub rational_answer : (t r : Tree) → t ≡ power (base_in t) (exponent_in t) → (IsRationalPower t → IsPlainAnswer (plain_value t) r) → are_rationals (children_of t) ≡ true → IsPlainAnswer (plain_value t) r
+pub rational_answer : (t r : Tree) → t ≡ power (base_in t) (exponent_in t) → (IsRationalPower t → IsPlainAnswer (plain_value t) r) → are_rationals (children_of t) ≡ true
+    → IsPlainAnswer (plain_value t) r
 rational_answer t r k p h = elim (cases_Bool (is_half_num (exponent_in t))) [ inl e ↦ subst (λ (v : PlainValue). IsPlainAnswer v r) (sym (half_plain t k h e)) tt | inr e ↦ p (record { rationals = h; no_half = e }) ]
 
-pub rational_overflow : (t : Tree) (o : Overflow) → t ≡ power (base_in t) (exponent_in t) → (IsRationalPower t → IsPlainOverflow (plain_value t) o) → are_rationals (children_of t) ≡ true → IsPlainOverflow (plain_value t) o
+pub rational_overflow : (t : Tree) (o : Overflow) → t ≡ power (base_in t) (exponent_in t) → (IsRationalPower t → IsPlainOverflow (plain_value t) o) → are_rationals (children_of t) ≡ true
+    → IsPlainOverflow (plain_value t) o
 rational_overflow t o h k a = grind (arith, cases_Bool, half_plain)
 
 pub inverse_no_half : (t b : Tree) → t ≡ power b (num minus_one_fraction) → is_half_num (exponent_in t) ≡ false
@@ -100,20 +98,9 @@ argument_reduced t h k = grind (arith, and_parts)
 pub root_overflow : (t : Tree) (o : Overflow) → is_root t ≡ true → NamesProduct (argument_of t) o → IsNodeOverflow t o
 root_overflow t o h k = grind arith
 
-pub empty_sum_told : (t r : Tree) → is_add t ≡ true → count (children_of t) ≡ 0 → r ≡ num (whole_fraction (pos 0)) → IsNodeAnswer t r
-unfolding zero_fraction
-empty_sum_told (add none) r e n q = empty_sum_answer r q
-empty_sum_told (add (more t ts)) r e n q = absurd (omega arith)
-empty_sum_told t r e n q = cc
-
-pub empty_product_told : (t r : Tree) → is_mult t ≡ true → count (children_of t) ≡ 0 → r ≡ num (whole_fraction (pos 1)) → IsNodeAnswer t r
-unfolding one_fraction
-empty_product_told (mult none) r e n q = empty_product_answer r q
-empty_product_told (mult (more t ts)) r e n q = absurd (omega arith)
-empty_product_told t r e n q = cc
-
 -- a leaf is its own answer
-pub leaf_told : (t : Tree) → kind.Add ≢ root_kind t → kind.Mult ≢ root_kind t → kind.Pow ≢ root_kind t → kind.Root ≢ root_kind t → kind.Neg ≢ root_kind t → kind.Sub ≢ root_kind t → kind.Div ≢ root_kind t → IsNodeAnswer t t
+pub leaf_told : (t : Tree) → kind.Add ≢ root_kind t → kind.Mult ≢ root_kind t → kind.Pow ≢ root_kind t → kind.Root ≢ root_kind t → kind.Neg ≢ root_kind t → kind.Sub ≢ root_kind t
+    → kind.Div ≢ root_kind t → IsNodeAnswer t t
 leaf_told (num q) a b c d e f g = number_answer q
 leaf_told (symbol x) a b c d e f g = symbol_answer x
 leaf_told undef a b c d e f g = undef_answer
@@ -144,10 +131,6 @@ minus_one_value r e = ap (λ (x : Ratio). num (lowest x.num x.den)) e
 -- two reduced trees
 pub two_reduced : (a b : Tree) → is_reduced a ≡ true → is_reduced b ≡ true → are_reduced (two a b) ≡ true
 two_reduced a b h k = and_from (is_reduced a) (is_reduced b && true) h (and_from (is_reduced b) true k refl)
-
--- an overflow of a power that is the inverse of a defined tree
-pub inverse_overflowed : (t b : Tree) (o : Overflow) → t ≡ power b (num minus_one_fraction) → has_undef (children_of t) ≡ false → (are_rationals (children_of t) ≡ true → IsPlainOverflow (plain_value t) o) → IsNodeOverflow (power b (num minus_one_fraction)) o
-inverse_overflowed t b o e d h = overflow_at {t = t} o e (record { defined = d; rational = h })
 
 pub only_reduced : (ts : Trees) (a : Tree) → ts ≡ more a none → are_reduced ts ≡ true → is_reduced a ≡ true
 only_reduced ts a e h = (and_parts (is_reduced a) true (ap are_reduced (sym e) ∙ h)).0

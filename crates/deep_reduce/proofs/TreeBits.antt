@@ -27,7 +27,8 @@ factors_held : (ts us : Trees) → are_all_simple ts ≡ true → AreReducedFrom
 factors_held none none s h d = none_held
 factors_held (more t ts) (more u us) s h d =
     let (p, q) = and_parts (all_simple t) (are_all_simple ts) s in
-    factor_held (high t) (low t) (bounds_of_factors ts).high (bounds_of_factors ts).low (h.0.held p (or_parts (is_undef u) (has_undef us) d).0) (factors_held ts us q h.1 (or_parts (is_undef u) (has_undef us) d).1) (omega arith) (omega arith)
+    factor_held (high t) (low t) (bounds_of_factors ts).high (bounds_of_factors ts).low (h.0.held p (or_parts (is_undef u) (has_undef us) d).0)
+    (factors_held ts us q h.1 (or_parts (is_undef u) (has_undef us) d).1) (omega arith) (omega arith)
 factors_held ts us s h d = absurd h
 
 -- ---- powers
@@ -67,7 +68,8 @@ power_holds b c e f s p h k d = by (whole_literal e) (half_literal e) refl refl
         let m = row_most n (bounds b) in
         let w = base_most n (bounds b) in
         holds_half (high b) (low b) (ap is_half_num is ∙ half) (zero_high b) (h.held p d) (omega (arith, w.0, r.high)) (omega (arith, w.1, r.low))
-        (omega (arith, m.0, r.high, ap (λ (z : ℤ). raised_high z (high b) (low b)) (ap numerator is ∙ same))) (omega (arith, m.1, r.low, ap (λ (z : ℤ). raised_low z (high b) (low b)) (ap numerator is ∙ same)))
+        (omega (arith, m.0, r.high, ap (λ (z : ℤ). raised_high z (high b) (low b)) (ap numerator is ∙ same)))
+        (omega (arith, m.1, r.low, ap (λ (z : ℤ). raised_low z (high b) (low b)) (ap numerator is ∙ same)))
     by None None i j =
         let t = and_parts (is_num b || is_symbol b) (is_symbol e) (or_other (is_whole_literal e || is_half_literal e) _ s (or_from (is_whole_literal e) (is_half_literal e) (no_literal (whole_literal e) i) (no_literal (half_literal e) j))) in
         let l = symbol_leaf e t.1 in

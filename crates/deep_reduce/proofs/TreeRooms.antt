@@ -159,10 +159,12 @@ symbol_whole : (e : Tree) (ns : List (List ℕ)) → is_symbol e ≡ true → ((
 symbol_whole (symbol x) ns h a = symbol_zero ns x (a x (0, omega arith, refl))
 symbol_whole e ns h a = cc
 
-simple_power : (b c e f : Tree) → is_simple_power b e ≡ true → all_simple b ≡ true → all_simple e ≡ true → IsReducedFrom b c → IsReducedFrom e f → IsReadyNode (power b e) (power c f) ⊎ IsReadyHalf (power b e) (power c f)
+simple_power : (b c e f : Tree) → is_simple_power b e ≡ true → all_simple b ≡ true → all_simple e ≡ true → IsReducedFrom b c → IsReducedFrom e f
+    → IsReadyNode (power b e) (power c f) ⊎ IsReadyHalf (power b e) (power c f)
 simple_power b c e f s p q h k = by (is_whole_literal e) (is_half_literal e) refl refl s
   where
-    by : (x y : Bool) → is_whole_literal e ≡ x → is_half_literal e ≡ y → (x || y || ((is_num b || is_symbol b) && is_symbol e)) ≡ true → IsReadyNode (power b e) (power c f) ⊎ IsReadyHalf (power b e) (power c f)
+    by : (x y : Bool) → is_whole_literal e ≡ x → is_half_literal e ≡ y → (x || y || ((is_num b || is_symbol b) && is_symbol e)) ≡ true
+        → IsReadyNode (power b e) (power c f) ⊎ IsReadyHalf (power b e) (power c f)
     by true y w l t = inl (ready_power b c e f p q h k (λ ns o a. literal_whole (zeros ns) e w))
     by false true w l t = inr (ready_half b c e f p q l h k)
     by false false w l t = inl (ready_power b c e f p q h k (λ ns o a. symbol_whole e ns (and_parts _ _ t).1 (λ x i. a x (Contains-append_right (names b) (names e) x i))))

@@ -3,3 +3,4 @@ pub mod Unfinished
 pub mod Nodes
 pub mod Reductions
 pub mod Pairs
+pub mod Connectives

@@ -7,6 +7,7 @@ use Rattle.calc_room.specs.Counts.{counted}
 use Rattle.calc_room.specs.Spans.{SpansTree}
 use Rattle.calc_measures.specs.PlainOverflows.{is_overflow, nodes_to_overflow}
 use Rattle.calc_measures.specs.PlainValues.{plain_value}
+use Rattle.calc_terms.specs.Limits.{bits_limit}
 use Rattle.calc_terms.specs.Trees.{Tree, undef, is_undef, names, nodes}
 use Rattle.reduce_walk.specs.Leaves.{is_leaf}
 use Rattle.rational128.specs.declared.overflow.Overflow.{Overflow}
@@ -38,8 +39,8 @@ pub record IsReducedFrom (t answer : Tree) : Type 0 where
 abbrev pub MayLack : Tree → ℕ → Type 0
 MayLack t bytes = all_simple t ≡ true → bytes < room t
 
--- an operation that does not fit at one of the tree's nodes: the one of its plain value, at the node that this tells, in a tree of more than 124 bits
+-- an operation that does not fit at one of the tree's nodes: the one of its plain value, at the node that this tells, in a tree of more bits than the limit
 pub record MayOverflow (t : Tree) (place : ℕ) (o : Overflow) : Type 0 where
   pub plain : IsPlainOverflow (plain_value t) o
   pub at_its_node : is_overflow (plain_value t) ≡ true → place ≡ nodes_to_overflow t
-  pub beyond_bits : 124 < bits t
+  pub beyond_bits : bits_limit < bits t

@@ -6,15 +6,15 @@ use Rattle.calc_terms.specs.Fractions.{whole_fraction}
 use Rattle.calc_terms.specs.Trees.{Tree, num, add, mult, power, Trees, none, more, count}
 use Rattle.node_bounds.specs.HandedOn.{HandsOn}
 use Rattle.node_bounds.specs.Answers.{IsReducedPower}
-use Rattle.node_bounds.specs.Bits.{AddsCounts}
 use Rattle.power_reduce.specs.Bits.{IsHeldAsPowerOf}
-use Rattle.node_bounds.specs.Rooms.{KeepsRoom, KeepsSumRoom, IsRewritten, power_count}
+use Rattle.node_bounds.specs.Rooms.{KeepsRoom, IsRewritten, power_count}
 use Rattle.power_reduce.specs.PowerAnswers.{base_in, exponent_in}
 use Rattle.product_reduce.specs.Answers.{IsFinished}
 use Rattle.product_reduce.specs.Gathering.{IsGathered}
 use Rattle.product_reduce.specs.Joining.{exponent_of}
 use Rattle.product_reduce.specs.Neighbours.{IsPairAt, joined_pair}
 use Rattle.calc_algebra.specs.Rewritings.{Rewrites, Reduces}
+use Rattle.sum_reduce.specs.Bounds.{KeepsSumBounds}
 use Rattle.sum_reduce.specs.SumAnswers.{IsSumAnswer}
 use Rattle.tree_handles.specs.Expressions.{nth, children_of}
 use Rattle.tree_handles.specs.Holes.{set_tree}
@@ -85,8 +85,7 @@ pub record Finishes (t r : Tree) : Type 0 where
 pub record IsSettled (at : ℕ) (ts : Trees) (t : Tree) : Type 0 where
   pub exponent : Tree
   pub sum : IsSumAnswer (children_of (exponent_in (nth at ts))) exponent
-  pub room : KeepsSumRoom (children_of (exponent_in (nth at ts))) exponent
-  pub counts : AddsCounts (children_of (exponent_in (nth at ts))) exponent
+  pub bounds : KeepsSumBounds (children_of (exponent_in (nth at ts))) exponent
   pub factor : Tree
   pub answer : IsReducedPower (base_in (nth at ts)) exponent factor
   pub is : t ≡ mult (set_tree at factor ts)

@@ -8,7 +8,7 @@ ghost use Rattle.tree_handles.specs.Lacking.{LacksBelow};
 ghost use Rattle.tree_room.specs.Handed.{sum_count};
 ghost use Rattle.tree_room.specs.Needs.{sum_room};
 ghost use Rattle.power_reduce.specs.PowerAnswers.{base_in, exponent_in};
-ghost use Rattle.node_bounds.specs.Bits.{HasFewBits};
+ghost use Rattle.tree_bits.specs.Rows.{AreFewBits};
 ghost use Rattle.tree_bits.specs.Children.{IsSumHeld, addends_of_each};
 ghost use Rattle.tree_handles.specs.Causes.{IsCaused};
 ghost use Rattle.calc_algebra.specs.Reduced.{are_reduced};
@@ -38,7 +38,7 @@ pub(crate) fn sum_exponent(pool: &mut Pool, power: Handle) -> Result<Handle, Num
     ensures caused { IfErr result (IsCaused pool.new) }
     ensures room { (gs : List ℕ) → SpansTree gs (tree_of power pool.old)
         → let t = tree_of power pool.old in IfErr result (LacksBelow (8 + size (base_in t) + sum_room (sum_count (children_of (exponent_in t))) (2 ^ length gs)) (free_of pool.old + size t)) }
-    ensures bits { (h l : ℕ) → IsSumHeld (addends_of_each (children_of (exponent_in (tree_of power pool.old)))) h l → HasFewBits h l → IfErr result (OfOverflow (λ o. ⊥)) }
+    ensures bits { (h l : ℕ) → IsSumHeld (addends_of_each (children_of (exponent_in (tree_of power pool.old)))) h l → AreFewBits h l → IfErr result (OfOverflow (λ o. ⊥)) }
     ensures stands { Stands pool.new }
 {
     let (hole, exponent) = open_child(pool, &power, 1);

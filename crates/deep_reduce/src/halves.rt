@@ -6,7 +6,7 @@ ghost use Rattle.calc_room.specs.Counts.{counted};
 ghost use Rattle.calc_room.specs.Spans.{SpansTree};
 ghost use Rattle.node_pool.specs.State.{free_of};
 ghost use Rattle.calc_terms.specs.Fractions.{whole_fraction};
-ghost use Rattle.node_bounds.specs.Bits.{HasFewBits};
+ghost use Rattle.tree_bits.specs.Rows.{AreFewBits};
 ghost use Rattle.node_bounds.specs.Rooms.{SpansRootOf};
 ghost use Rattle.number_forms.specs.Readers.{numerator};
 ghost use Rattle.power_reduce.specs.Bits.{IsHeldAsPowerOf, HasFewBitsRaised};
@@ -67,7 +67,7 @@ pub(crate) fn reduce_half_power(pool: &mut Pool, power: Handle) -> Result<Handle
     ensures caused { IfErr result (IsCaused pool.new) }
     ensures room { (gs : List ℕ) → SpansRootOf gs (base_in (tree_of power pool.old))
         → IfErr result (LacksBelow (power_room (1 + counted (base_in (tree_of power pool.old))) (2 ^ length gs)) (free_of pool.old + size (tree_of power pool.old))) }
-    ensures bits { (h l : ℕ) → (h ≡ 0 → l ≡ 0) → IsFactorHeld (base_in (tree_of power pool.old)) h l → HasFewBits h l → HasFewBitsRaised (numerator (exponent_in (tree_of power pool.old))) h l
+    ensures bits { (h l : ℕ) → (h ≡ 0 → l ≡ 0) → IsFactorHeld (base_in (tree_of power pool.old)) h l → AreFewBits h l → HasFewBitsRaised (numerator (exponent_in (tree_of power pool.old))) h l
         → IfErr result (OfOverflow (λ o. ⊥)) }
     ensures stands { Stands pool.new }
 {
@@ -93,7 +93,7 @@ fn reduce_base(pool: &mut Pool, power: Handle) -> Result<Handle, NumberFault>
     ensures faults { IfErr result (Faults pool.old pool.new) }
     ensures caused { IfErr result (IsCaused pool.new) }
     ensures room { IfErr result (LacksBelow (96 + size (tree_of power pool.old)) (free_of pool.old + size (tree_of power pool.old))) }
-    ensures bits { (h l : ℕ) → IsFactorHeld (argument_of (base_in (tree_of power pool.old))) h l → HasFewBits h l → IfErr result (OfOverflow (λ o. ⊥)) }
+    ensures bits { (h l : ℕ) → IsFactorHeld (argument_of (base_in (tree_of power pool.old))) h l → AreFewBits h l → IfErr result (OfOverflow (λ o. ⊥)) }
     ensures stands { Stands pool.new }
 {
     let (hole, root) = open_child(pool, &power, 0);

@@ -1,6 +1,7 @@
 //! Whole trees reduced, in a pool.
 #![tactic(auto)]
 
+mod connective;
 mod differences;
 mod driver;
 mod exponents;

@@ -1,19 +1,20 @@
 //! One node whose children are reduced.
 ghost use Rattle.std.specs.Prelude.{ℕ, List, length, ◌≡◌, ◌<◌, ◌+◌, ◌^◌, nat_abs, true, false, IfOk, IfErr, OnOk, [], ◌∷◌};
+ghost use Rattle.calc_terms.specs.Limits.{number_limit};
 ghost use Rattle.calc_terms.specs.Fractions.{whole_fraction};
 ghost use Rattle.calc_terms.specs.Rat.{value_of};
-ghost use Rattle.calc_terms.specs.Trees.{num, is_add, is_mult, has_undef, size};
+ghost use Rattle.calc_terms.specs.Trees.{num, has_undef, size};
 ghost use Rattle.calc_room.specs.Spans.{SpansTree};
-ghost use Rattle.node_bounds.specs.Bits.{HasFewBits};
+ghost use Rattle.tree_bits.specs.Rows.{AreFewBits};
 ghost use Rattle.node_bounds.specs.NodeBits.{HoldsNode};
-ghost use Rattle.node_bounds.specs.NodeRooms.{HasNodesFor, SpansNode, factors_room};
+ghost use Rattle.node_bounds.specs.NodeRooms.{HasNodesFor, SpansNode};
+ghost use Rattle.deep_reduce.specs.Connectives.{joined_by, joined_room};
 ghost use Rattle.deep_reduce.specs.Nodes.{IsNodeAnswer, IsNodeOverflow};
 ghost use Rattle.node_bounds.specs.Rooms.{IsCalmAtZero, SpansRootOf};
 ghost use Rattle.node_pool.specs.State.{free_of};
 ghost use Rattle.tree_handles.specs.Lacking.{LacksBelow};
 ghost use Rattle.power_reduce.specs.PowerAnswers.{base_in, exponent_in};
-ghost use Rattle.tree_room.specs.Handed.{sum_count};
-ghost use Rattle.tree_room.specs.Needs.{simple_room, sum_room};
+ghost use Rattle.tree_room.specs.Needs.{simple_room};
 ghost use Rattle.tree_handles.specs.Causes.{IsCaused};
 ghost use Rattle.calc_algebra.specs.Reduced.{are_reduced, is_half_num};
 ghost use Rattle.tree_handles.specs.Handed.{tree_of, IsHanded, Ends, Gives, KeepsFront};
@@ -23,7 +24,8 @@ ghost use Rattle.tree_handles.specs.Inside.{tree_at};
 ghost use Rattle.tree_handles.specs.Roots.{root_tree, without_root};
 ghost use Rattle.tree_handles.specs.Standing.{Stands, forest, KeepsRefusals};
 
-use crate::differences::{divide, negate, subtract};
+use crate::connective::Connective;
+use crate::differences::{negate, reduce_sides};
 use crate::folding::folded;
 use crate::whole::{reduce_power, reduce_product};
 use calc_terms::{Kind, Rat};
@@ -54,7 +56,7 @@ pub(crate) fn reduce_node(pool: &mut Pool, tree: Handle) -> Result<Handle, Numbe
         → IfErr result (LacksBelow (simple_room n (2 ^ length gs)) (free_of pool.old + size (tree_of tree pool.old))) }
 
     // Where few bits hold the node, nothing overflows.
-    ensures bits { (h l : ℕ) → (has_undef (children_of (tree_of tree pool.old)) ≡ false → HoldsNode (tree_of tree pool.old) h l) → HasFewBits h l → IfOverflow result (λ o. ⊥) }
+    ensures bits { (h l : ℕ) → (has_undef (children_of (tree_of tree pool.old)) ≡ false → HoldsNode (tree_of tree pool.old) h l) → AreFewBits h l → IfOverflow result (λ o. ⊥) }
 
     ensures stands { Stands pool.new }
 {
@@ -62,63 +64,46 @@ pub(crate) fn reduce_node(pool: &mut Pool, tree: Handle) -> Result<Handle, Numbe
         return put(pool, tree, value);
     }
     match kind(pool, tree.id()) {
-        Kind::Add => add_up(pool, tree),
-        Kind::Mult => multiply(pool, tree),
+        Kind::Add => reduce_joined(pool, Connective::Sum, tree),
+        Kind::Mult => reduce_joined(pool, Connective::Product, tree),
         Kind::Pow => reduce_power(pool, tree),
         Kind::Root => reduce_root(pool, tree),
         Kind::Neg => negate(pool, tree),
-        Kind::Sub => subtract(pool, tree),
-        Kind::Div => divide(pool, tree),
+        Kind::Sub => reduce_sides(pool, Connective::Sum, tree),
+        Kind::Div => reduce_sides(pool, Connective::Product, tree),
         _ => Ok(tree),
     }
 }
 
-/// A sum of reduced terms: 0 where there is none.
-#[tactic(auto, using(tree_handles::proofs::Seen::live, crate::proofs::Lacking::result_lacks, node_bounds::proofs::NodeBytes::number_fits_sum))]
-pub(crate) fn add_up(pool: &mut Pool, sum: Handle) -> Result<Handle, NumberFault>
+/// A sum or a product of reduced children: 0 or 1 where there are none.
+#[tactic(auto, using(tree_handles::proofs::Seen::live, crate::proofs::Lacking::result_lacks, crate::proofs::Connected::empty_room, crate::proofs::Connected::neutral_fits))]
+pub(crate) fn reduce_joined(
+    pool: &mut Pool,
+    connective: Connective,
+    node: Handle,
+) -> Result<Handle, NumberFault>
     requires stands { Stands pool.old }
-    requires handed { IsHanded sum (forest pool.old) }
-    requires sum { is_add (tree_of sum pool.old) ≡ true }
-    requires reduced { are_reduced (children_of (tree_of sum pool.old)) ≡ true }
-    ensures ok { IfOk result (λ h. Gives (without_root sum (forest pool.old)) (forest pool.new) h (IsNodeAnswer (tree_of sum pool.old))) }
-    ensures overflow { IfOverflow result (IsNodeOverflow (tree_of sum pool.old)) }
-    ensures front { KeepsFront (sum ∷ []) (forest pool.old) (forest pool.new) }
+    requires handed { IsHanded node (forest pool.old) }
+    requires joined { tree_of node pool.old ≡ joined_by connective (children_of (tree_of node pool.old)) }
+    requires reduced { are_reduced (children_of (tree_of node pool.old)) ≡ true }
+    ensures ok { IfOk result (λ h. Gives (without_root node (forest pool.old)) (forest pool.new) h (IsNodeAnswer (tree_of node pool.old))) }
+    ensures overflow { IfOverflow result (IsNodeOverflow (tree_of node pool.old)) }
+    ensures front { KeepsFront (node ∷ []) (forest pool.old) (forest pool.new) }
     ensures kept { OnOk result (KeepsRefusals pool.old pool.new) }
     ensures faults { IfErr result (Faults pool.old pool.new) }
     ensures caused { IfErr result (IsCaused pool.new) }
-    ensures room { (gs : List ℕ) → SpansTree gs (tree_of sum pool.old)
-        → IfErr result (LacksBelow (sum_room (sum_count (children_of (tree_of sum pool.old))) (2 ^ length gs)) (free_of pool.old + size (tree_of sum pool.old))) }
-    ensures bits { (h l : ℕ) → (has_undef (children_of (tree_of sum pool.old)) ≡ false → HoldsNode (tree_of sum pool.old) h l) → HasFewBits h l → IfOverflow result (λ o. ⊥) }
+    ensures room { let t = tree_of node pool.old in (gs : List ℕ) (ns : List (List ℕ)) → IsCalmAtZero ns t → SpansTree gs t
+        → IfErr result (LacksBelow (joined_room connective (children_of t) (2 ^ length gs)) (free_of pool.old + size t)) }
+    ensures bits { (h l : ℕ) → (has_undef (children_of (tree_of node pool.old)) ≡ false → HoldsNode (tree_of node pool.old) h l) → AreFewBits h l → IfOverflow result (λ o. ⊥) }
     ensures stands { Stands pool.new }
 {
-    if children(pool, sum.id()) == 0 {
-        return whole(pool, sum, 0);
+    if children(pool, node.id()) == 0 {
+        return whole(pool, node, connective.neutral());
     }
-    reduce_sum(pool, sum)
-}
-
-/// A product of reduced factors: 1 where there is none.
-#[tactic(auto, using(tree_handles::proofs::Seen::live, crate::proofs::Lacking::result_lacks, node_bounds::proofs::NodeBytes::no_factors))]
-pub(crate) fn multiply(pool: &mut Pool, product: Handle) -> Result<Handle, NumberFault>
-    requires stands { Stands pool.old }
-    requires handed { IsHanded product (forest pool.old) }
-    requires product { is_mult (tree_of product pool.old) ≡ true }
-    requires reduced { are_reduced (children_of (tree_of product pool.old)) ≡ true }
-    ensures ok { IfOk result (λ h. Gives (without_root product (forest pool.old)) (forest pool.new) h (IsNodeAnswer (tree_of product pool.old))) }
-    ensures overflow { IfOverflow result (IsNodeOverflow (tree_of product pool.old)) }
-    ensures front { KeepsFront (product ∷ []) (forest pool.old) (forest pool.new) }
-    ensures kept { OnOk result (KeepsRefusals pool.old pool.new) }
-    ensures faults { IfErr result (Faults pool.old pool.new) }
-    ensures caused { IfErr result (IsCaused pool.new) }
-    ensures room { (gs : List ℕ) (ns : List (List ℕ)) → IsCalmAtZero ns (tree_of product pool.old) → SpansTree gs (tree_of product pool.old)
-        → IfErr result (LacksBelow (factors_room (children_of (tree_of product pool.old)) (2 ^ length gs)) (free_of pool.old + size (tree_of product pool.old))) }
-    ensures bits { (h l : ℕ) → (has_undef (children_of (tree_of product pool.old)) ≡ false → HoldsNode (tree_of product pool.old) h l) → HasFewBits h l → IfOverflow result (λ o. ⊥) }
-    ensures stands { Stands pool.new }
-{
-    if children(pool, product.id()) == 0 {
-        return whole(pool, product, 1);
+    match connective {
+        Connective::Sum => reduce_sum(pool, node),
+        Connective::Product => reduce_product(pool, node),
     }
-    reduce_product(pool, product)
 }
 
 /// A rational in the place of a tree.
@@ -142,7 +127,7 @@ fn put(pool: &mut Pool, tree: Handle, value: Rat) -> Result<Handle, NumberFault>
 fn whole(pool: &mut Pool, tree: Handle, n: i128) -> Result<Handle, NumberFault>
     requires stands { Stands pool.old }
     requires handed { IsHanded tree (forest pool.old) }
-    requires fits { nat_abs n < 2 ^ 127 }
+    requires fits { nat_abs n < number_limit }
     ensures ok { IfOk result (λ h. Gives (without_root tree (forest pool.old)) (forest pool.new) h (λ t. t ≡ num (whole_fraction n))) }
     ensures overflow { IfOverflow result (λ o. ⊥) }
     ensures front { KeepsFront (tree ∷ []) (forest pool.old) (forest pool.new) }

@@ -7,7 +7,7 @@ ghost use Rattle.calc_terms.specs.Trees.{Tree, Trees, mult, count, is_mult, is_n
 ghost use Rattle.calc_room.specs.Counts.{counted};
 ghost use Rattle.calc_room.specs.Spans.{SpansTree};
 ghost use Rattle.calc_terms.specs.Fractions.{whole_fraction};
-ghost use Rattle.node_bounds.specs.Bits.{HasFewBits};
+ghost use Rattle.tree_bits.specs.Rows.{AreFewBits};
 ghost use Rattle.number_forms.specs.Readers.{numerator};
 ghost use Rattle.power_reduce.specs.Bits.{HasFewBitsRaised};
 ghost use Rattle.product_reduce.specs.Bits.{IsFactorHeld, AreFactorsHeld};
@@ -70,7 +70,7 @@ pub fn reduce_product(pool: &mut Pool, product: Handle) -> Result<Handle, Number
         → IfErr result (LacksBelow (product_room (product_count (children_of (tree_of product pool.old))) (2 ^ length gs)) (free_of pool.old + size (tree_of product pool.old))) }
 
     // Where few bits hold the factors one by one, nothing overflows.
-    ensures bits { (h l : ℕ) → AreFactorsHeld (children_of (tree_of product pool.old)) h l → HasFewBits h l → IfErr result (OfOverflow (λ o. ⊥)) }
+    ensures bits { (h l : ℕ) → AreFactorsHeld (children_of (tree_of product pool.old)) h l → AreFewBits h l → IfErr result (OfOverflow (λ o. ⊥)) }
 
     ensures stands { Stands pool.new }
 {
@@ -101,7 +101,7 @@ fn join_pairs(pool: &mut Pool, product: Handle, first: u16) -> Result<Handle, Nu
     ensures caused { IfErr result (IsCaused pool.new) }
     ensures room { (gs : List ℕ) (ns : List (List ℕ)) → IsCalmAtZero ns (tree_of product pool.old) → SpansTree gs (tree_of product pool.old)
         → IfErr result (LacksBelow (product_room (product_count (children_of (tree_of product pool.old))) (2 ^ length gs)) (free_of pool.old + size (tree_of product pool.old))) }
-    ensures bits { (h l : ℕ) → AreFactorsHeld (children_of (tree_of product pool.old)) h l → HasFewBits h l → IfErr result (OfOverflow (λ o. ⊥)) }
+    ensures bits { (h l : ℕ) → AreFactorsHeld (children_of (tree_of product pool.old)) h l → AreFewBits h l → IfErr result (OfOverflow (λ o. ⊥)) }
     ensures stands { Stands pool.new }
 {
     let mut joined = join_two(pool, product, first)?;
@@ -134,7 +134,7 @@ fn join_two(pool: &mut Pool, product: Handle, at: u16) -> Result<Handle, NumberF
     ensures caused { IfErr result (IsCaused pool.new) }
     ensures room { (gs : List ℕ) (ns : List (List ℕ)) → IsCalmAtZero ns (tree_of product pool.old) → SpansTree gs (tree_of product pool.old)
         → IfErr result (LacksBelow (product_room (product_count (children_of (tree_of product pool.old))) (2 ^ length gs)) (free_of pool.old + size (tree_of product pool.old))) }
-    ensures bits { (h l : ℕ) → AreFactorsHeld (children_of (tree_of product pool.old)) h l → HasFewBits h l → IfErr result (OfOverflow (λ o. ⊥)) }
+    ensures bits { (h l : ℕ) → AreFactorsHeld (children_of (tree_of product pool.old)) h l → AreFewBits h l → IfErr result (OfOverflow (λ o. ⊥)) }
     ensures stands { Stands pool.new }
 {
     let joined = join_neighbours(pool, product, at)?;
@@ -156,7 +156,7 @@ fn reduce_joint(pool: &mut Pool, product: Handle, at: u16) -> Result<Handle, Num
     ensures caused { IfErr result (IsCaused pool.new) }
     ensures room { (gs : List ℕ) (ns : List (List ℕ)) (ts : Trees) → IsJoinedFrom at ts (children_of (tree_of product pool.old)) → IsCalmAtZero ns (mult ts) → SpansTree gs (mult ts)
         → IfErr result (LacksBelow (product_room (product_count ts) (2 ^ length gs)) (free_of pool.old + size (tree_of product pool.old))) }
-    ensures bits { (h l : ℕ) (ts : Trees) → IsJoinedFrom at ts (children_of (tree_of product pool.old)) → AreFactorsHeld ts h l → HasFewBits h l → IfErr result (OfOverflow (λ o. ⊥)) }
+    ensures bits { (h l : ℕ) (ts : Trees) → IsJoinedFrom at ts (children_of (tree_of product pool.old)) → AreFactorsHeld ts h l → AreFewBits h l → IfErr result (OfOverflow (λ o. ⊥)) }
     ensures stands { Stands pool.new }
 {
     let (hole, joint) = open_child(pool, &product, at);
@@ -199,7 +199,7 @@ pub fn reduce_power(pool: &mut Pool, power: Handle) -> Result<Handle, NumberFaul
     // Where the power n of what holds the base has few bits, nothing overflows; for n/2 as the exponent, where the base has few bits too.
     ensures bits { (n : ℤ) (h l : ℕ) → exponent_in (tree_of power pool.old) ≡ num (whole_fraction n) → IsFactorHeld (base_in (tree_of power pool.old)) h l → HasFewBitsRaised n h l
         → IfErr result (OfOverflow (λ o. ⊥)) }
-    ensures root_bits { (h l : ℕ) → is_half_num (exponent_in (tree_of power pool.old)) ≡ true → (h ≡ 0 → l ≡ 0) → IsFactorHeld (base_in (tree_of power pool.old)) h l → HasFewBits h l
+    ensures root_bits { (h l : ℕ) → is_half_num (exponent_in (tree_of power pool.old)) ≡ true → (h ≡ 0 → l ≡ 0) → IsFactorHeld (base_in (tree_of power pool.old)) h l → AreFewBits h l
         → HasFewBitsRaised (numerator (exponent_in (tree_of power pool.old))) h l → IfErr result (OfOverflow (λ o. ⊥)) }
 
     ensures stands { Stands pool.new }

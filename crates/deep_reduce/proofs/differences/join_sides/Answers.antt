@@ -1,79 +1,70 @@
-use Rattle.std.proofs.Common.{◌≡◌, ◌⊎◌, ℕ, length, ◌<◌, ◌+◌, ◌^◌, rules, true, inl, inr, refl, sym, ap, ◌∙◌, subst, arith}
-use Rattle.deep_reduce.proofs.Shared.{is_reduced, are_reduced, SpansTree, bare, size_of_payload, Tree, size, has_undef, factors_room, IsCalmAtZero, HoldsNode, both_replaced_free, refused_below, passed_on, sum_count, sum_room, Kind, State, free_of, Gives, tree_of, without_root, forest, children_of, compound, takes_kind, gives, given_other, given_rest, given_told, represents_handed}
+use Rattle.std.proofs.Common.{◌≡◌, false, length, ◌<◌, ◌+◌, ◌^◌, rules, sym, ap, ◌∙◌, subst, refl, arith}
+use Rattle.deep_reduce.proofs.Shared.{are_reduced, SpansTree, bare, size_of_payload, Tree, Trees, Kind, size, has_undef, takes_kind, IsCalmAtZero, HoldsNode, both_replaced_free, refused_below, passed_on, free_of, Gives, tree_of, without_root, forest, children_of, compound, gives, given_handed, given_other, given_rest, given_told, represents_handed, joined_by, joined_room}
+use Rattle.deep_reduce.proofs.Connected.{children_joined, joined_lacks, takes_two}
 use Rattle.deep_reduce.proofs.Lacking.{result_lacks}
-use Rattle.node_bounds.proofs.NodeBytes.{sum_node_lacks, product_node_lacks}
 use Rattle.deep_reduce.proofs.Results.{answer_as, overflow_as}
 use Rattle.deep_reduce.proofs.Sides.{apart_second, joined_front}
 use Rattle.deep_reduce.proofs.Steps.{two}
 use Rattle.deep_reduce.proofs.Told.{answer_at, overflow_at, two_reduced}
 use Rattle.tree_handles.specs.declared.fault.NumberFault.TheVariants as fault
-use Rattle.calc_terms.specs.declared.kind.Kind.TheVariants as kind
+use Rattle.deep_reduce.proofs.differences.join_sides.Goals.{After-kind, In_ok-both}
 use Rattle.deep_reduce.proofs.differences.join_sides.Goals as goal
 
-abbrev sides : Kind → ℕ → ℕ → State → Tree
-sides k i j s = compound k (two (tree_of i s) (tree_of j s))
+-- the right side stands last
+last : (c : After-kind) → Gives (without_root c.args.right (forest c.args.pool.now)) (forest c.args.pool.now) c.args.right (λ t. t ≡ tree_of c.args.right c.args.pool.now)
+last c = gives c.requires.last (represents_handed c.requires.handed) refl
 
-takes_two : {k : Kind} → (k ≡ kind.Add) ⊎ (k ≡ kind.Mult) → takes_kind k 2 ≡ true
-takes_two (inl q) = ap (λ (x : Kind). takes_kind x 2) q
-takes_two (inr q) = ap (λ (x : Kind). takes_kind x 2) q
+-- the new node
+is : (c : In_ok-both) → tree_of c.in_ok-both.both c.node_over_two.new.pool ≡ joined_by c.args.connective (two (tree_of c.args.left c.args.pool.now) (tree_of c.args.right c.args.pool.now))
+is c = given_told c.in_ok-both.ensures.ok ∙ ap (λ (k : Kind). compound k (two (tree_of c.args.left c.args.pool.now) (tree_of c.args.right c.args.pool.now))) c.kind.ensures
 
-below_node : {n : ℕ} (k : Kind) → (k ≡ kind.Add) ⊎ (k ≡ kind.Mult) → n < size_of_payload (bare k) → n < 8
-below_node {n} k (inl q) l = subst (λ (x : Kind). n < size_of_payload (bare x)) q l
-below_node {n} k (inr q) l = subst (λ (x : Kind). n < size_of_payload (bare x)) q l
-
--- what is known of both sides under a node
-known : {k : Kind} {t : Tree} (a b : Tree) → (k ≡ kind.Add) ⊎ (k ≡ kind.Mult) → t ≡ compound k (two a b) → is_reduced a ≡ true → is_reduced b ≡ true → are_reduced (children_of t) ≡ true
-known {k = k} a b h e r s = ap are_reduced (ap children_of e ∙ under h) ∙ two_reduced a b r s
-  where
-    under : (k ≡ kind.Add) ⊎ (k ≡ kind.Mult) → children_of (compound k (two a b)) ≡ two a b
-    under (inl q) = ap (λ (x : Kind). children_of (compound x (two a b))) q
-    under (inr q) = ap (λ (x : Kind). children_of (compound x (two a b))) q
+children : (c : In_ok-both) → children_of (tree_of c.in_ok-both.both c.node_over_two.new.pool) ≡ two (tree_of c.args.left c.args.pool.now) (tree_of c.args.right c.args.pool.now)
+children c = ap children_of (is c) ∙ children_joined c.args.connective (two (tree_of c.args.left c.args.pool.now) (tree_of c.args.right c.args.pool.now))
 
 pub node_over_two-requires : goal.node_over_two-requires
 node_over_two-requires c =
-    let r : Gives (without_root c.args.right (forest c.args.pool.now)) (forest c.args.pool.now) c.args.right (λ t. t ≡ tree_of c.args.right c.args.pool.now) = gives c.requires.last (represents_handed c.requires.handed) refl in
-    record { stands = c.requires.stands; takes = takes_two c.requires.kind; first = given_other r c.requires.left; second = c.requires.handed; apart = apart_second r c.requires.left }
-
-pub returns-in-Add : goal.returns-in-Add
-returns-in-Add c =
+    let r = last (goal.at.node_over_two-requires c).After-kind in
     record {
-      ok = answer_as _ _ c.add_up.new.pool _ _ _ c.add_up.ensures.ok (given_rest c.in_ok-both.ensures.ok) (λ u h. answer_at u (given_told c.in_ok-both.ensures.ok) h);
-      overflow = overflow_as _ _ _ c.add_up.ensures.overflow (λ o h. overflow_at o (given_told c.in_ok-both.ensures.ok) h);
-      front = joined_front c.node_over_two.ensures.front c.in_ok-both.ensures.ok c.add_up.ensures.front;
+      stands = c.requires.stands;
+      takes = ap (λ (k : Kind). takes_kind k 2) c.kind.ensures ∙ takes_two c.args.connective;
+      first = given_other r c.requires.left;
+      second = c.requires.handed;
+      apart = apart_second r c.requires.left;
+    }
+
+pub reduce_joined-requires : goal.reduce_joined-requires
+reduce_joined-requires c =
+    let n = (goal.at.reduce_joined-requires c).In_ok-both in
+    record {
+      stands = search rules;
+      handed = given_handed c.in_ok-both.ensures.ok;
+      joined = is n ∙ ap (joined_by c.args.connective) (sym (children n));
+      reduced = ap are_reduced (children n) ∙ two_reduced _ _ c.requires.left_reduced c.requires.right_reduced;
+    }
+
+pub returns : goal.returns
+returns c =
+    let n = (goal.at.returns c).In_ok-both in
+    let g = c.in_ok-both.ensures.ok in
+    let r = last (goal.at.returns c).After-kind in
+    let both = both_replaced_free c.requires.stands c.in_ok-both.ensures.stands c.in_ok-both.ensures.kept (apart_second r c.requires.left) (given_other r c.requires.left) c.requires.handed g in
+    let w : Tree = tree_of c.in_ok-both.both c.node_over_two.new.pool in
+    record {
+      ok = answer_as _ _ c.reduce_joined.new.pool _ _ _ c.reduce_joined.ensures.ok (given_rest g) (λ u h. answer_at u (is n) h);
+      overflow = overflow_as _ _ _ c.reduce_joined.ensures.overflow (λ o h. overflow_at o (is n) h);
+      front = joined_front c.node_over_two.ensures.front g c.reduce_joined.ensures.front;
       kept = search rules;
       faults = search rules;
       caused = search rules;
-      sum_room = λ gs q s. let r : Gives (without_root c.args.right (forest c.args.pool.now)) (forest c.args.pool.now) c.args.right (λ t. t ≡ tree_of c.args.right c.args.pool.now) = gives c.requires.last (represents_handed c.requires.handed) refl in let n = c.in_ok-both.ensures.ok in let e = given_told n ∙ ap (λ (k : Kind). sides k c.args.left c.args.right c.args.pool.now) q in let both = both_replaced_free c.requires.stands c.in_ok-both.ensures.stands c.in_ok-both.ensures.kept (apart_second r c.requires.left) (given_other r c.requires.left) c.requires.handed n in let w : Tree = tree_of c.in_ok-both.both c.node_over_two.new.pool in result_lacks c.add_up.result (c.add_up.ensures.room gs (subst (SpansTree gs) (sym e) s)) (λ l. omega (arith, subst (λ (x : Tree). free_of c.node_over_two.new.pool + size w < sum_room (sum_count (children_of x)) (2 ^ length gs)) e l, both));
-      product_room = λ gs ns q k s. absurd (cc (sym q ∙ c.in-Add.is));
-      sum_bits = λ h l q k few. let e = given_told c.in_ok-both.ensures.ok ∙ ap (λ (k : Kind). sides k c.args.left c.args.right c.args.pool.now) q in c.add_up.ensures.bits h l (λ d. subst (λ (x : Tree). HoldsNode x h l) (sym e) (k (sym (ap (λ (x : Tree). has_undef (children_of x)) e) ∙ d))) few;
-      product_bits = λ h l q k few. absurd (cc (sym q ∙ c.in-Add.is));
+      room = λ gs ns k s.
+          result_lacks c.reduce_joined.result (c.reduce_joined.ensures.room gs ns (subst (IsCalmAtZero ns) (sym (is n)) k) (subst (SpansTree gs) (sym (is n)) s))
+          (λ l. omega (arith, subst (λ (x : Trees). free_of c.node_over_two.new.pool + size w < joined_room c.args.connective x (2 ^ length gs)) (children n) l, both));
+      bits = λ h l k few. c.reduce_joined.ensures.bits h l (subst (λ (x : Tree). has_undef (children_of x) ≡ false → HoldsNode x h l) (sym (is n)) k) few;
       stands = search rules;
     }
 
-pub returns-in_default : goal.returns-in_default
-returns-in_default c =
-    record {
-      ok = answer_as _ _ c.multiply.new.pool _ _ _ c.multiply.ensures.ok (given_rest c.in_ok-both.ensures.ok) (λ u h. answer_at u (given_told c.in_ok-both.ensures.ok) h);
-      overflow = overflow_as _ _ _ c.multiply.ensures.overflow (λ o h. overflow_at o (given_told c.in_ok-both.ensures.ok) h);
-      front = joined_front c.node_over_two.ensures.front c.in_ok-both.ensures.ok c.multiply.ensures.front;
-      kept = search rules;
-      faults = search rules;
-      caused = search rules;
-      sum_room = λ gs q s. absurd (c.in_default.not-Add q);
-      product_room = λ gs ns q k s. let r : Gives (without_root c.args.right (forest c.args.pool.now)) (forest c.args.pool.now) c.args.right (λ t. t ≡ tree_of c.args.right c.args.pool.now) = gives c.requires.last (represents_handed c.requires.handed) refl in let n = c.in_ok-both.ensures.ok in let e = given_told n ∙ ap (λ (k : Kind). sides k c.args.left c.args.right c.args.pool.now) q in let both = both_replaced_free c.requires.stands c.in_ok-both.ensures.stands c.in_ok-both.ensures.kept (apart_second r c.requires.left) (given_other r c.requires.left) c.requires.handed n in let w : Tree = tree_of c.in_ok-both.both c.node_over_two.new.pool in result_lacks c.multiply.result (c.multiply.ensures.room gs ns (subst (IsCalmAtZero ns) (sym e) k) (subst (SpansTree gs) (sym e) s)) (λ l. omega (arith, subst (λ (x : Tree). free_of c.node_over_two.new.pool + size w < factors_room (children_of x) (2 ^ length gs)) e l, both));
-      sum_bits = λ h l q k few. absurd (c.in_default.not-Add q);
-      product_bits = λ h l q k few. let e = given_told c.in_ok-both.ensures.ok ∙ ap (λ (k : Kind). sides k c.args.left c.args.right c.args.pool.now) q in c.multiply.ensures.bits h l (λ d. subst (λ (x : Tree). HoldsNode x h l) (sym e) (k (sym (ap (λ (x : Tree). has_undef (children_of x)) e) ∙ d))) few;
-      stands = search rules;
-    }
-
--- ---- bytes at hand
-
-pub returns-in_err-both-clause-sum_room : goal.returns-in_err-both-clause-sum_room
-returns-in_err-both-clause-sum_room c = λ gs q s.
+pub returns-in_err-both-clause-room : goal.returns-in_err-both-clause-room
+returns-in_err-both-clause-room c = λ gs ns k s.
     passed_on c.from_residual.result (fault.Full c.in_err-both.field-0.0) _ c.from_residual.ensures.0 c.from_residual.ensures.1
-    (sum_node_lacks gs (two (tree_of c.args.left c.args.pool.now) (tree_of c.args.right c.args.pool.now)) (free_of c.args.pool.now) (two_reduced _ _ c.requires.left_reduced c.requires.right_reduced) s.1 (below_node c.args.kind c.requires.kind (refused_below c.in_err-both.ensures.full)))
-
-pub returns-in_err-both-clause-product_room : goal.returns-in_err-both-clause-product_room
-returns-in_err-both-clause-product_room c = λ gs ns q k s.
-    passed_on c.from_residual.result (fault.Full c.in_err-both.field-0.0) _ c.from_residual.ensures.0 c.from_residual.ensures.1
-    (product_node_lacks gs (two (tree_of c.args.left c.args.pool.now) (tree_of c.args.right c.args.pool.now)) (free_of c.args.pool.now) (two_reduced _ _ c.requires.left_reduced c.requires.right_reduced) s.1 (below_node c.args.kind c.requires.kind (refused_below c.in_err-both.ensures.full)))
+    (joined_lacks c.args.connective gs _ _ (free_of c.args.pool.now) c.requires.left_reduced c.requires.right_reduced s
+    (subst (λ (k : Kind). free_of c.args.pool.now < size_of_payload (bare k)) c.kind.ensures (refused_below c.in_err-both.ensures.full)))

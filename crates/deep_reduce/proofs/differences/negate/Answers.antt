@@ -1,6 +1,5 @@
-use Rattle.std.proofs.Common.{rules, length, ◌<◌, ◌+◌, ◌^◌, sym, ap, ◌∙◌, subst, arith}
-use Rattle.deep_reduce.proofs.Shared.{is_reduced, Tree, neg, count, size, is_undef, has_undef, counted, SpansTree, IsCalmAtZero, IsFactorHeld, free_of, replaced_free, product_room, keeps_after, tree_of, behind_first, behind_new, front_same, front_end, front_without, front_after_one, given_handed, given_told, given_rest, nth, children_of, parent_handed}
-use Rattle.node_bounds.proofs.NodeBits.{only_undef, holds_as}
+use Rattle.std.proofs.Common.{rules, length, ◌≡◌, false, ◌<◌, ◌+◌, ◌^◌, sym, ap, ◌∙◌, subst, arith}
+use Rattle.deep_reduce.proofs.Shared.{is_reduced, Tree, neg, count, size, has_undef, counted, SpansTree, IsCalmAtZero, HoldsNode, free_of, replaced_free, product_room, keeps_after, tree_of, behind_first, behind_new, front_same, front_end, front_without, front_after_one, given_handed, given_told, given_rest, nth, children_of, parent_handed}
 use Rattle.deep_reduce.proofs.Lacking.{result_lacks}
 use Rattle.node_bounds.proofs.NodeBytes.{negated_calm, negated_spans, negated_fits}
 use Rattle.deep_reduce.proofs.Parents.{alone_out, parent_children}
@@ -12,8 +11,8 @@ pub take_child-argument-requires-clause-within : goal.take_child-argument-requir
 take_child-argument-requires-clause-within c =
     omega (arith, parent_children c.requires.stands (parent_handed c.requires.handed), ap count (neg_children (tree_of c.args.opposite c.args.pool.now) c.requires.opposite))
 
-pub minus-requires : goal.minus-requires
-minus-requires c =
+pub turn-requires : goal.turn-requires
+turn-requires c =
     let t : Tree = tree_of c.args.opposite c.args.pool.now in
     let a = alone_out (nth 0 (children_of t)) c.requires.handed (neg_children t c.requires.opposite) (c.take_child-argument.ensures.last c.requires.handed.root) in
     record {
@@ -27,17 +26,18 @@ returns c =
     let t : Tree = tree_of c.args.opposite c.args.pool.now in
     let a = alone_out (nth 0 (children_of t)) c.requires.handed (neg_children t c.requires.opposite) (c.take_child-argument.ensures.last c.requires.handed.root) in
     let g = a.given (c.release.ensures.owned a.owned) in
+    let is = neg_is t c.requires.opposite in
+    let told = given_told g in
     let without = front_without behind_first front_same in
     record {
-      ok = answer_as _ _ c.minus.new.pool _ _ _ c.minus.ensures.ok (given_rest g) (λ u h. answer_at u (ap neg (given_told g) ∙ sym (neg_is t c.requires.opposite)) h);
-      overflow = overflow_as _ _ _ c.minus.ensures.overflow (λ o h. overflow_at o (ap neg (given_told g) ∙ sym (neg_is t c.requires.opposite)) h);
-      front = front_after_one (behind_new g.ends without) (front_end g.ends without) c.minus.ensures.front;
+      ok = answer_as _ _ c.turn.new.pool _ _ _ c.turn.ensures.ok (given_rest g) (λ u h. answer_at u (ap neg told ∙ sym is) h);
+      overflow = overflow_as _ _ _ c.turn.ensures.overflow (λ o h. overflow_at o (ap neg told ∙ sym is) h);
+      front = front_after_one (behind_new g.ends without) (front_end g.ends without) c.turn.ensures.front;
       room = λ gs ns n h k s.
-          let told = given_told g in
           let moved = replaced_free c.requires.stands c.release.ensures.stands (keeps_after _ _ _ c.take_child-argument.ensures.kept c.release.ensures.kept) c.requires.handed g in
-          result_lacks c.minus.result (c.minus.ensures.room gs ns (subst (IsCalmAtZero ns) (sym told) (negated_calm t (neg_is t c.requires.opposite) k)) (subst (SpansTree gs) (sym told) (negated_spans gs t (neg_is t c.requires.opposite) s)))
-          (λ l. omega (arith, subst (λ (x : Tree). free_of c.release.new.pool + size x < product_room (2 + counted x) (2 ^ length gs)) told l, moved, ap size told, negated_fits t n (2 ^ length gs) (neg_is t c.requires.opposite) h));
-      bits = λ h l k few. c.minus.ensures.bits h l (λ d. subst (λ (x : Tree). IsFactorHeld x h l) (sym (given_told g)) (holds_as h l (neg_is t c.requires.opposite) (k (ap has_undef (neg_children t c.requires.opposite) ∙ only_undef (nth 0 (children_of t)) (sym (ap is_undef (given_told g)) ∙ d))))) few;
+          result_lacks c.turn.result (c.turn.ensures.room gs ns (subst (IsCalmAtZero ns) (sym told) (negated_calm t is k)) (subst (SpansTree gs) (sym told) (negated_spans gs t is s)))
+          (λ l. omega (arith, subst (λ (x : Tree). free_of c.release.new.pool + size x < product_room (2 + counted x) (2 ^ length gs)) told l, moved, ap size told, negated_fits t n (2 ^ length gs) is h));
+      bits = λ h l k few. c.turn.ensures.bits h l (subst (λ (x : Tree). has_undef (children_of x) ≡ false → HoldsNode x h l) (is ∙ ap neg (sym told)) k) few;
       kept = search rules;
       faults = search rules;
       caused = search rules;

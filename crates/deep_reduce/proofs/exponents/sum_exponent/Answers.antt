@@ -1,6 +1,5 @@
 use Rattle.std.proofs.Common.{rules, ap, sym, ◌∙◌, refl, arith, subst}
-use Rattle.deep_reduce.proofs.Shared.{Tree, count, is_add, power, SpansTree, passed_on, forest, free_of, base_in, exponent_in, are_reduced, IsSumHeld, addends_of_each, are_counted, counts_of, counts_of_all, IsWithin, tree_of, IsSumAnswer, ChangesTree, changes_as, changes_last, changes_last_front, children_of, given_handed, given_told, hole_stays}
-use Rattle.node_bounds.proofs.JointRooms.{sum_keeps}
+use Rattle.deep_reduce.proofs.Shared.{Tree, count, is_add, power, SpansTree, passed_on, forest, free_of, base_in, exponent_in, are_reduced, IsSumHeld, addends_of_each, tree_of, IsSumAnswer, ChangesTree, changes_as, changes_last, changes_last_front, children_of, given_handed, given_told, hole_stays, KeepsSumBounds}
 use Rattle.deep_reduce.proofs.Lacking.{exponent_lacks, exponent_spans}
 use Rattle.deep_reduce.proofs.Children.{exponent_told, exponent_set, two_sides}
 use Rattle.deep_reduce.proofs.exponents.sum_exponent.Goals.{After-fill}
@@ -31,9 +30,12 @@ returns-in_err-sum c =
       faults = search rules;
       caused = search rules;
       room = λ gs s. passed_on c.from_residual.result c.in_err-sum.field-0.0 _ c.from_residual.ensures.0 c.from_residual.ensures.1
-          (exponent_lacks gs (tree_of c.args.power c.args.pool.now) x (free_of c.open_child-hole.new.pool) (free_of c.args.pool.now) c.in_err-sum.field-0.0 c.requires.power told c.open_child-hole.ensures.free
+          (exponent_lacks gs (tree_of c.args.power c.args.pool.now) x (free_of c.open_child-hole.new.pool)
+          (free_of c.args.pool.now) c.in_err-sum.field-0.0 c.requires.power told c.open_child-hole.ensures.free
           (c.in_err-sum.ensures.room gs (subst (SpansTree gs) (sym told) (exponent_spans gs _ c.requires.power s))));
-      bits = λ h l s few. passed_on c.from_residual.result c.in_err-sum.field-0.0 _ c.from_residual.ensures.0 c.from_residual.ensures.1 (c.in_err-sum.ensures.bits h l (subst (λ (t : Tree). IsSumHeld (addends_of_each (children_of t)) h l) (sym told) s) few);
+      bits = λ h l s few.
+          passed_on c.from_residual.result c.in_err-sum.field-0.0 _ c.from_residual.ensures.0 c.from_residual.ensures.1
+          (c.in_err-sum.ensures.bits h l (subst (λ (t : Tree). IsSumHeld (addends_of_each (children_of t)) h l) (sym told) s) few);
       stands = search rules;
     }
 
@@ -43,7 +45,8 @@ fill-requires c =
     record { stands = search rules; hole = (_, _, _, hole_stays g c.open_child-hole.ensures.hole); handed = given_handed g }
 
 -- the sum stands where its terms did
-summed : (c : After-fill) → ChangesTree c.args.power (power (base_in (tree_of c.args.power c.args.pool.now)) (tree_of c.in_ok-sum.sum c.reduce_sum.new.pool)) (forest c.args.pool.now) (forest c.fill.new.pool)
+summed : (c : After-fill)
+    → ChangesTree c.args.power (power (base_in (tree_of c.args.power c.args.pool.now)) (tree_of c.in_ok-sum.sum c.reduce_sum.new.pool)) (forest c.args.pool.now) (forest c.fill.new.pool)
 summed c = changes_as (c.fill.ensures.changed _ _ _ (hole_stays c.in_ok-sum.ensures.ok c.open_child-hole.ensures.hole)) (exponent_set _ c.requires.power)
 
 pub move_last-requires-clause-root : goal.move_last-requires-clause-root
@@ -57,8 +60,7 @@ returns-clause-ok c =
     changes_last (summed (goal.at.returns-clause-ok c).After-fill) c.move_last.ensures.last (record {
       exponent = v;
       sum = subst (λ (t : Tree). IsSumAnswer (children_of t) v) told (given_told sum.ok);
-      room = sum_keeps (tree_of c.open_child-hole.result.1 c.open_child-hole.new.pool) _ _ (told ∙ ap exponent_in c.requires.power) sum.counted sum.powers sum.spanned;
-      counts = λ k. let w = sum.exponents (ap (λ (t : Tree). are_counted (children_of t)) told ∙ k) in record { counted = w.0; within = subst (λ (t : Tree). IsWithin (counts_of v) (counts_of_all (children_of t))) told w.1 };
+      bounds = subst (λ (t : Tree). KeepsSumBounds (children_of t) v) told sum.bounds;
       is = refl;
     })
 

@@ -45,8 +45,10 @@ returns-in_ok-left-in-Mult c =
     let k = (goal.at.returns-in_ok-left-in-Mult c).After-kind in
     let p = value_of c.in_ok-left-in-Mult.left in
     let q = value_of c.in_ok-left-in-Mult.right in
-    some_answered c.ok-in-Mult.result (product_over_these (tree_of c.args.tree.now c.args.pool.now) (two (num p) (num q)) (sym (kind-is k) ∙ c.in-Mult.is) (children-are k _ c.in_ok-left-in-Mult.ensures))
-    (some_told c.ok-in-Mult.result (calculated_is mul_op p q c.mul.result c.ok-in-Mult.result c.ok-in-Mult.ensures.value c.mul.ensures.product c.mul.ensures.refused) (λ x h. product_answered p q (value_of x) h.0 h.1))
+    some_answered c.ok-in-Mult.result
+    (product_over_these (tree_of c.args.tree.now c.args.pool.now) (two (num p) (num q)) (sym (kind-is k) ∙ c.in-Mult.is) (children-are k _ c.in_ok-left-in-Mult.ensures))
+    (some_told c.ok-in-Mult.result (calculated_is mul_op p q c.mul.result c.ok-in-Mult.result c.ok-in-Mult.ensures.value c.mul.ensures.product c.mul.ensures.refused)
+    (λ x h. product_answered p q (value_of x) h.0 h.1))
 
 pub returns-in_ok-left-in-Sub : goal.returns-in_ok-left-in-Sub
 returns-in_ok-left-in-Sub c =
@@ -68,5 +70,6 @@ returns-in_ok-argument-in-Neg c =
     let k = (goal.at.returns-in_ok-argument-in-Neg c).After-kind in
     let q = c.in_ok-argument-in-Neg.argument in
     let n = c.neg.result in
-    subst (λ (t : Tree). IsNodeAnswer t (num (value_of n))) (opposite_over (tree_of c.args.tree.now c.args.pool.now) (num (value_of q)) (sym (kind-is k) ∙ c.in-Neg.is) (children-are k _ c.in_ok-argument-in-Neg.ensures))
+    subst (λ (t : Tree). IsNodeAnswer t (num (value_of n)))
+    (opposite_over (tree_of c.args.tree.now c.args.pool.now) (num (value_of q)) (sym (kind-is k) ∙ c.in-Neg.is) (children-are k _ c.in_ok-argument-in-Neg.ensures))
     (opposite_answered (value_of q) (value_of n) (rational_fits q) (rational_fits n) c.neg.ensures)

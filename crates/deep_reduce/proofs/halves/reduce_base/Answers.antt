@@ -29,7 +29,8 @@ returns-in_err-reduced c =
       faults = search rules;
       caused = search rules;
       room = passed_on c.from_residual.result c.in_err-reduced.field-0.0 _ c.from_residual.ensures.0 c.from_residual.ensures.1
-          (root_lacks (tree_of c.args.power c.args.pool.now) (free_of c.open_child-hole.new.pool) (free_of c.args.pool.now) c.in_err-reduced.field-0.0 c.in_err-reduced.ensures.full_below_96_bytes c.open_child-hole.ensures.free);
+          (root_lacks (tree_of c.args.power c.args.pool.now) (free_of c.open_child-hole.new.pool)
+          (free_of c.args.pool.now) c.in_err-reduced.field-0.0 c.in_err-reduced.ensures.full_below_96_bytes c.open_child-hole.ensures.free);
       bits = λ h l k few. passed_on c.from_residual.result c.in_err-reduced.field-0.0 _ c.from_residual.ensures.0 c.from_residual.ensures.1
           (root_fits _ c.in_err-reduced.field-0.0 c.in_err-reduced.ensures.bits c.in_err-reduced.ensures.overflows.0 (subst (λ (x : Tree). IsFactorHeld (argument_of x) h l) (sym told) k) few);
       stands = search rules;
@@ -41,7 +42,8 @@ fill-requires c =
     record { stands = search rules; hole = (_, _, _, hole_stays g c.open_child-hole.ensures.hole); handed = given_handed g }
 
 -- the root is reduced where it stood
-rooted : (c : After-fill) → ChangesTree c.args.power (power (tree_of c.in_ok-reduced.reduced c.reduce_root.new.pool) (exponent_in (tree_of c.args.power c.args.pool.now))) (forest c.args.pool.now) (forest c.fill.new.pool)
+rooted : (c : After-fill)
+    → ChangesTree c.args.power (power (tree_of c.in_ok-reduced.reduced c.reduce_root.new.pool) (exponent_in (tree_of c.args.power c.args.pool.now))) (forest c.args.pool.now) (forest c.fill.new.pool)
 rooted c = changes_as (c.fill.ensures.changed _ _ _ (hole_stays c.in_ok-reduced.ensures.ok c.open_child-hole.ensures.hole)) (base_set _ c.requires.power)
 
 pub move_last-requires-clause-root : goal.move_last-requires-clause-root

@@ -1,5 +1,5 @@
 use Rattle.std.proofs.Common.{◌≡◌, Some, rules, refl, sym, subst, arith}
-use Rattle.deep_reduce.proofs.Shared.{Gives, IsRooted, Rewrites, Tree, numerator, gives_itself, IsHeldAsPowerOf, IsFactorHeld, argument_of, forest, free_of, replaced_free, passed_on, refusal_as, rewritten, without_root, keeps_after, base_in, exponent_in, tree_of, gives_as, given_handed, given_told}
+use Rattle.deep_reduce.proofs.Shared.{Gives, Rewrites, Tree, numerator, gives_itself, IsHeldAsPowerOf, IsFactorHeld, argument_of, forest, free_of, replaced_free, passed_on, refusal_as, rewritten, without_root, keeps_after, base_in, exponent_in, tree_of, gives_as, given_handed, given_told}
 use Rattle.deep_reduce.proofs.Arms.{is_done, is_again, any_fault, any_refusal, misfit_fault, half_defined}
 use Rattle.deep_reduce.proofs.Children.{gives_next, front_next}
 use Rattle.deep_reduce.proofs.HalfPowers.{IsHalfStep, half_step, half_ready, half_last, last_exponent, rooted_held, half_after, step_finds_none, base_finds_none, last_step, last_finds_none}
@@ -71,7 +71,8 @@ returns-in_ok-rooted-in-Again c =
     record {
       ok = let w = subst (λ (x : Tree). Rewrites x (tree_of c.in-Again.tree c.power_step.new.pool)) c.requires.power (given_told g).1 in
           if_two c.last_step.result _ _ _ c.last_step.ensures.ok (c.last_step.ensures.held n exponent)
-          (λ h x y. gives_next both (gives_itself x) (λ r a. half_after r c.requires.half s w k a.0 c.requires.base (subst (IsHeldAsPowerOf n (base_in (tree_of c.in_ok-rooted-in-Again.rooted c.reduce_base.new.pool))) (sym a.1) y)));
+          (λ h x y. gives_next both (gives_itself x)
+          (λ r a. half_after r c.requires.half s w k a.0 c.requires.base (subst (IsHeldAsPowerOf n (base_in (tree_of c.in_ok-rooted-in-Again.rooted c.reduce_base.new.pool))) (sym a.1) y)));
       defined = any_refusal c.last_step.result _ (half_defined (tree_of c.args.power c.args.pool.now) c.requires.power c.requires.half s.defined);
       front = front_next both (front_next g c.power_step.ensures.front c.reduce_base.ensures.front) c.last_step.ensures.front;
       kept = search rules;
@@ -100,4 +101,5 @@ pub returns-in_err-answer-clause-bits : goal.returns-in_err-answer-clause-bits
 returns-in_err-answer-clause-bits c = λ h l z a few more.
     let b : Tree = base_in (tree_of c.args.power c.args.pool.now) in
     let e : Tree = exponent_in (tree_of c.args.power c.args.pool.now) in
-    passed_on c.from_residual.result c.in_err-answer.field-0.0 _ c.from_residual.ensures.0 c.from_residual.ensures.1 (half_fits b e c.in_err-answer.field-0.0 c.requires.half c.in_err-answer.ensures.overflow)
+    passed_on c.from_residual.result c.in_err-answer.field-0.0 _ c.from_residual.ensures.0 c.from_residual.ensures.1
+    (half_fits b e c.in_err-answer.field-0.0 c.requires.half c.in_err-answer.ensures.overflow)

@@ -1,80 +1,108 @@
 use Rattle.std.proofs.Common.{rules, subst, false, ◌≡◌, ◌^◌, ℕ, List, length, refl, sym, ◌∙◌, arith}
-use Rattle.deep_reduce.proofs.Shared.{IsNodeAnswer, plain_value, Tree, root_kind, tree_of, keeps_none, front_same, gives, represents_handed, kind_of_root, pow_pos, SpansTree, value, int_is_negative, base_in, exponent_in, argument_of, IfRational, IsNoLargerThanRoot, children_of, free_of, sum_kind, product_kind}
+use Rattle.deep_reduce.proofs.Shared.{IsNodeAnswer, plain_value, Tree, root_kind, tree_of, keeps_none, front_same, gives, represents_handed, kind_of_root, pow_pos, SpansTree, value, int_is_negative, base_in, exponent_in, argument_of, IfRational, IsNoLargerThanRoot, children_of, free_of, sum_kind, product_kind, sum_words}
 use Rattle.node_bounds.proofs.HeldFits.{product_fits}
 use Rattle.node_bounds.proofs.NodeBits.{as_overflow, power_node_fits, root_node_fits, measured_facts, holds_as}
 use Rattle.deep_reduce.proofs.Folded.{number_needs}
 use Rattle.deep_reduce.proofs.Lacking.{result_lacks, power_result}
 use Rattle.node_bounds.proofs.NodeBytes.{sum_fits, factors_fit, power_fits, half_fits, root_result, no_half_power, node_spans}
 use Rattle.deep_reduce.proofs.Results.{answered, answer_as, overflow_as, overflowed_defined, with_facts, span_facts}
-use Rattle.deep_reduce.proofs.Told.{power_kind, root_kind_is, neg_kind, sub_kind, div_kind, power_told, power_sides, IsRationalPower, rational_answer, rational_overflow, power_reduced, root_told, root_overflow, argument_reduced, leaf_told, node_fits}
+use Rattle.deep_reduce.proofs.Told.{power_kind, root_kind_is, neg_kind, sub_kind, div_kind, sub_is, div_is, power_told, power_sides, IsRationalPower, rational_answer, rational_overflow, power_reduced, root_told, root_overflow, argument_reduced, leaf_told, node_fits}
 use Rattle.deep_reduce.proofs.nodes.reduce_node.Goals.{After-kind}
 use Rattle.deep_reduce.proofs.nodes.reduce_node.Goals as goal
 use Rattle.radical_forms.proofs.Handed.{root_is}
+use Rattle.product_reduce.proofs.Stepped.{mult_words as product_words}
 
 -- what the readers tell
 kind-is : (c : After-kind) → c.kind.result ≡ root_kind (tree_of c.args.tree c.args.pool.now)
 kind-is c = kind_of_root c.id.ensures c.requires.stands c.requires.handed c.kind.ensures.plain
 
-pub add_up-requires-clause-sum : goal.add_up-requires-clause-sum
-add_up-requires-clause-sum c = sum_kind (tree_of c.args.tree c.args.pool.now) (sym c.in-Add.is ∙ kind-is (goal.at.add_up-requires-clause-sum c).After-kind)
+pub reduce_joined-requires-clause-joined : goal.reduce_joined-requires-clause-joined
+reduce_joined-requires-clause-joined c =
+    let t : Tree = tree_of c.args.tree c.args.pool.now in
+    sum_words t (sum_kind t (sym c.in-Add.is ∙ kind-is (goal.at.reduce_joined-requires-clause-joined c).After-kind))
 
-pub multiply-requires-clause-product : goal.multiply-requires-clause-product
-multiply-requires-clause-product c = product_kind (tree_of c.args.tree c.args.pool.now) (sym c.in-Mult.is ∙ kind-is (goal.at.multiply-requires-clause-product c).After-kind)
+pub reduce_joined-requires-in-Mult-clause-joined : goal.reduce_joined-requires-in-Mult-clause-joined
+reduce_joined-requires-in-Mult-clause-joined c =
+    let t : Tree = tree_of c.args.tree c.args.pool.now in
+    product_words t (product_kind t (sym c.in-Mult.is ∙ kind-is (goal.at.reduce_joined-requires-in-Mult-clause-joined c).After-kind))
 
 pub negate-requires-clause-opposite : goal.negate-requires-clause-opposite
 negate-requires-clause-opposite c = neg_kind (tree_of c.args.tree c.args.pool.now) (sym c.in-Neg.is ∙ kind-is (goal.at.negate-requires-clause-opposite c).After-kind)
 
-pub subtract-requires-clause-difference : goal.subtract-requires-clause-difference
-subtract-requires-clause-difference c = sub_kind (tree_of c.args.tree c.args.pool.now) (sym c.in-Sub.is ∙ kind-is (goal.at.subtract-requires-clause-difference c).After-kind)
+pub reduce_sides-requires-clause-sides : goal.reduce_sides-requires-clause-sides
+reduce_sides-requires-clause-sides c =
+    let t : Tree = tree_of c.args.tree c.args.pool.now in
+    sub_is t (sub_kind t (sym c.in-Sub.is ∙ kind-is (goal.at.reduce_sides-requires-clause-sides c).After-kind))
 
-pub divide-requires-clause-quotient : goal.divide-requires-clause-quotient
-divide-requires-clause-quotient c = div_kind (tree_of c.args.tree c.args.pool.now) (sym c.in-Div.is ∙ kind-is (goal.at.divide-requires-clause-quotient c).After-kind)
+pub reduce_sides-requires-in-Div-clause-sides : goal.reduce_sides-requires-in-Div-clause-sides
+reduce_sides-requires-in-Div-clause-sides c =
+    let t : Tree = tree_of c.args.tree c.args.pool.now in
+    div_is t (div_kind t (sym c.in-Div.is ∙ kind-is (goal.at.reduce_sides-requires-in-Div-clause-sides c).After-kind))
 
-pub reduce_root-requires-clause-root : goal.reduce_root-requires-clause-root
-reduce_root-requires-clause-root c = root_kind_is (tree_of c.args.tree c.args.pool.now) (sym c.in-Root.is ∙ kind-is (goal.at.reduce_root-requires-clause-root c).After-kind)
-
-pub reduce_root-requires-clause-reduced : goal.reduce_root-requires-clause-reduced
-reduce_root-requires-clause-reduced c =
-    argument_reduced (tree_of c.args.tree c.args.pool.now) (root_kind_is (tree_of c.args.tree c.args.pool.now) (sym c.in-Root.is ∙ kind-is (goal.at.reduce_root-requires-clause-reduced c).After-kind)) c.requires.reduced
+pub reduce_root-requires : goal.reduce_root-requires
+reduce_root-requires c =
+    let t : Tree = tree_of c.args.tree c.args.pool.now in
+    let is = root_kind_is t (sym c.in-Root.is ∙ kind-is (goal.at.reduce_root-requires c).After-kind) in
+    record { stands = search rules; handed = search rules; root = is; reduced = argument_reduced t is c.requires.reduced }
 
 pub returns-in-Root : goal.returns-in-Root
 returns-in-Root c =
     let t : Tree = tree_of c.args.tree c.args.pool.now in
+    let new = c.reduce_root.new.pool in
+    let kind = sym c.in-Root.is ∙ kind-is (goal.at.returns-in-Root c).After-kind in
+    let is = root_kind_is t kind in
+    let named = overflow_as _ _ _ c.reduce_root.ensures.named (λ o h. root_overflow t o is h) in
     record {
-      ok = let is = root_kind_is t (sym c.in-Root.is ∙ kind-is (goal.at.returns-in-Root c).After-kind) in answer_as _ _ c.reduce_root.new.pool _ _ _ (with_facts _ c.reduce_root.new.pool _ _ (λ u. IfRational (argument_of t) (λ q. int_is_negative q.num ≡ false → IsNoLargerThanRoot q (value u))) (with_facts _ c.reduce_root.new.pool _ _ (λ u. (gs : List ℕ) → SpansTree gs t → SpansTree gs u) c.reduce_root.ensures.ok (span_facts t c.reduce_root.new.pool _ c.reduce_root.ensures.spanned)) (measured_facts (argument_of t) (λ i. tree_of i c.reduce_root.new.pool) c.reduce_root.result c.reduce_root.ensures.measured)) refl (λ u h. root_told t u is (argument_reduced t is c.requires.reduced) h.0.0 h.0.1 h.1);
-      overflow = let k = (goal.at.returns-in-Root c).After-kind in overflow_as _ _ _ c.reduce_root.ensures.named (λ o h. root_overflow t o (root_kind_is t (sym c.in-Root.is ∙ kind-is k)) h);
+      ok =
+          answer_as _ _ new _ _ _ (with_facts _ new _ _ (λ u. IfRational (argument_of t) (λ q. int_is_negative q.num ≡ false → IsNoLargerThanRoot q (value u)))
+          (with_facts _ new _ _ (λ u. (gs : List ℕ) → SpansTree gs t → SpansTree gs u) c.reduce_root.ensures.ok (span_facts t new _ c.reduce_root.ensures.spanned))
+          (measured_facts (argument_of t) (λ i. tree_of i new) c.reduce_root.result c.reduce_root.ensures.measured)) refl
+          (λ u h. root_told t u is (argument_reduced t is c.requires.reduced) h.0.0 h.0.1 h.1);
+      overflow = named;
       front = search rules;
       kept = search rules;
       faults = search rules;
       caused = search rules;
-      room = λ gs ns n h k s. let is = root_kind_is t (sym c.in-Root.is ∙ kind-is (goal.at.returns-in-Root c).After-kind) in root_result gs t (free_of c.args.pool.now) n c.reduce_root.result is h c.reduce_root.ensures.full_of_a_rational c.reduce_root.ensures.full_below_96_bytes;
-      root_room = λ gs n h z s. no_half_power (tree_of c.args.tree c.args.pool.now) (sym c.in-Root.is ∙ kind-is (goal.at.returns-in-Root c).After-kind) (λ e. cc) z;
-      bits = λ h l k few. let is = root_kind_is t (sym c.in-Root.is ∙ kind-is (goal.at.returns-in-Root c).After-kind) in node_fits t c.reduce_root.result (overflow_as _ _ _ c.reduce_root.ensures.named (λ o h. root_overflow t o is h)) (λ d. as_overflow c.reduce_root.result (root_node_fits (argument_of t) c.reduce_root.result c.reduce_root.ensures.bits c.reduce_root.ensures.overflows.0 (holds_as h l (root_is t is) (k d)).0 few));
+      room = λ gs ns n h k s. root_result gs t (free_of c.args.pool.now) n c.reduce_root.result is h c.reduce_root.ensures.full_of_a_rational c.reduce_root.ensures.full_below_96_bytes;
+      root_room = λ gs n h z s. no_half_power t kind (λ e. cc) z;
+      bits = λ h l k few.
+          node_fits t c.reduce_root.result named (λ d. as_overflow c.reduce_root.result
+          (root_node_fits (argument_of t) c.reduce_root.result c.reduce_root.ensures.bits c.reduce_root.ensures.overflows.0 (holds_as h l (root_is t is) (k d)).0 few));
       stands = search rules;
     }
 
 pub reduce_power-requires : goal.reduce_power-requires
-reduce_power-requires c = record {
-  stands = search rules;
-  handed = search rules;
-  power = power_kind (tree_of c.args.tree c.args.pool.now) (sym c.in-Pow.is ∙ kind-is (goal.at.reduce_power-requires c).After-kind);
-  base = (power_reduced (tree_of c.args.tree c.args.pool.now) (power_kind (tree_of c.args.tree c.args.pool.now) (sym c.in-Pow.is ∙ kind-is (goal.at.reduce_power-requires c).After-kind)) c.requires.reduced).0;
-  exponent = (power_reduced (tree_of c.args.tree c.args.pool.now) (power_kind (tree_of c.args.tree c.args.pool.now) (sym c.in-Pow.is ∙ kind-is (goal.at.reduce_power-requires c).After-kind)) c.requires.reduced).1;
-}
+reduce_power-requires c =
+    let t : Tree = tree_of c.args.tree c.args.pool.now in
+    let is = power_kind t (sym c.in-Pow.is ∙ kind-is (goal.at.reduce_power-requires c).After-kind) in
+    let sides = power_reduced t is c.requires.reduced in
+    record { stands = search rules; handed = search rules; power = is; base = sides.0; exponent = sides.1 }
 
 pub returns-in-Pow : goal.returns-in-Pow
 returns-in-Pow c =
     let t : Tree = tree_of c.args.tree c.args.pool.now in
+    let new = c.reduce_power.new.pool in
+    let kind = sym c.in-Pow.is ∙ kind-is (goal.at.returns-in-Pow c).After-kind in
+    let is = power_kind t kind in
+    let rationals = λ (h : IsRationalPower t). c.reduce_power.ensures.rationals (power_sides t is h.rationals).0 (power_sides t is h.rationals).1 h.no_half in
     record {
-      ok = let is = power_kind t (sym c.in-Pow.is ∙ kind-is (goal.at.returns-in-Pow c).After-kind) in answered {C = IsRationalPower t} _ (plain_value t) c.reduce_power.new.pool _ _ _ c.reduce_power.ensures.ok (λ h. c.reduce_power.ensures.rationals (power_sides t is h.rationals).0 (power_sides t is h.rationals).1 h.no_half) (λ u a p. power_told t u is a (rational_answer t u is p));
-      overflow = let k = (goal.at.returns-in-Pow c).After-kind in let is = power_kind t (sym c.in-Pow.is ∙ kind-is k) in overflowed_defined {C = IsRationalPower t} (plain_value t) c.reduce_power.new.pool _ _ (λ h. c.reduce_power.ensures.rationals (power_sides t is h.rationals).0 (power_sides t is h.rationals).1 h.no_half) c.reduce_power.ensures.defined (λ o d h. record { defined = d; rational = rational_overflow t o is h });
+      ok = answered {C = IsRationalPower t} _ (plain_value t) new _ _ _ c.reduce_power.ensures.ok rationals (λ u a p. power_told t u is a (rational_answer t u is p));
+      overflow =
+          overflowed_defined {C = IsRationalPower t} (plain_value t) new _ _ rationals c.reduce_power.ensures.defined (λ o d h. record { defined = d; rational = rational_overflow t o is h });
       front = search rules;
       kept = search rules;
       faults = search rules;
       caused = search rules;
-      room = λ gs ns n h k s. let kind = sym c.in-Pow.is ∙ kind-is (goal.at.returns-in-Pow c).After-kind in let is = power_kind t kind in power_result _ _ t c.reduce_power.result is k (λ w. result_lacks c.reduce_power.result (c.reduce_power.ensures.room gs ns k (node_spans gs t kind (λ e. cc) s) w) (λ l. omega (arith, l, power_fits t n (2 ^ length gs) is h))) (λ w z. c.reduce_power.ensures.others w z);
-      root_room = λ gs n h z s. let is = power_kind t (sym c.in-Pow.is ∙ kind-is (goal.at.returns-in-Pow c).After-kind) in result_lacks c.reduce_power.result (c.reduce_power.ensures.root_room gs z s) (λ l. omega (arith, l, half_fits t n (2 ^ length gs) is h));
-      bits = λ h l k few. let is = power_kind t (sym c.in-Pow.is ∙ kind-is (goal.at.returns-in-Pow c).After-kind) in as_overflow c.reduce_power.result (product_fits (children_of t) c.reduce_power.result (λ d. power_node_fits (base_in t) (exponent_in t) c.reduce_power.result h l (holds_as h l is (k d)) few c.reduce_power.ensures.bits c.reduce_power.ensures.root_bits c.reduce_power.ensures.others) c.reduce_power.ensures.defined);
+      room = λ gs ns n h k s.
+          power_result _ _ t c.reduce_power.result is k
+          (λ w. result_lacks c.reduce_power.result (c.reduce_power.ensures.room gs ns k (node_spans gs t kind (λ e. cc) s) w) (λ l. omega (arith, l, power_fits t n (2 ^ length gs) is h)))
+          (λ w z. c.reduce_power.ensures.others w z);
+      root_room = λ gs n h z s. result_lacks c.reduce_power.result (c.reduce_power.ensures.root_room gs z s) (λ l. omega (arith, l, half_fits t n (2 ^ length gs) is h));
+      bits = λ h l k few.
+          as_overflow c.reduce_power.result (product_fits (children_of t) c.reduce_power.result
+          (λ d. power_node_fits (base_in t) (exponent_in t) c.reduce_power.result h l
+          (holds_as h l is (k d)) few c.reduce_power.ensures.bits c.reduce_power.ensures.root_bits c.reduce_power.ensures.others)
+          c.reduce_power.ensures.defined);
       stands = search rules;
     }
 
@@ -84,7 +112,8 @@ returns-in_default-kind c =
     let is = kind-is (goal.at.returns-in_default-kind c).After-kind in
     record {
       ok = gives c.requires.last (represents_handed c.requires.handed)
-          (leaf_told t (λ e. c.in_default-kind.not-Add (is ∙ sym e)) (λ e. c.in_default-kind.not-Mult (is ∙ sym e)) (λ e. c.in_default-kind.not-Pow (is ∙ sym e)) (λ e. c.in_default-kind.not-Root (is ∙ sym e))
+          (leaf_told t (λ e. c.in_default-kind.not-Add (is ∙ sym e)) (λ e. c.in_default-kind.not-Mult (is ∙ sym e)) (λ e. c.in_default-kind.not-Pow (is ∙ sym e))
+          (λ e. c.in_default-kind.not-Root (is ∙ sym e))
           (λ e. c.in_default-kind.not-Neg (is ∙ sym e)) (λ e. c.in_default-kind.not-Sub (is ∙ sym e)) (λ e. c.in_default-kind.not-Div (is ∙ sym e)));
       overflow = tt;
       front = front_same;
@@ -103,14 +132,15 @@ pub returns-in-Add-clause-room : goal.returns-in-Add-clause-room
 returns-in-Add-clause-room c = λ gs ns n h k s.
     let t : Tree = tree_of c.args.tree c.args.pool.now in
     let kind = sym c.in-Add.is ∙ kind-is (goal.at.returns-in-Add-clause-room c).After-kind in
-    result_lacks c.add_up.result (c.add_up.ensures.room gs (node_spans gs t kind (λ e. cc) s)) (λ l. omega (arith, l, sum_fits t n (2 ^ length gs) (sum_kind t kind) h))
+    result_lacks c.reduce_joined.result (c.reduce_joined.ensures.room gs ns k (node_spans gs t kind (λ e. cc) s)) (λ l. omega (arith, l, sum_fits t n (2 ^ length gs) (sum_kind t kind) h))
 
 pub returns-in-Mult-clause-room : goal.returns-in-Mult-clause-room
 returns-in-Mult-clause-room c = λ gs ns n h k s.
     let t : Tree = tree_of c.args.tree c.args.pool.now in
     let kind = sym c.in-Mult.is ∙ kind-is (goal.at.returns-in-Mult-clause-room c).After-kind in
     let is = product_kind t kind in
-    result_lacks c.multiply.result (c.multiply.ensures.room gs ns k (node_spans gs t kind (λ e. cc) s)) (λ l. omega (arith, l, factors_fit t n (2 ^ length gs) (pow_pos (length gs)) is h))
+    result_lacks c.reduce_joined-in-Mult.result (c.reduce_joined-in-Mult.ensures.room gs ns k (node_spans gs t kind (λ e. cc) s))
+    (λ l. omega (arith, l, factors_fit t n (2 ^ length gs) (pow_pos (length gs)) is h))
 
 pub returns-in-Add-clause-root_room : goal.returns-in-Add-clause-root_room
 returns-in-Add-clause-root_room c = λ gs n h z s. no_half_power (tree_of c.args.tree c.args.pool.now) (sym c.in-Add.is ∙ kind-is (goal.at.returns-in-Add-clause-root_room c).After-kind) (λ e. cc) z
@@ -133,11 +163,11 @@ returns-in-Neg-clause-room c = λ gs ns n h k s.
 
 pub returns-in-Sub-clause-room : goal.returns-in-Sub-clause-room
 returns-in-Sub-clause-room c = λ gs ns n h k s.
-    c.subtract.ensures.room gs ns n h k (node_spans gs (tree_of c.args.tree c.args.pool.now) (sym c.in-Sub.is ∙ kind-is (goal.at.returns-in-Sub-clause-room c).After-kind) (λ e. cc) s)
+    c.reduce_sides.ensures.room gs ns n h k (node_spans gs (tree_of c.args.tree c.args.pool.now) (sym c.in-Sub.is ∙ kind-is (goal.at.returns-in-Sub-clause-room c).After-kind) (λ e. cc) s)
 
 pub returns-in-Div-clause-room : goal.returns-in-Div-clause-room
 returns-in-Div-clause-room c = λ gs ns n h k s.
-    c.divide.ensures.room gs ns n h k (node_spans gs (tree_of c.args.tree c.args.pool.now) (sym c.in-Div.is ∙ kind-is (goal.at.returns-in-Div-clause-room c).After-kind) (λ e. cc) s)
+    c.reduce_sides-in-Div.ensures.room gs ns n h k (node_spans gs (tree_of c.args.tree c.args.pool.now) (sym c.in-Div.is ∙ kind-is (goal.at.returns-in-Div-clause-room c).After-kind) (λ e. cc) s)
 
 -- ---- rationals
 

@@ -1,9 +1,9 @@
 use Rattle.std.proofs.Common.{rules, ◌≡◌, ◌<◌, ◌+◌, ◌^◌, ℕ, length, ap, ◌∙◌, refl, sym, subst, arith, Option, IfSome, Err}
-use Rattle.deep_reduce.proofs.Shared.{Tree, Trees, add, mult, count, is_mult, is_undef, size, moved, kind_of_root, product_kind, no_product_kind, if_map, passed_on, IsReducedProduct, IsReducedPower, IsSummed, joins_none, joins_then, IsHeldAsProduct, IsHeldAsPowerOf, IsFactorHeld, raised_high, raised_low, IsCalmAtZero, IsJoinedFrom, KeepsRoom, whole_power_room, counted, SpansTree, free_of, replaced_free, gives_itself, IsPairAt, base_in, exponent_in, are_reduced, is_whole_num, Rewrites, tree_of, children_of, keeps_none, keeps_after, behind_first, front_same, front_end, front_without, gives, gives_as, given_handed, given_told, represents_handed, changes_as, changes_free, changes_front, changes_last, changes_last_front, children_told, front_again, hole_stays}
+use Rattle.deep_reduce.proofs.Shared.{Tree, Trees, add, count, is_mult, size, kind_of_root, product_kind, no_product_kind, if_map, passed_on, IsReducedProduct, IsReducedPower, IsSummed, joins_none, joins_then, IsHeldAsPowerOf, IsFactorHeld, raised_high, raised_low, IsCalmAtZero, IsJoinedFrom, whole_power_room, SpansTree, free_of, replaced_free, gives_itself, IsPairAt, base_in, exponent_in, are_reduced, is_whole_num, Rewrites, tree_of, children_of, keeps_none, keeps_after, behind_first, front_same, front_end, front_without, gives, gives_as, given_handed, given_told, represents_handed, changes_as, changes_free, changes_front, changes_last, changes_last_front, children_told, front_again, hole_stays, KeepsProductBounds}
 use Rattle.node_bounds.proofs.Clashes.{contrary}
 use Rattle.calc_terms.specs.Trees.{power as power_tree}
 use Rattle.coefficients.proofs.Puttings.{on_ok_after, fault_after}
-use Rattle.deep_reduce.proofs.Arms.{is_finished, is_gathered, is_at, is_few, is_done, is_again, is_held, gathered_hands, finished_hands, finished_holds, any_fault, any_refusal, misfit_fault, rewritten_defined}
+use Rattle.deep_reduce.proofs.Arms.{is_finished, is_gathered, is_at, is_few, is_done, is_again, is_held, gathered_hands, any_fault, any_refusal, misfit_fault, rewritten_defined, is_bounded}
 use Rattle.deep_reduce.proofs.Children.{exponent_told, exponent_set, two_sides, handed_within, factor_set, gives_next, front_next, exponent_seen, with_product, without_product, taken_falls}
 use Rattle.deep_reduce.proofs.Falls.{joint_falls, two_falls, next_two_falls, pairs_fall, product_falls, power_falls, rewritten_falls, powers_fall, ready_product_falls, exponent_falls, ready_power_falls, one_power_falls}
 use Rattle.deep_reduce.proofs.Finished.{product_of_powers, ready_product, transparent_children, ready_power, power_lifted, power_of_kind}
@@ -25,10 +25,9 @@ use Rattle.node_bounds.proofs.Rewritten.{is_rewritten}
 pub reduce_product-returns-in-Done-clause-ok : goal.reduce_product-returns-in-Done-clause-ok
 reduce_product-returns-in-Done-clause-ok t c =
     let ts : Trees = children_of (tree_of c.args.product c.args.pool.now) in
-    let k = finished_hands c.args.product c.args.pool.now c.gather_factors.new.pool c.requires.product c.in-Done.is c.in_ok-answer.ensures.counted c.in_ok-answer.ensures.powers c.in_ok-answer.ensures.spanned in
+    let b = is_bounded c.args.product c.args.pool.now c.gather_factors.new.pool c.in-Done.is c.in_ok-answer.ensures.bounds in
     gives_as (gives_itself (is_finished c.args.product c.args.pool.now c.gather_factors.new.pool c.in-Done.is c.in_ok-answer.ensures.done)) refl
-    (λ u f. product_finished ts u c.requires.reduced f.0 (subst (KeepsRoom (counted (mult ts)) (mult ts)) (sym f.1) k)
-    (subst (IsHeldAsProduct ts) (sym f.1) (finished_holds c.args.product c.args.pool.now c.gather_factors.new.pool c.requires.product c.in-Done.is c.in_ok-answer.ensures.held (ap is_undef (sym f.1) ∙ f.0.undefined))))
+    (λ u f. product_finished ts u c.requires.reduced f.0 (subst (KeepsProductBounds ts) (sym f.1) b))
 
 pub reduce_product-returns-in-Done-clause-joined : goal.reduce_product-returns-in-Done-clause-joined
 reduce_product-returns-in-Done-clause-joined t c =
@@ -41,49 +40,75 @@ reduce_product-join_pairs-requires t c =
     let j = given_told g in
     let place = is_at c.args.product c.args.pool.now c.gather_factors.new.pool c.in-Joined.is c.in_ok-answer.ensures.pair in (
       below_measure c.decreases (pairs_fall c.in-Joined.at (tree_of c.args.product c.args.pool.now) (tree_of c.in-Joined.product c.gather_factors.new.pool) j place),
-      (c.in_ok-answer.ensures.stands, (given_handed g, (gathered_product _ _ j, (j.reduced, (place, is_few c.args.product c.args.pool.now c.gather_factors.new.pool c.in-Joined.is c.in_ok-answer.ensures.fits))))),
+      (
+        c.in_ok-answer.ensures.stands,
+        (given_handed g, (gathered_product _ _ j, (j.reduced, (place, is_few c.args.product c.args.pool.now c.gather_factors.new.pool c.in-Joined.is c.in_ok-answer.ensures.fits)))),
+      ),
     )
 
 pub reduce_product-returns-in_err-joined-in-Joined-clause-defined : goal.reduce_product-returns-in_err-joined-in-Joined-clause-defined
-reduce_product-returns-in_err-joined-in-Joined-clause-defined t c = let j = given_told (is_gathered c.args.product c.args.pool.now c.gather_factors.new.pool c.in-Joined.is c.in_ok-answer.ensures.gathered) in passed_on c.from_residual-in_err-joined-in-Joined.result c.in_err-joined-in-Joined.field-0.0 _ c.from_residual-in_err-joined-in-Joined.ensures.0 c.from_residual-in_err-joined-in-Joined.ensures.1 (any_fault c.in_err-joined-in-Joined.field-0.0 _ j.joinable.defined)
+reduce_product-returns-in_err-joined-in-Joined-clause-defined t c =
+    let j = given_told (is_gathered c.args.product c.args.pool.now c.gather_factors.new.pool c.in-Joined.is c.in_ok-answer.ensures.gathered) in
+    passed_on c.from_residual-in_err-joined-in-Joined.result c.in_err-joined-in-Joined.field-0.0 _ c.from_residual-in_err-joined-in-Joined.ensures.0 c.from_residual-in_err-joined-in-Joined.ensures.1
+    (any_fault c.in_err-joined-in-Joined.field-0.0 _ j.joinable.defined)
 
 pub reduce_product-returns-in_err-joined-in-Joined-clause-front : goal.reduce_product-returns-in_err-joined-in-Joined-clause-front
-reduce_product-returns-in_err-joined-in-Joined-clause-front t c = front_next (is_gathered c.args.product c.args.pool.now c.gather_factors.new.pool c.in-Joined.is c.in_ok-answer.ensures.gathered) c.gather_factors.ensures.front c.join_pairs.ensures.front
+reduce_product-returns-in_err-joined-in-Joined-clause-front t c =
+    front_next (is_gathered c.args.product c.args.pool.now c.gather_factors.new.pool c.in-Joined.is c.in_ok-answer.ensures.gathered) c.gather_factors.ensures.front c.join_pairs.ensures.front
 
 pub reduce_product-returns-in_err-joined-in-Joined-clause-room : goal.reduce_product-returns-in_err-joined-in-Joined-clause-room
-reduce_product-returns-in_err-joined-in-Joined-clause-room t c = λ gs ns k s. let g = is_gathered c.args.product c.args.pool.now c.gather_factors.new.pool c.in-Joined.is c.in_ok-answer.ensures.gathered in let u : Tree = tree_of c.in-Joined.product c.gather_factors.new.pool in let x = handed_on (tree_of c.args.product c.args.pool.now) u c.requires.product (product_words u (gathered_product _ _ (given_told g))) (gathered_hands c.args.product c.args.pool.now c.gather_factors.new.pool c.requires.product c.in-Joined.is c.in_ok-answer.ensures.gathered c.in_ok-answer.ensures.counted_among c.in_ok-answer.ensures.few_numbers c.in_ok-answer.ensures.powers c.in_ok-answer.ensures.spanned c.in_ok-answer.ensures.factors_held) gs ns k s in passed_on c.from_residual-in_err-joined-in-Joined.result c.in_err-joined-in-Joined.field-0.0 _ c.from_residual-in_err-joined-in-Joined.ensures.0 c.from_residual-in_err-joined-in-Joined.ensures.1 (lacks_as c.in_err-joined-in-Joined.field-0.0 (c.in_err-joined-in-Joined.ensures.room gs ns x.calm x.spanned) (λ l. omega (arith, l, x.needs, replaced_free c.requires.stands c.in_ok-answer.ensures.stands c.in_ok-answer.ensures.kept c.requires.handed g)))
+reduce_product-returns-in_err-joined-in-Joined-clause-room t c = λ gs ns k s.
+    let g = is_gathered c.args.product c.args.pool.now c.gather_factors.new.pool c.in-Joined.is c.in_ok-answer.ensures.gathered in
+    let u : Tree = tree_of c.in-Joined.product c.gather_factors.new.pool in
+    let hands = gathered_hands c.args.product c.args.pool.now c.gather_factors.new.pool c.in-Joined.is c.in_ok-answer.ensures.gathered c.in_ok-answer.ensures.joined_bounds in
+    let x = handed_on (tree_of c.args.product c.args.pool.now) u c.requires.product (product_words u (gathered_product _ _ (given_told g))) hands gs ns k s in
+    passed_on c.from_residual-in_err-joined-in-Joined.result c.in_err-joined-in-Joined.field-0.0 _ c.from_residual-in_err-joined-in-Joined.ensures.0 c.from_residual-in_err-joined-in-Joined.ensures.1
+    (lacks_as c.in_err-joined-in-Joined.field-0.0 (c.in_err-joined-in-Joined.ensures.room gs ns x.calm x.spanned)
+    (λ l. omega (arith, l, x.needs, replaced_free c.requires.stands c.in_ok-answer.ensures.stands c.in_ok-answer.ensures.kept c.requires.handed g)))
 
 pub reduce_product-returns-in_err-joined-in-Joined-clause-bits : goal.reduce_product-returns-in_err-joined-in-Joined-clause-bits
-reduce_product-returns-in_err-joined-in-Joined-clause-bits t c = λ h l a few. passed_on c.from_residual-in_err-joined-in-Joined.result c.in_err-joined-in-Joined.field-0.0 _ c.from_residual-in_err-joined-in-Joined.ensures.0 c.from_residual-in_err-joined-in-Joined.ensures.1 (c.in_err-joined-in-Joined.ensures.bits h l ((gathered_hands c.args.product c.args.pool.now c.gather_factors.new.pool c.requires.product c.in-Joined.is c.in_ok-answer.ensures.gathered c.in_ok-answer.ensures.counted_among c.in_ok-answer.ensures.few_numbers c.in_ok-answer.ensures.powers c.in_ok-answer.ensures.spanned c.in_ok-answer.ensures.factors_held).held h l a) few)
+reduce_product-returns-in_err-joined-in-Joined-clause-bits t c = λ h l a few.
+    let hands = gathered_hands c.args.product c.args.pool.now c.gather_factors.new.pool c.in-Joined.is c.in_ok-answer.ensures.gathered c.in_ok-answer.ensures.joined_bounds in
+    passed_on c.from_residual-in_err-joined-in-Joined.result c.in_err-joined-in-Joined.field-0.0 _ c.from_residual-in_err-joined-in-Joined.ensures.0 c.from_residual-in_err-joined-in-Joined.ensures.1
+    (c.in_err-joined-in-Joined.ensures.bits h l (hands.held h l a) few)
 
 pub reduce_product-reduce_product-requires : goal.reduce_product-reduce_product-requires
 reduce_product-reduce_product-requires t c =
     let g = c.in_ok-joined-in-Joined.ensures.ok in
-    let l = less_gathered _ _ _ (given_told (is_gathered c.args.product c.args.pool.now c.gather_factors.new.pool c.in-Joined.is c.in_ok-answer.ensures.gathered)) (gathered_hands c.args.product c.args.pool.now c.gather_factors.new.pool c.requires.product c.in-Joined.is c.in_ok-answer.ensures.gathered c.in_ok-answer.ensures.counted_among c.in_ok-answer.ensures.few_numbers c.in_ok-answer.ensures.powers c.in_ok-answer.ensures.spanned c.in_ok-answer.ensures.factors_held) (given_told g) in
+    let j = given_told (is_gathered c.args.product c.args.pool.now c.gather_factors.new.pool c.in-Joined.is c.in_ok-answer.ensures.gathered) in
+    let l = less_gathered _ _ _ j (gathered_hands c.args.product c.args.pool.now c.gather_factors.new.pool c.in-Joined.is c.in_ok-answer.ensures.gathered c.in_ok-answer.ensures.joined_bounds) (given_told g) in
     (below_measure c.decreases (product_falls (tree_of c.args.product c.args.pool.now) _ l), (c.in_ok-joined-in-Joined.ensures.stands, (given_handed g, (ap is_mult l.is, (l.some, l.reduced)))))
 
 pub reduce_product-returns-in_ok-joined-in-Joined : goal.reduce_product-returns-in_ok-joined-in-Joined
 reduce_product-returns-in_ok-joined-in-Joined t c =
     let first = is_gathered c.args.product c.args.pool.now c.gather_factors.new.pool c.in-Joined.is c.in_ok-answer.ensures.gathered in
-    let j = given_told (is_gathered c.args.product c.args.pool.now c.gather_factors.new.pool c.in-Joined.is c.in_ok-answer.ensures.gathered) in
+    let j = given_told first in
+    let l = less_gathered _ _ _ j (gathered_hands c.args.product c.args.pool.now c.gather_factors.new.pool c.in-Joined.is c.in_ok-answer.ensures.gathered c.in_ok-answer.ensures.joined_bounds) (given_told c.in_ok-joined-in-Joined.ensures.ok) in
+    let next = gives_next first c.in_ok-joined-in-Joined.ensures.ok (λ u y. y) in
     record {
-      ok = let g = c.in_ok-joined-in-Joined.ensures.ok in let j = given_told first in let l = less_gathered _ _ _ j (gathered_hands c.args.product c.args.pool.now c.gather_factors.new.pool c.requires.product c.in-Joined.is c.in_ok-answer.ensures.gathered c.in_ok-answer.ensures.counted_among c.in_ok-answer.ensures.few_numbers c.in_ok-answer.ensures.powers c.in_ok-answer.ensures.spanned c.in_ok-answer.ensures.factors_held) (given_told g) in if_map c.reduce_product.result _ _ c.reduce_product.ensures.ok (λ h x. gives_next (gives_next first g (λ u y. y)) x (λ r a. product_after _ _ _ r c.requires.reduced j.joinable l a));
-      joined = let l = less_gathered _ _ _ (given_told (is_gathered c.args.product c.args.pool.now c.gather_factors.new.pool c.in-Joined.is c.in_ok-answer.ensures.gathered)) (gathered_hands c.args.product c.args.pool.now c.gather_factors.new.pool c.requires.product c.in-Joined.is c.in_ok-answer.ensures.gathered c.in_ok-answer.ensures.counted_among c.in_ok-answer.ensures.few_numbers c.in_ok-answer.ensures.powers c.in_ok-answer.ensures.spanned c.in_ok-answer.ensures.factors_held) (given_told c.in_ok-joined-in-Joined.ensures.ok) in if_map c.reduce_product.result _ _ c.reduce_product.ensures.joined (λ h x. record { us = x.us; joins = joins_then l.joins x.joins; finished = x.finished });
+      ok = if_map c.reduce_product.result _ _ c.reduce_product.ensures.ok (λ h x. gives_next next x (λ r a. product_after _ _ _ r c.requires.reduced j.joinable l a));
+      joined = if_map c.reduce_product.result _ _ c.reduce_product.ensures.joined (λ h x. record { us = x.us; joins = joins_then l.joins x.joins; finished = x.finished });
       written = if_map c.reduce_product.result _ _ c.reduce_product.ensures.written (λ h x d n. absurd (n j.coefficient j.joinable));
       rationals = search rules;
       defined = any_refusal c.reduce_product.result _ j.joinable.defined;
-      front = front_next (gives_next first c.in_ok-joined-in-Joined.ensures.ok (λ u y. y)) (front_next first c.gather_factors.ensures.front c.join_pairs.ensures.front) c.reduce_product.ensures.front;
+      front = front_next next (front_next first c.gather_factors.ensures.front c.join_pairs.ensures.front) c.reduce_product.ensures.front;
       kept = search rules;
       faults = search rules;
       caused = search rules;
-      room = λ gs ns k s. let g = gives_next first c.in_ok-joined-in-Joined.ensures.ok (λ u y. y) in let l = less_gathered _ _ _ (given_told first) (gathered_hands c.args.product c.args.pool.now c.gather_factors.new.pool c.requires.product c.in-Joined.is c.in_ok-answer.ensures.gathered c.in_ok-answer.ensures.counted_among c.in_ok-answer.ensures.few_numbers c.in_ok-answer.ensures.powers c.in_ok-answer.ensures.spanned c.in_ok-answer.ensures.factors_held) (given_told c.in_ok-joined-in-Joined.ensures.ok) in let v : Tree = tree_of c.in_ok-joined-in-Joined.joined c.join_pairs.new.pool in let x = handed_on (tree_of c.args.product c.args.pool.now) v c.requires.product l.is l.hands_on gs ns k s in let kept = keeps_after _ _ _ c.in_ok-answer.ensures.kept c.in_ok-joined-in-Joined.ensures.kept in result_lacks c.reduce_product.result (c.reduce_product.ensures.room gs ns x.calm x.spanned) (λ l. omega (arith, l, x.needs, replaced_free c.requires.stands c.in_ok-joined-in-Joined.ensures.stands kept c.requires.handed g));
-      bits = λ h l a few. let k = less_gathered _ _ _ (given_told (is_gathered c.args.product c.args.pool.now c.gather_factors.new.pool c.in-Joined.is c.in_ok-answer.ensures.gathered)) (gathered_hands c.args.product c.args.pool.now c.gather_factors.new.pool c.requires.product c.in-Joined.is c.in_ok-answer.ensures.gathered c.in_ok-answer.ensures.counted_among c.in_ok-answer.ensures.few_numbers c.in_ok-answer.ensures.powers c.in_ok-answer.ensures.spanned c.in_ok-answer.ensures.factors_held) (given_told c.in_ok-joined-in-Joined.ensures.ok) in c.reduce_product.ensures.bits h l (k.hands_on.held h l a) few;
+      room = λ gs ns k s.
+          let v : Tree = tree_of c.in_ok-joined-in-Joined.joined c.join_pairs.new.pool in
+          let x = handed_on (tree_of c.args.product c.args.pool.now) v c.requires.product l.is l.hands_on gs ns k s in
+          let kept = keeps_after _ _ _ c.in_ok-answer.ensures.kept c.in_ok-joined-in-Joined.ensures.kept in
+          result_lacks c.reduce_product.result (c.reduce_product.ensures.room gs ns x.calm x.spanned)
+          (λ m. omega (arith, m, x.needs, replaced_free c.requires.stands c.in_ok-joined-in-Joined.ensures.stands kept c.requires.handed next));
+      bits = λ h m a few. c.reduce_product.ensures.bits h m (l.hands_on.held h m a) few;
       stands = search rules;
     }
 
 pub reduce_product-returns-in_err-answer-clause-room : goal.reduce_product-returns-in_err-answer-clause-room
 reduce_product-returns-in_err-answer-clause-room t c = λ gs ns k s.
-    passed_on c.from_residual.result c.in_err-answer.field-0.0 _ c.from_residual.ensures.0 c.from_residual.ensures.1 (lacks_as c.in_err-answer.field-0.0 (c.in_err-answer.ensures.room gs s) (λ l. omega (arith, l)))
+    passed_on c.from_residual.result c.in_err-answer.field-0.0 _ c.from_residual.ensures.0 c.from_residual.ensures.1
+    (lacks_as c.in_err-answer.field-0.0 (c.in_err-answer.ensures.room gs s) (λ l. omega (arith, l)))
 
 -- ---- join_pairs
 
@@ -155,15 +180,21 @@ pub join_two-returns : goal.join_two-returns
 join_two-returns t c =
     let g = c.in_ok-joined.ensures.ok in
     let u : Tree = tree_of c.args.product c.args.pool.now in
+    let ts : Trees = children_of u in
+    let j = pair_joined c.args.at ts _ c.requires.reduced c.requires.pair (given_told g) in
+    let from : IsJoinedFrom c.args.at ts (children_of (tree_of c.in_ok-joined.joined c.join_neighbours.new.pool)) = record { pair = c.requires.pair; reduced = c.requires.reduced; is = j.whole } in
     record {
-      ok = let ts = children_of (tree_of c.args.product c.args.pool.now) in let j = pair_joined c.args.at ts _ c.requires.reduced c.requires.pair (given_told g) in if_map c.reduce_joint.result _ _ c.reduce_joint.ensures.ok (λ h x. gives_next g x (λ r s. settled_less c.args.at ts _ r j s));
-      within = let j = pair_joined c.args.at (children_of (tree_of c.args.product c.args.pool.now)) _ c.requires.reduced c.requires.pair (given_told g) in if_map c.reduce_joint.result _ _ c.reduce_joint.ensures.ok (λ h x. settled_within c.args.at _ _ j.joint (given_told x));
-      front = front_next c.in_ok-joined.ensures.ok c.join_neighbours.ensures.front c.reduce_joint.ensures.front;
+      ok = if_map c.reduce_joint.result _ _ c.reduce_joint.ensures.ok (λ h x. gives_next g x (λ r s. settled_less c.args.at ts _ r j s));
+      within = if_map c.reduce_joint.result _ _ c.reduce_joint.ensures.ok (λ h x. settled_within c.args.at _ _ j.joint (given_told x));
+      front = front_next g c.join_neighbours.ensures.front c.reduce_joint.ensures.front;
       kept = search rules;
       faults = search rules;
       caused = search rules;
-      room = λ gs ns k s. let w = product_words u c.requires.product in let j = pair_joined c.args.at (children_of u) _ c.requires.reduced c.requires.pair (given_told g) in let from : IsJoinedFrom c.args.at (children_of u) (children_of (tree_of c.in_ok-joined.joined c.join_neighbours.new.pool)) = record { pair = c.requires.pair; reduced = c.requires.reduced; is = j.whole } in result_lacks c.reduce_joint.result (c.reduce_joint.ensures.room gs ns (children_of u) from (subst (IsCalmAtZero ns) w k) (subst (SpansTree gs) w s)) (λ l. omega (arith, l, replaced_free c.requires.stands c.in_ok-joined.ensures.stands c.in_ok-joined.ensures.kept c.requires.handed g));
-      bits = λ h l a few. let j = pair_joined c.args.at (children_of u) _ c.requires.reduced c.requires.pair (given_told c.in_ok-joined.ensures.ok) in let from : IsJoinedFrom c.args.at (children_of u) (children_of (tree_of c.in_ok-joined.joined c.join_neighbours.new.pool)) = record { pair = c.requires.pair; reduced = c.requires.reduced; is = j.whole } in c.reduce_joint.ensures.bits h l (children_of u) from a few;
+      room = λ gs ns k s.
+          let w = product_words u c.requires.product in
+          result_lacks c.reduce_joint.result (c.reduce_joint.ensures.room gs ns ts from (subst (IsCalmAtZero ns) w k) (subst (SpansTree gs) w s))
+          (λ l. omega (arith, l, replaced_free c.requires.stands c.in_ok-joined.ensures.stands c.in_ok-joined.ensures.kept c.requires.handed g));
+      bits = λ h l a few. c.reduce_joint.ensures.bits h l ts from a few;
       stands = search rules;
     }
 
@@ -207,7 +238,9 @@ reduce_joint-returns-in_err-power t c =
       room = λ gs ns ts k q s. passed_on c.from_residual.result c.in_err-power.field-0.0 _ c.from_residual.ensures.0 c.from_residual.ensures.1
           (lacks_as c.in_err-power.field-0.0 (c.in_err-power.ensures.room gs (subst (SpansTree gs) (sym e) (joint_at_spans gs c.args.at ts us k s.1)))
           (λ l. omega (arith, joint_sum_lacks gs c.args.at ts us k s.1 x (free_of c.open_child-hole.new.pool) (free_of c.args.pool.now) e c.open_child-hole.ensures.free l, ap size w)));
-      bits = λ h l ts k b few. passed_on c.from_residual.result c.in_err-power.field-0.0 _ c.from_residual.ensures.0 c.from_residual.ensures.1 (c.in_err-power.ensures.bits 8 0 (joint_exponents c.args.at ts us k x e h l b few) (omega arith));
+      bits = λ h l ts k b few.
+          passed_on c.from_residual.result c.in_err-power.field-0.0 _ c.from_residual.ensures.0 c.from_residual.ensures.1
+          (c.in_err-power.ensures.bits 8 0 (joint_exponents c.args.at ts us k x e h l b few) (omega arith));
       stands = search rules;
     }
 
@@ -216,8 +249,10 @@ reduce_joint-reduce_power-requires t c =
     let r = ready_joint _ (joint_at c.requires.joint) in
     let g = c.in_ok-power.ensures.ok in
     let s = subst (λ (x : Tree). IsSummed (base_in x) (children_of (exponent_in x)) (tree_of c.in_ok-power.power c.sum_exponent.new.pool)) (given_told c.open_child-hole.ensures.child) (given_told g) in
-    let y = ready_summed _ _ _ r.base_reduced s in
-    (below_measure c.decreases (power_falls (tree_of c.args.product c.args.pool.now) _ c.args.at r.is s), (c.in_ok-power.ensures.stands, (given_handed g, (y.is, (y.base_reduced, y.exponent_reduced)))))
+    let y = ready_summed _ _ _ r.base_reduced s in (
+      below_measure c.decreases (power_falls (tree_of c.args.product c.args.pool.now) _ c.args.at r.is s),
+      (c.in_ok-power.ensures.stands, (given_handed g, (y.is, (y.base_reduced, y.exponent_reduced)))),
+    )
 
 pub reduce_joint-returns-in_err-factor : goal.reduce_joint-returns-in_err-factor
 reduce_joint-returns-in_err-factor t c =
@@ -265,7 +300,7 @@ reduce_joint-returns-clause-ok t c =
     let p = changes_as (c.fill.ensures.changed _ _ _ (hole_stays g c.open_child-hole.ensures.hole)) (factor_set (tree_of c.args.product c.args.pool.now) c.args.at v c.requires.product) in
     let s = subst (λ (x : Tree). IsSummed (base_in x) (children_of (exponent_in x)) (tree_of c.in_ok-power.power c.sum_exponent.new.pool)) (given_told c.open_child-hole.ensures.child) (given_told c.in_ok-power.ensures.ok) in
     let answer = subst (λ (x : Tree). IsReducedPower (base_in x) (exponent_in x) v) s.is (given_told c.in_ok-factor.ensures.ok) in
-    changes_last p c.move_last.ensures.last (record { exponent = s.exponent; sum = s.sum; room = s.room; counts = s.counts; factor = v; answer = answer; is = refl })
+    changes_last p c.move_last.ensures.last (record { exponent = s.exponent; sum = s.sum; bounds = s.bounds; factor = v; answer = answer; is = refl })
 
 pub reduce_joint-returns-clause-front : goal.reduce_joint-returns-clause-front
 reduce_joint-returns-clause-front t c =
@@ -279,7 +314,8 @@ reduce_power-returns-in-Done-clause-ok t c =
     let d = is_done c.args.power c.args.pool.now c.power_step.new.pool c.in-Done.is c.in_ok-answer.ensures.ok in
     gives_as (gives_itself d.1) refl
     (λ u a. power_finished (base_in (tree_of c.args.power c.args.pool.now)) (exponent_in (tree_of c.args.power c.args.pool.now)) u d.0 a.0
-    (λ n q. subst (IsHeldAsPowerOf n (base_in (tree_of c.args.power c.args.pool.now))) (sym a.1) (is_held c.power_step.new.pool c.in-Done.is n (base_in (tree_of c.args.power c.args.pool.now)) (c.in_ok-answer.ensures.held n q))))
+    (λ n q. subst (IsHeldAsPowerOf n (base_in (tree_of c.args.power c.args.pool.now))) (sym a.1)
+    (is_held c.power_step.new.pool c.in-Done.is n (base_in (tree_of c.args.power c.args.pool.now)) (c.in_ok-answer.ensures.held n q))))
 
 pub reduce_power-reduce_rewritten-requires : goal.reduce_power-reduce_rewritten-requires
 reduce_power-reduce_rewritten-requires t c =
@@ -290,19 +326,26 @@ reduce_power-reduce_rewritten-requires t c =
 pub reduce_power-returns-in-Again : goal.reduce_power-returns-in-Again
 reduce_power-returns-in-Again t c =
     let g = is_again c.args.power c.args.pool.now c.power_step.new.pool c.in-Again.is c.in_ok-answer.ensures.ok in
+    let w = given_told g in
+    let n = sym c.has_half_exponent.ensures ∙ c.if-has_half_exponent.false in
+    let r = is_rewritten _ _ _ n c.requires.base c.requires.exponent w.0 in
     record {
-      ok = let w = given_told g in let same = subst (λ (x : Tree). Rewrites x (tree_of c.in-Again.tree c.power_step.new.pool)) c.requires.power w.1 in if_map c.reduce_rewritten.result _ _ c.reduce_rewritten.ensures.ok (λ h x. gives_next g x (λ r f. power_after _ _ _ r (sym c.has_half_exponent.ensures ∙ c.if-has_half_exponent.false) c.requires.base c.requires.exponent (w.0, same) f));
+      ok =
+          let same = subst (λ (x : Tree). Rewrites x (tree_of c.in-Again.tree c.power_step.new.pool)) c.requires.power w.1 in
+          if_map c.reduce_rewritten.result _ _ c.reduce_rewritten.ensures.ok (λ h x. gives_next g x (λ r f. power_after _ _ _ r n c.requires.base c.requires.exponent (w.0, same) f));
       rationals = search rules;
-      defined = any_refusal c.reduce_rewritten.result _ (rewritten_defined (tree_of c.args.power c.args.pool.now) _ c.requires.power (sym c.has_half_exponent.ensures ∙ c.if-has_half_exponent.false) (given_told g).0);
-      front = front_next (is_again c.args.power c.args.pool.now c.power_step.new.pool c.in-Again.is c.in_ok-answer.ensures.ok) c.power_step.ensures.front c.reduce_rewritten.ensures.front;
+      defined = any_refusal c.reduce_rewritten.result _ (rewritten_defined (tree_of c.args.power c.args.pool.now) _ c.requires.power n w.0);
+      front = front_next g c.power_step.ensures.front c.reduce_rewritten.ensures.front;
       kept = search rules;
       faults = search rules;
       caused = search rules;
-      room = λ gs ns k s w. let n = sym c.has_half_exponent.ensures ∙ c.if-has_half_exponent.false in let r = is_rewritten _ _ _ n c.requires.base c.requires.exponent (given_told g).0 in result_lacks c.reduce_rewritten.result (c.reduce_rewritten.ensures.room gs ns _ _ r (subst (IsCalmAtZero ns) c.requires.power k) (subst (SpansTree gs) c.requires.power s)) (λ l. omega (arith, l, replaced_free c.requires.stands c.in_ok-answer.ensures.stands c.in_ok-answer.ensures.kept c.requires.handed g));
-      root_room = λ gs h s. contrary h (sym c.has_half_exponent.ensures ∙ c.if-has_half_exponent.false);
-      others = λ w h. let r = is_rewritten _ _ _ h c.requires.base c.requires.exponent (given_told g).0 in contrary r.whole w;
-      bits = λ n h l q a few. let r = is_rewritten _ _ _ (sym c.has_half_exponent.ensures ∙ c.if-has_half_exponent.false) c.requires.base c.requires.exponent (given_told g).0 in c.reduce_rewritten.ensures.bits _ _ n h l r q a few;
-      root_bits = λ h l e z a few more. contrary e (sym c.has_half_exponent.ensures ∙ c.if-has_half_exponent.false);
+      room = λ gs ns k s e.
+          result_lacks c.reduce_rewritten.result (c.reduce_rewritten.ensures.room gs ns _ _ r (subst (IsCalmAtZero ns) c.requires.power k) (subst (SpansTree gs) c.requires.power s))
+          (λ l. omega (arith, l, replaced_free c.requires.stands c.in_ok-answer.ensures.stands c.in_ok-answer.ensures.kept c.requires.handed g));
+      root_room = λ gs h s. contrary h n;
+      others = λ e h. contrary r.whole e;
+      bits = λ m h l q a few. c.reduce_rewritten.ensures.bits _ _ m h l r q a few;
+      root_bits = λ h l e z a few more. contrary e n;
       stands = search rules;
     }
 
@@ -320,7 +363,8 @@ reduce_power-returns-in_err-answer-clause-defined t c =
     (misfit_fault (tree_of c.args.power c.args.pool.now) c.in_err-answer.field-0.0 c.requires.power c.in_err-answer.ensures.overflow)
 
 pub reduce_power-returns-then-has_half_exponent-clause-bits : goal.reduce_power-returns-then-has_half_exponent-clause-bits
-reduce_power-returns-then-has_half_exponent-clause-bits t c = λ n h l q a few. half_no_whole (exponent_in (tree_of c.args.power c.args.pool.now)) n (sym c.has_half_exponent.ensures ∙ c.if-has_half_exponent.true) q
+reduce_power-returns-then-has_half_exponent-clause-bits t c =
+    λ n h l q a few. half_no_whole (exponent_in (tree_of c.args.power c.args.pool.now)) n (sym c.has_half_exponent.ensures ∙ c.if-has_half_exponent.true) q
 
 -- ---- reduce_rewritten
 
@@ -338,16 +382,23 @@ reduce_rewritten-reduce_product-requires t c =
 
 pub reduce_rewritten-returns-in_ok-product-in-Mult : goal.reduce_rewritten-returns-in_ok-product-in-Mult
 reduce_rewritten-returns-in_ok-product-in-Mult t c =
+    let u : Tree = tree_of c.args.tree c.args.pool.now in
     let m = product_kind _ (sym c.in-Mult.is ∙ kind_of_root {k = c.kind.result} c.id.ensures c.requires.stands c.requires.handed c.kind.ensures.plain) in
     let g = c.in_ok-product-in-Mult.ensures.ok in
+    let v : Tree = tree_of c.in_ok-product-in-Mult.product c.reduce_powers.new.pool in
     record {
       ok = if_map c.reduce_product.result _ _ c.reduce_product.ensures.ok (λ h x. gives_next g x (λ r a. product_of_powers _ _ r m c.requires.unfinished (given_told g) a));
-      front = front_next c.in_ok-product-in-Mult.ensures.ok c.reduce_powers.ensures.front c.reduce_product.ensures.front;
+      front = front_next g c.reduce_powers.ensures.front c.reduce_product.ensures.front;
       kept = search rules;
       faults = search rules;
       caused = search rules;
-      room = λ gs ns b e r k s. let m = product_kind _ (sym c.in-Mult.is ∙ kind_of_root {k = c.kind.result} c.id.ensures c.requires.stands c.requires.handed c.kind.ensures.plain) in let x = ready_for_product gs ns b e (tree_of c.args.tree c.args.pool.now) (tree_of c.in_ok-product-in-Mult.product c.reduce_powers.new.pool) m r k s (given_told g) in result_lacks c.reduce_product.result (c.reduce_product.ensures.room gs ns x.calm x.spanned) (λ l. omega (arith, x.lacks _ l, replaced_free c.requires.stands c.in_ok-product-in-Mult.ensures.stands c.in_ok-product-in-Mult.ensures.kept c.requires.handed g));
-      bits = λ b e n h l r q a few. let v : Tree = tree_of c.in_ok-product-in-Mult.product c.reduce_powers.new.pool in product_fits (children_of v) c.reduce_product.result (λ d. c.reduce_product.ensures.bits (raised_high n h l) (raised_low n h l) (powers_ready b e (tree_of c.args.tree c.args.pool.now) v n h l m r (given_told c.in_ok-product-in-Mult.ensures.ok) q a d) few) c.reduce_product.ensures.defined;
+      room = λ gs ns b e r k s.
+          let x = ready_for_product gs ns b e u v m r k s (given_told g) in
+          result_lacks c.reduce_product.result (c.reduce_product.ensures.room gs ns x.calm x.spanned)
+          (λ l. omega (arith, x.lacks _ l, replaced_free c.requires.stands c.in_ok-product-in-Mult.ensures.stands c.in_ok-product-in-Mult.ensures.kept c.requires.handed g));
+      bits = λ b e n h l r q a few.
+          product_fits (children_of v) c.reduce_product.result
+          (λ d. c.reduce_product.ensures.bits (raised_high n h l) (raised_low n h l) (powers_ready b e u v n h l m r (given_told g) q a d) few) c.reduce_product.ensures.defined;
       stands = search rules;
     }
 
@@ -380,9 +431,12 @@ reduce_rewritten-returns-in_ok-power-in_default t c =
       room = λ gs ns b e r k s.
           let x = ready_for_power gs ns b e (tree_of c.args.tree c.args.pool.now) (tree_of c.in_ok-power-in_default.power c.reduce_exponent.new.pool) (ap is_mult p) r k s (given_told g) in
           power_result _ _ (tree_of c.in_ok-power-in_default.power c.reduce_exponent.new.pool) c.reduce_power.result y.is x.calm
-          (λ w. result_lacks c.reduce_power.result (c.reduce_power.ensures.room gs ns x.calm x.spanned w) (λ l. omega (arith, x.lacks _ l, replaced_free c.requires.stands c.in_ok-power-in_default.ensures.stands kept c.requires.handed g)))
+          (λ w. result_lacks c.reduce_power.result (c.reduce_power.ensures.room gs ns x.calm x.spanned w)
+          (λ l. omega (arith, x.lacks _ l, replaced_free c.requires.stands c.in_ok-power-in_default.ensures.stands kept c.requires.handed g)))
           (λ w h. c.reduce_power.ensures.others w h);
-      bits = λ b e n h l r q a few. power_fits b e (tree_of c.args.tree c.args.pool.now) (tree_of c.in_ok-power-in_default.power c.reduce_exponent.new.pool) n h l c.reduce_power.result (ap is_mult p) r (given_told g) q a few c.reduce_power.ensures.bits c.reduce_power.ensures.others;
+      bits = λ b e n h l r q a few.
+          power_fits b e (tree_of c.args.tree c.args.pool.now) (tree_of c.in_ok-power-in_default.power c.reduce_exponent.new.pool) n h l c.reduce_power.result (ap is_mult p) r
+          (given_told g) q a few c.reduce_power.ensures.bits c.reduce_power.ensures.others;
       stands = c.reduce_power.ensures.stands;
     }
 
@@ -418,8 +472,10 @@ reduce_powers-reduce_power-requires t c =
     let many = children_told c.id.ensures c.children-powers.ensures.value c.requires.stands c.requires.handed in
     let n = next_power c.loop-at.invariant.part (omega (arith, many, c.loop-at-test.true)) in
     let child = c.open_child-hole.ensures.child in
-    let q = subst (IsPowerOf (children_of (tree_of c.args.product c.args.pool.now))) (sym (next_told n child)) (next_of n c.requires.powers) in
-    (below_measure c.decreases (one_power_falls (tree_of c.args.product c.args.pool.now) _ q), (c.open_child-hole.ensures.stands, (given_handed child, (q.transparent.is, (q.transparent.base_reduced, q.transparent.exponent_reduced)))))
+    let q = subst (IsPowerOf (children_of (tree_of c.args.product c.args.pool.now))) (sym (next_told n child)) (next_of n c.requires.powers) in (
+      below_measure c.decreases (one_power_falls (tree_of c.args.product c.args.pool.now) _ q),
+      (c.open_child-hole.ensures.stands, (given_handed child, (q.transparent.is, (q.transparent.base_reduced, q.transparent.exponent_reduced)))),
+    )
 
 pub reduce_powers-returns-in_err-reduced : goal.reduce_powers-returns-in_err-reduced
 reduce_powers-returns-in_err-reduced t c =
@@ -512,7 +568,8 @@ reduce_exponent-returns-in_err-product-in-Mult t c =
       room = λ gs ns b e r k s.
           let x = ready_exponent gs ns b e whole taken (ap is_mult c.requires.power) (ap is_mult told ∙ m) told r k s in
           passed_on c.from_residual.result c.in_err-product-in-Mult.field-0.0 _ c.from_residual.ensures.0 c.from_residual.ensures.1
-          (lacks_as c.in_err-product-in-Mult.field-0.0 (c.in_err-product-in-Mult.ensures.room gs ns x.0 x.1) (λ l. omega (arith, x.2 _ l, c.open_child-hole.ensures.free, ap size c.requires.power, ap size told)));
+          (lacks_as c.in_err-product-in-Mult.field-0.0 (c.in_err-product-in-Mult.ensures.room gs ns x.0 x.1)
+          (λ l. omega (arith, x.2 _ l, c.open_child-hole.ensures.free, ap size c.requires.power, ap size told)));
       bits = λ b e n h l r q f few. passed_on c.from_residual.result c.in_err-product-in-Mult.field-0.0 _ c.from_residual.ensures.0 c.from_residual.ensures.1
           (c.in_err-product-in-Mult.ensures.bits 14 0 (exponent_ready b e whole taken n h l (ap is_mult c.requires.power) (ap is_mult told ∙ m) told r q f few) (omega arith));
       stands = search rules;
@@ -538,7 +595,8 @@ reduce_exponent-returns-in_ok-product-in-Mult-clause-ok t c =
     (p.lifted _ (record { exponent = v; product = product; is = refl }))
 
 pub reduce_exponent-returns-in_ok-product-in-Mult-clause-front : goal.reduce_exponent-returns-in_ok-product-in-Mult-clause-front
-reduce_exponent-returns-in_ok-product-in-Mult-clause-front t c = changes_last_front (c.fill.ensures.changed _ _ _ (hole_stays c.in_ok-product-in-Mult.ensures.ok c.open_child-hole.ensures.hole)) c.move_last.ensures.last
+reduce_exponent-returns-in_ok-product-in-Mult-clause-front t c =
+    changes_last_front (c.fill.ensures.changed _ _ _ (hole_stays c.in_ok-product-in-Mult.ensures.ok c.open_child-hole.ensures.hole)) c.move_last.ensures.last
 
 pub reduce_exponent-returns-in_default : goal.reduce_exponent-returns-in_default
 reduce_exponent-returns-in_default t c =

@@ -18,7 +18,9 @@ returns g c =
       bad_parts = if_map c.walk.result _ _ c.walk.ensures.ok (λ h x. (given_told x).bad_part);
       plain_answers = if_map c.walk.result _ _ c.walk.ensures.ok (λ h x. (given_told x).plain);
       plain_overflows = overflow_as c.walk.result unfit (λ o u. u.unfit.plain);
-      plain_overflow_at_its_node = overflow_as c.walk.result unfit (λ o u v. subst (λ (n : ℕ). CalmChecks n (states g.B.Breaker.state c.args.watch.now) (states g.B.Breaker.state c.walk.new.watch)) (u.unfit.at_its_node v) u.calm);
+      plain_overflow_at_its_node =
+          overflow_as c.walk.result unfit
+          (λ o u v. subst (λ (n : ℕ). CalmChecks n (states g.B.Breaker.state c.args.watch.now) (states g.B.Breaker.state c.walk.new.watch)) (u.unfit.at_its_node v) u.calm);
       interrupted = search rules;
       by_the_one_whose_trips_rose = search rules;
       overflow = search rules;
