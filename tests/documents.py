@@ -31,6 +31,7 @@ ITEM = re.compile(r"pub (?:unsafe |extern \S+ )*(?:fn|struct|enum|trait|const|ty
 CITATION = re.compile(r"([A-Za-z_]\w*(?:::\w+)?): ([a-z]\w*(?:, [a-z]\w*)*)")
 NAME = re.compile(r"[A-Za-z_]\w*(?:::\w+)*")
 PATH = re.compile(r"(?<![\w/.])(?:bench|c|crates|docs|launcher|python|tests)/[\w./-]*\w")
+TESTS = re.compile(r"#\[cfg\(test\)\]\nmod (\w+);")
 LINK = re.compile(r"\[[^\]]*\]\(([^)\s]+)\)")
 
 
@@ -51,8 +52,10 @@ class Crate:
         self.items = {}
         self.exports = []
         self.words = set()
-        for file in sorted((folder / "src").rglob("*.rt")):
-            if "tests" not in file.relative_to(folder).parts and file.name != "tests.rt":
+        sources = sorted((folder / "src").rglob("*.rt"))
+        tests = {name for file in sources for name in TESTS.findall(file.read_text())}
+        for file in sources:
+            if not tests & set(file.relative_to(folder).with_suffix("").parts):
                 self.read(file)
         for file in [*folder.glob("src/**/*.rt"), *folder.glob("specs/**/*.antt"), *folder.glob("proofs/**/*.antt")]:
             self.words.add(file.stem)

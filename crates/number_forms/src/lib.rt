@@ -26,6 +26,4 @@ pub use placing::place_term;
 pub use powers::power_number;
 pub use read::{classes, half, is_reduced_number, is_zero, whole};
 pub use recognize::is_number;
-
-#[cfg(test)]
-mod tests;
+pub use term::nth_term;

@@ -17,7 +17,7 @@ use surd_terms::Term;
 use tree_handles::{child_id, kind};
 
 /// A term of a Number, by its place among them.
-pub(crate) fn nth_term(pool: &Pool, id: Id, at: u16) -> Term
+pub fn nth_term(pool: &Pool, id: Id, at: u16) -> Term
     requires stands { Stands pool.now }
     requires expression { IsExpression id (forest pool.now) }
     requires number { is_number (plain (tree_at id (forest pool.now))) ≡ true }

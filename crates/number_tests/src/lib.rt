@@ -1,0 +1,5 @@
+//! Tests of Numbers, over what `number_forms` states.
+#![tactic(auto)]
+
+#[cfg(test)]
+mod numbers;
