@@ -11,6 +11,3 @@ mod taking;
 pub use products::unwrapped;
 pub use putting::put_coefficient;
 pub use taking::{coefficient_length, split_product, take_coefficient};
-
-#[cfg(test)]
-mod tests;

@@ -12,6 +12,3 @@ mod whole;
 
 pub use driver::DeepReducer;
 pub use whole::{reduce_power, reduce_product};
-
-#[cfg(test)]
-mod tests;

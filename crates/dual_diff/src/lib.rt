@@ -12,6 +12,3 @@ mod writing;
 
 pub use derivable::has_derivative;
 pub use derivation::derive;
-
-#[cfg(test)]
-mod tests;

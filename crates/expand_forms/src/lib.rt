@@ -30,6 +30,3 @@ mod walking;
 pub use expansion::expand;
 pub use polynomial::is_polynomial;
 pub use term_lists::TermLists;
-
-#[cfg(test)]
-mod tests;

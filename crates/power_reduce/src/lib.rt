@@ -9,6 +9,3 @@ mod sides;
 mod step;
 
 pub use step::power_step;
-
-#[cfg(test)]
-mod tests;

@@ -17,6 +17,3 @@ mod steps;
 
 pub use gathering::{Joining, gather_factors, join_neighbours, next_pair};
 pub use steps::product_step;
-
-#[cfg(test)]
-mod tests;

@@ -4,6 +4,3 @@
 mod roots;
 
 pub use roots::reduce_root;
-
-#[cfg(test)]
-mod tests;

@@ -11,6 +11,3 @@ mod reducing;
 mod terms;
 
 pub use reducing::reduce_sum;
-
-#[cfg(test)]
-mod tests;

@@ -1,5 +1,0 @@
-use Rattle.coefficients.proofs.Shared.{refl, term_is_number, gives_as}
-use Rattle.coefficients.proofs.tests.root.Goals as goal
-
-pub returns-clause-ok : goal.returns-clause-ok
-returns-clause-ok c = gives_as c.in_ok-root.ensures.ok refl (λ t h. term_is_number t h.0)

@@ -1,4 +1,0 @@
-use Rattle.dual_diff.proofs.tests.+opposites.Given as goal
-
-abbrev pub decreases-opposites : goal.decreases-opposites
-decreases-opposites l = l.levels

@@ -1,7 +1,0 @@
-use Rattle.std.proofs.Common.{sym, subst, refl}
-use Rattle.product_reduce.proofs.Shared.{IsMonic, gives_as}
-use Rattle.product_reduce.proofs.Small.{symbol_monic}
-use Rattle.product_reduce.proofs.tests.letter.Goals as goal
-
-pub returns-clause-ok : goal.returns-clause-ok
-returns-clause-ok c = gives_as c.in_ok-tree.ensures.given refl (λ t e. subst IsMonic (sym e) (symbol_monic _))

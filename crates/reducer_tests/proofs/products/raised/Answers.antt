@@ -1,0 +1,16 @@
+use Rattle.std.proofs.Common.{◌∙◌, ap, rules}
+use Rattle.reducer_tests.proofs.Shared.{is_reduced, power, other_plain, given_root, given_handed, given_told, gives_as}
+use Rattle.number_forms.proofs.Pairs.{first_handed, pair_apart, pair_rest}
+use Rattle.reducer_tests.proofs.products.raised.Goals as goal
+
+pub node_over_two-requires : goal.node_over_two-requires
+node_over_two-requires c =
+    let a = c.in_ok-below.ensures.given in
+    let b = c.in_ok-above.ensures.given in
+    record { stands = search rules; takes = search rules; first = first_handed a b; second = given_handed b; apart = pair_apart _ _ a b }
+
+pub returns-clause-ok : goal.returns-clause-ok
+returns-clause-ok c =
+    let a = c.in_ok-below.ensures.given in
+    let b = c.in_ok-above.ensures.given in
+    gives_as c.in_ok-tree.ensures.ok (pair_rest a b) (λ t e. ap is_reduced (e ∙ (λ i. power ((other_plain _ b (given_root a) ∙ given_told a) i) (given_told b i))) ∙ c.requires.kept _)

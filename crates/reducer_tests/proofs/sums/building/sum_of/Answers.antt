@@ -1,0 +1,55 @@
+use Rattle.std.proofs.Common.{◌∙◌, ap, refl, arith, rules}
+use Rattle.reducer_tests.proofs.Shared.{count, are_reduced, tree_of, forest, given_root, given_told, given_rest, root_held, terms_in}
+use Rattle.like_children.proofs.Places.{count_inserted}
+use Rattle.sum_reduce.proofs.Sums.{changes_same, changes_after, changes_rest, put_in, roots_apart, sum_live}
+use Rattle.sum_reduce.proofs.Tested.{empty_sum, empty_terms, placed, reduced_inserted, moved_sum, moved_terms}
+use Rattle.reducer_tests.proofs.sums.building.sum_of.Goals as goal
+
+pub loop-shape-init : goal.loop-shape-init
+loop-shape-init c =
+    record {
+      changes = changes_same (empty_sum (c.in_ok-sum.ensures.given refl));
+      reduced = ap are_reduced (empty_terms (c.in_ok-sum.ensures.given refl));
+      many = omega arith;
+      stands = c.in_ok-sum.ensures.stands;
+    }
+
+pub children-last-requires-clause-live : goal.children-last-requires-clause-live
+children-last-requires-clause-live c =
+    sum_live c.build.new.pool c.id.ensures (placed c.loop-shape.invariant.changes.sum c.in_ok-term.ensures.ok).takes.sum
+
+pub add_child-requires : goal.add_child-requires
+add_child-requires c =
+    let t = (placed c.loop-shape.invariant.changes.sum c.in_ok-term.ensures.ok).takes in
+    record {
+      stands =
+          search rules;
+      live = root_held c.in_ok-sum.sum _ t.sum.handed.root;
+      within = search rules;
+      root = given_root c.in_ok-term.ensures.ok;
+      apart = roots_apart c.in_ok-term.ensures.stands t;
+    }
+
+pub loop-shape-preserved : goal.loop-shape-preserved
+loop-shape-preserved c =
+    let i = c.loop-shape.invariant in
+    let r = placed i.changes.sum c.in_ok-term.ensures.ok in
+    let x = put_in c.children-last.result r.takes (c.add_child.ensures.root r.takes.sum.handed.root) in
+    record {
+      changes = changes_after i.changes x.changes;
+      reduced = ap are_reduced x.terms ∙ reduced_inserted c.children-last.result _ _ (given_told c.in_ok-term.ensures.ok) (ap are_reduced r.terms ∙ i.reduced);
+      many = omega (arith, i.many, ap count x.terms, count_inserted c.children-last.result (tree_of c.in_ok-term.term c.build.new.pool) (terms_in c.in_ok-sum.sum (forest c.build.new.pool)), ap count r.terms);
+      stands = c.add_child.ensures.stands;
+    }
+
+pub returns-clause-sum : goal.returns-clause-sum
+returns-clause-sum c =
+    moved_sum c.loop-shape.invariant.changes.sum c.move_last.ensures.last (changes_rest c.loop-shape.invariant.changes ∙ given_rest (c.in_ok-sum.ensures.given refl))
+
+pub returns-clause-reduced : goal.returns-clause-reduced
+returns-clause-reduced c =
+    ap are_reduced (moved_terms c.loop-shape.invariant.changes.sum c.move_last.ensures.last) ∙ c.loop-shape.invariant.reduced
+
+pub returns-clause-some : goal.returns-clause-some
+returns-clause-some c =
+    omega (arith, ap count (moved_terms c.loop-shape.invariant.changes.sum c.move_last.ensures.last), c.loop-shape.invariant.many, c.loop-shape-test.false, c.requires.some)

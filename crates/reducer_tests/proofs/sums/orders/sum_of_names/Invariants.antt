@@ -1,0 +1,11 @@
+use Rattle.std.proofs.Common.{◌≡◌, ◌≤◌, true}
+use Rattle.reducer_tests.proofs.Shared.{count, are_reduced, Stands, forest, Changes, terms_in}
+use Rattle.reducer_tests.proofs.sums.orders.sum_of_names.Given as goal
+
+abbrev pub invariant-loop-place : goal.invariant-loop-place
+invariant-loop-place l = record {
+  changes : Changes l.sum (forest l.initial.pool) (forest l.pool);
+  reduced : are_reduced (terms_in l.sum (forest l.pool)) ≡ true;
+  many : l.place ≤ count (terms_in l.sum (forest l.pool));
+  stands : Stands l.pool;
+}
