@@ -1,11 +1,10 @@
 -- Faces of single nodes over the faces of their children, and their bytes.
-use Rattle.beautify.proofs.Shared.{◌≡◌, ◌∙◌, ◌==◌, if◌then◌else◌, None, Some, ℕ, zero, suc, ◌+◌, ◌*◌, ◌<◌, ◌≤◌, nat_abs, refl, sym, ap, subst, arith}
-use Rattle.beautify.proofs.Shared.{true, false, Bool, Tree, Trees, Fraction, has_minus, with_minus, is_symbol, symbol, face_of_sum, Part, Numerator, Denominator, num, power, root, mult, add}
-use Rattle.beautify.proofs.Shared.{div, none, more, append, count, size, sizes, nth, plain, children_of, root_kind, whole_num, AllParts, AllPartsOf, HasTwo, is_num, num_least, IsExpression}
-use Rattle.beautify.proofs.Shared.{Forest, tree_at, Form, Face, Unsigned, Divisor, IsReadyPart, IsShowable, IsFactor, AreFactors, first, behind, face, unsigned_face, exponent_below}
-use Rattle.beautify.proofs.Shared.{stands_below, divisor_of, product_of, fraction_of, unless_one, numerator_of, denominator_of, factor_above, factor_below, factors_above, factors_below}
-use Rattle.beautify.proofs.{Shared.{form_room, part_room, part_above, part_below, share_room, Terms, Above, Below, least_size}, NodeKinds.{sum_parts, product_parts}}
-use Rattle.beautify.proofs.{Trees.{unless_one_by, unless_one_test, first-append, behind-append}, Sizes.eight_each}
+use Rattle.beautify.proofs.Shared.{◌≡◌, ◌∙◌, ◌==◌, if◌then◌else◌, None, Some, ℕ, zero, suc, ◌+◌, ◌*◌, ◌<◌, ◌≤◌, nat_abs, refl, sym, ap, subst, arith, true, false, Bool, Tree, Trees, Fraction}
+use Rattle.beautify.proofs.Shared.{has_minus, with_minus, is_symbol, symbol, face_of_sum, Part, Numerator, Denominator, num, power, root, mult, add, div, none, more, append, count, size, sizes, nth}
+use Rattle.beautify.proofs.Shared.{plain, children_of, root_kind, whole_num, AllParts, AllPartsOf, HasTwo, is_num, num_least, IsExpression, Forest, tree_at, Form, Face, Unsigned, Divisor, IsReadyPart}
+use Rattle.beautify.proofs.Shared.{IsShowable, IsFactor, AreFactors, first, behind, face, unsigned_face, exponent_below, stands_below, divisor_of, product_of, fraction_of, unless_one, numerator_of}
+use Rattle.beautify.proofs.Shared.{denominator_of, factor_above, factor_below, factors_above, factors_below, form_room, part_room, part_above, part_below, share_room, Terms, Above, Below, least_size}
+use Rattle.beautify.proofs.{NodeKinds.{sum_parts, product_parts}, Sizes.eight_each, Trees.{unless_one_by, unless_one_test, first-append, behind-append}}
 use Rattle.calc_terms.specs.{Kind.size_by_form, Short.is_short}
 use Rattle.calc_terms.proofs.ShortForm.{short_whole}
 use Rattle.calc_terms.specs.declared.kind.Kind.TheVariants as kind

@@ -1,7 +1,6 @@
 -- The parts of a reduced tree can be shown.
-use Rattle.beautify.proofs.Shared.{◌≡◌, ◌≤◌, ℕ, ℤ, suc, arith, true, false, Tree, num, symbol, undef, add, mult, power, root, neg, sub, div, Trees, none, more, AllParts}
-use Rattle.beautify.proofs.Shared.{AllPartsOf, is_mult, is_undef, HasTwo, Fraction, below_zero, exponent_below, has_minus, classes, is_reduced, NoneIs, HasForm, IsWholePowerForm, reduced_words}
-use Rattle.beautify.proofs.Shared.{IsShowable, IsFactor, AreFactors}
+use Rattle.beautify.proofs.Shared.{◌≡◌, ◌≤◌, ℕ, ℤ, suc, arith, true, false, Tree, num, symbol, undef, add, mult, power, root, neg, sub, div, Trees, none, more, AllParts, AllPartsOf, is_mult, is_undef}
+use Rattle.beautify.proofs.Shared.{HasTwo, Fraction, below_zero, exponent_below, has_minus, classes, is_reduced, NoneIs, HasForm, IsWholePowerForm, reduced_words, IsShowable, IsFactor, AreFactors}
 use Rattle.calc_algebra.proofs.NumberLaws.{number_test}
 
 -- the root of a part of a reduced tree

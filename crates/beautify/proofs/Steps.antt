@@ -1,11 +1,10 @@
 -- A face under way: what is written, and what is still owed.
-use Rattle.beautify.proofs.Shared.{◌≡◌, ◌∙◌, ℕ, ◌+◌, ◌-◌, ◌*◌, ◌<◌, ◌≤◌, List, [], ◌∷◌, ◌++◌, length, refl, sym, ap, subst, arith, eqb, cond, pos}
-use Rattle.beautify.proofs.Shared.{Payload, rational, Ratio, whole, whole_size, One, Over, Name, Numerator, Denominator, Tree, Trees, none, more, count, size, AllParts, grown, plain}
-use Rattle.beautify.proofs.Shared.{IsExpression, State, free_of, Full, used, Forest, empty, tree, join, arity, bytes_in, tree_at, holds, one_tree, Ends, Starts, KeepsRefusals, IsRefused, Stands}
-use Rattle.beautify.proofs.Shared.{forest, face, IsShowable, Form, Face, Pending, Part, Noted, Owes, IsNode, IsReady, IsReadyPart, IsWritten, in_form, with_next, next_room, form_room, rooms}
-use Rattle.beautify.proofs.Shared.{children_taken, IsDraft, first, behind, by_test, one_at, alone_in, least_size, used_forest, kids, nodes_in, children_of, few_in, size-plain, bytes_in-join}
-use Rattle.beautify.proofs.{Shared.{keeps_after, join_assoc, join-empty, expression_children}, Drafting.{written, no_nodes}}
-use Rattle.beautify.proofs.Pushing.{popped, owes_none, owes_still, owes_as, owes_own, eight_each, eight_next, some_room, rooms_still, rooms-snoc}
+use Rattle.beautify.proofs.Shared.{◌≡◌, ◌∙◌, ℕ, ◌+◌, ◌-◌, ◌*◌, ◌<◌, ◌≤◌, List, [], ◌∷◌, ◌++◌, length, refl, sym, ap, subst, arith, eqb, cond, pos, Payload, rational, Ratio, whole, whole_size, One}
+use Rattle.beautify.proofs.Shared.{Over, Name, Numerator, Denominator, Tree, Trees, none, more, count, size, AllParts, grown, plain, IsExpression, State, free_of, Full, used, Forest, empty, tree}
+use Rattle.beautify.proofs.Shared.{join, arity, bytes_in, tree_at, holds, one_tree, Ends, Starts, KeepsRefusals, IsRefused, Stands, forest, face, IsShowable, Form, Face, Pending, Part, Noted, Owes}
+use Rattle.beautify.proofs.Shared.{IsNode, IsReady, IsReadyPart, IsWritten, in_form, with_next, next_room, form_room, rooms, children_taken, IsDraft, first, behind, by_test, one_at, alone_in}
+use Rattle.beautify.proofs.Shared.{least_size, used_forest, kids, nodes_in, children_of, few_in, size-plain, bytes_in-join, keeps_after, join_assoc, join-empty, expression_children}
+use Rattle.beautify.proofs.{Drafting.{written, no_nodes}, Pushing.{popped, owes_none, owes_still, owes_as, owes_own, eight_each, eight_next, some_room, rooms_still, rooms-snoc}}
 use Rattle.std.proofs.Common.{Result, Ok, Err}
 use Rattle.std.specs.Prelude.{IfOk, IfErr}
 use Rattle.calc_terms.specs.Payload.{size_of_payload}

@@ -1,8 +1,7 @@
 -- The terms of a sum, joined from left to right.
-use Rattle.beautify.proofs.Shared.{◌≡◌, ◌∙◌, ℕ, zero, suc, ◌+◌, ◌-◌, ◌*◌, ◌<◌, ◌≤◌, List, length, refl, sym, ap, subst, arith, true, false, Bool, Tree, Trees}
-use Rattle.beautify.proofs.Shared.{add, sub, none, more, append, count, nth, Forest, first, behind, Pending, Owes, SoFar, single, summed, multiplied, as_tree, face, has_minus, unsigned_face}
-use Rattle.beautify.proofs.{Shared.{unsigned_faces, face_of_sum, next_term, next_terms}, Pushing.owes_as}
-use Rattle.beautify.proofs.Trees.{append_assoc, behind-append, first-append, behind-next, behind-all, count-append}
+use Rattle.beautify.proofs.Shared.{◌≡◌, ◌∙◌, ℕ, zero, suc, ◌+◌, ◌-◌, ◌*◌, ◌<◌, ◌≤◌, List, length, refl, sym, ap, subst, arith, true, false, Bool, Tree, Trees, add, sub, none, more, append, count, nth}
+use Rattle.beautify.proofs.Shared.{Forest, first, behind, Pending, Owes, SoFar, single, summed, multiplied, as_tree, face, has_minus, unsigned_face, unsigned_faces, face_of_sum, next_term, next_terms}
+use Rattle.beautify.proofs.{Pushing.owes_as, Trees.{append_assoc, behind-append, first-append, behind-next, behind-all, count-append}}
 use Rattle.calc_language.specs.Grammar.{plus_term, minus_term}
 
 -- the trees that stand for what a sum has made so far

@@ -1,14 +1,9 @@
 -- Trees that are written node by node, each parent before its children.
 use Rattle.std.specs.Prelude.{ℕ, ◌≡◌, ◌≤◌, ⊤, List, [], ◌∷◌, ◌++◌, true, false}
-use Rattle.beautify.specs.Lists.{first, behind}
-use Rattle.beautify.specs.declared.draft.Noted.{Noted}
-use Rattle.calc_terms.specs.Payload.{Payload}
-use Rattle.calc_terms.specs.Trees.{Trees, more, count}
+use Rattle.beautify.specs.{Lists.{first, behind}, declared.draft.Noted.{Noted}}
+use Rattle.calc_terms.specs.{Payload.{Payload}, Trees.{Trees, more, count}}
 use Rattle.node_pool.specs.State.{State}
-use Rattle.tree_handles.specs.Expressions.{grown, takes}
-use Rattle.tree_handles.specs.Forest.{Forest, empty, join, one_tree}
-use Rattle.tree_handles.specs.Roots.{has_root}
-use Rattle.tree_handles.specs.Standing.{forest}
+use Rattle.tree_handles.specs.{Expressions.{grown, takes}, Forest.{Forest, empty, join, one_tree}, Roots.{has_root}, Standing.{forest}}
 
 -- a node that was written, and how many of the trees behind it become its children
 pub record Written : Type 0 where

@@ -1,17 +1,10 @@
 -- What is still to be written of a face, and the trees that it comes to.
 use Rattle.std.specs.Prelude.{ℕ, ◌≡◌, ◌≤◌, ◌+◌, ◌-◌, ◌*◌, ⊤, List, [], ◌∷◌, true, nat_abs}
-use Rattle.beautify.specs.Lists.{first, behind}
-use Rattle.beautify.specs.Showing.{IsShowable, stands_below}
-use Rattle.beautify.specs.declared.pending.Form.{Form}
-use Rattle.beautify.specs.declared.pending.Form.TheVariants.{Face, Unsigned, Divisor}
-use Rattle.beautify.specs.declared.pending.Pending.{Pending}
-use Rattle.beautify.specs.declared.pending.Pending.TheVariants.{Over, One, Name, Numerator, Denominator, Part}
+use Rattle.beautify.specs.{Lists.{first, behind}, Showing.{IsShowable, stands_below}, declared.pending.Form.{Form}, declared.pending.Form.TheVariants.{Face, Unsigned, Divisor}}
+use Rattle.beautify.specs.{declared.pending.Pending.{Pending}, declared.pending.Pending.TheVariants.{Over, One, Name, Numerator, Denominator, Part}}
 use Rattle.calc_language.specs.Faces.{face, unsigned_face, power_below, exponent_below}
-use Rattle.calc_terms.specs.Payload.{Payload, size_of_payload}
-use Rattle.calc_terms.specs.Trees.{Tree, num, power, Trees, none, more, count, is_num, is_symbol, size, whole_num, AllParts}
-use Rattle.tree_handles.specs.Expressions.{IsExpression, plain, compound, grown, takes, takes_kind}
-use Rattle.tree_handles.specs.Forest.{Forest}
-use Rattle.tree_handles.specs.Inside.{tree_at}
+use Rattle.calc_terms.specs.{Payload.{Payload, size_of_payload}, Trees.{Tree, num, power, Trees, none, more, count, is_num, is_symbol, size, whole_num, AllParts}}
+use Rattle.tree_handles.specs.{Expressions.{IsExpression, plain, compound, grown, takes, takes_kind}, Forest.{Forest}, Inside.{tree_at}}
 
 -- ---- the trees
 

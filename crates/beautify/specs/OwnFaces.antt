@@ -1,10 +1,7 @@
 -- Trees whose rationals are written as they are.
 use Rattle.std.specs.Prelude.{Bool, true, ◌&&◌, ◌==◌, not}
 use Rattle.calc_algebra.specs.Reduced.{all_parts}
-use Rattle.calc_terms.specs.Fractions.{lowest}
-use Rattle.calc_terms.specs.Integers.{int_is_negative}
-use Rattle.calc_terms.specs.Payload.{Payload, rational}
-use Rattle.calc_terms.specs.Trees.{Tree, num}
+use Rattle.calc_terms.specs.{Fractions.{lowest}, Integers.{int_is_negative}, Payload.{Payload, rational}, Trees.{Tree, num}}
 
 -- whole and at least 0, where the tree is a rational
 abbrev pub is_natural : Tree → Bool

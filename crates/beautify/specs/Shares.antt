@@ -1,12 +1,7 @@
 -- What the children of a node put into its face.
 use Rattle.std.specs.Prelude.{ℕ, ◌+◌, ◌==◌, if◌then◌else◌, nat_abs, Option, Some, None, ⊤}
-use Rattle.beautify.specs.Owed.{form_room}
-use Rattle.beautify.specs.Showing.{AreFactors, stands_below, unsigned_faces}
-use Rattle.beautify.specs.declared.pending.Form.TheVariants.{Unsigned, Divisor}
-use Rattle.beautify.specs.declared.pending.Pending.{Pending}
-use Rattle.beautify.specs.declared.pending.Pending.TheVariants.{Numerator, Denominator, Part}
-use Rattle.beautify.specs.declared.shares.Share.{Share}
-use Rattle.beautify.specs.declared.shares.Share.TheVariants.{Terms, Above, Below}
+use Rattle.beautify.specs.{Owed.{form_room}, Showing.{AreFactors, stands_below, unsigned_faces}, declared.pending.Form.TheVariants.{Unsigned, Divisor}, declared.pending.Pending.{Pending}}
+use Rattle.beautify.specs.{declared.pending.Pending.TheVariants.{Numerator, Denominator, Part}, declared.shares.Share.{Share}, declared.shares.Share.TheVariants.{Terms, Above, Below}}
 use Rattle.calc_language.specs.Faces.{factors_above, factors_below}
 use Rattle.calc_terms.specs.Trees.{Tree, num, Trees, none, more}
 

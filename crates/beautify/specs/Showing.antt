@@ -1,8 +1,7 @@
 -- Nodes of reduced trees, as their faces need them.
 use Rattle.std.specs.Prelude.{ℕ, suc, ◌≡◌, ⊤, Bool, false, nat_lt}
 use Rattle.calc_language.specs.Faces.{unsigned_face, exponent_below, has_minus}
-use Rattle.calc_terms.specs.Integers.{int_is_negative}
-use Rattle.calc_terms.specs.Trees.{Tree, num, symbol, add, mult, power, root, Trees, none, more, HasTwo}
+use Rattle.calc_terms.specs.{Integers.{int_is_negative}, Trees.{Tree, num, symbol, add, mult, power, root, Trees, none, more, HasTwo}}
 
 -- the faces of trees without their minus signs
 abbrev pub unsigned_faces : Trees → Trees

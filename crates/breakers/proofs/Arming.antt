@@ -1,12 +1,8 @@
 -- Arming as far as it has come.
-use Rattle.std.proofs.Common.{◌≡◌, ℕ, zero, suc, ◌+◌, ◌<◌, ◌≤◌, List, [], ◌∷◌, true, false, length, get_or, map, refl, sym, ap, ◌∙◌, arith, add-one}
-use Rattle.std.proofs.Math.ListN.{set, get_or-map}
-use Rattle.std.proofs.lemmas.List.{map-set, length-map, set-get_or}
-use Rattle.std.proofs.lemmas.Bool.{cond-true, cond-false}
-use Rattle.std.proofs.lemmas.List.Folds.{list_any_at}
+use Rattle.std.proofs.{Common.{◌≡◌, ℕ, zero, suc, ◌+◌, ◌<◌, ◌≤◌, List, [], ◌∷◌, true, false, length, get_or, map, refl, sym, ap, ◌∙◌, arith, add-one}, Math.ListN.{set, get_or-map}}
+use Rattle.std.proofs.{lemmas.List.{map-set, length-map, set-get_or}, lemmas.Bool.{cond-true, cond-false}, lemmas.List.Folds.{list_any_at}}
 use Rattle.std.specs.List.{list_any}
-use Rattle.breakers.specs.State.{State, armed_after}
-use Rattle.breakers.specs.Breakers.{armed_first}
+use Rattle.breakers.specs.{State.{State, armed_after}, Breakers.{armed_first}}
 
 -- none of the first breakers, as many as this, can be armed
 abbrev pub NoneArms : ℕ → List State → Type 0

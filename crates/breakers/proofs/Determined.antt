@@ -1,12 +1,8 @@
 -- Where each breaker tells its plan, a check has one outcome.
-use Rattle.std.proofs.Common.{◌≡◌, ◌≢◌, ℕ, zero, suc, ◌+◌, List, [], ◌∷◌, Bool, true, false, Option, Some, None, refl, sym, ap, ◌∙◌, subst, inl, inr, if◌then◌else◌}
-use Rattle.std.specs.List.{AllByRecursion}
-use Rattle.std.proofs.lemmas.Bool.{cases_lt}
+use Rattle.std.proofs.{Common.{◌≡◌, ◌≢◌, ℕ, zero, suc, ◌+◌, List, [], ◌∷◌, Bool, true, false, Option, Some, None, refl, sym, ap, ◌∙◌, subst, inl, inr, if◌then◌else◌}, lemmas.Bool.{cases_lt}}
 use Rattle.std.proofs.lemmas.List.Elements.{All-from_recursion, recursion_from_All}
-use Rattle.breakers.specs.State.{State, Polls, StepsPlan, largest_count}
-use Rattle.breakers.specs.Breakers.{Check}
-use Rattle.breakers.specs.Laws.{TellsPlan, ToldChecksHaveOneOutcome}
-use Rattle.breakers.specs.declared.breaker.Plan.{Plan}
+use Rattle.std.specs.List.{AllByRecursion}
+use Rattle.breakers.specs.{State.{State, Polls, StepsPlan, largest_count}, Breakers.{Check}, Laws.{TellsPlan, ToldChecksHaveOneOutcome}, declared.breaker.Plan.{Plan}}
 use Rattle.breakers.specs.declared.breaker.Plan.TheVariants.{Untold, Idle, After}
 
 State-same : (b c : State) → b.polls ≡ c.polls → b.trips ≡ c.trips → b.plan ≡ c.plan

@@ -1,10 +1,7 @@
 -- A check as far as it has come, and whose trips it makes rise.
 use Rattle.std.proofs.Common.{◌≡◌, ℕ, zero, suc, ◌+◌, ◌<◌, ◌≤◌, ◌↔◌, List, [], ◌∷◌, length, get_or, map, true, false, Some, None, Result, Ok, Err, refl, ap, subst, arith, add-one}
-use Rattle.std.proofs.Math.ListN.{set, get_or-map}
-use Rattle.std.proofs.lemmas.List.{map-set, length-map}
-use Rattle.breakers.specs.State.{State, Polls}
-use Rattle.breakers.specs.Breakers.{Check, TripsRose}
-use Rattle.breakers.specs.declared.watch.Interrupted.{Interrupted}
+use Rattle.std.proofs.{Math.ListN.{set, get_or-map}, lemmas.List.{map-set, length-map}}
+use Rattle.breakers.specs.{State.{State, Polls}, Breakers.{Check, TripsRose}, declared.watch.Interrupted.{Interrupted}}
 
 -- the first breakers, as many as this, were polled and did not trip, and the others are as they were
 abbrev pub PassedBelow : ℕ → List State → List State → Type 0

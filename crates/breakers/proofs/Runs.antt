@@ -1,9 +1,6 @@
 -- Checks that follow one another.
-use Rattle.std.proofs.Common.{◌↔◌, ℕ, zero, suc, ◌+◌, List, [], ◌∷◌, false, Some, None, sym, subst, arith, zero-add}
-use Rattle.std.proofs.Math.Nat.{suc-add}
-use Rattle.breakers.specs.State.{State, Polls}
-use Rattle.breakers.specs.Breakers.{Check, CalmChecks, TripsRose}
-use Rattle.breakers.specs.Laws.{CalmChecksRaiseNoTrips, OnlyTheTrippedRose}
+use Rattle.std.proofs.{Common.{◌↔◌, ℕ, zero, suc, ◌+◌, List, [], ◌∷◌, false, Some, None, sym, subst, arith, zero-add}, Math.Nat.{suc-add}}
+use Rattle.breakers.specs.{State.{State, Polls}, Breakers.{Check, CalmChecks, TripsRose}, Laws.{CalmChecksRaiseNoTrips, OnlyTheTrippedRose}}
 use Rattle.breakers.proofs.Polling.{unpolled, tripped_rises}
 
 -- a calm check leaves all trips as they were

@@ -1,8 +1,7 @@
 -- Checks up to one at which a calculation stops.
 use Rattle.std.proofs.Common.{◌≡◌, ◌↔◌, ℕ, ◌+◌, ◌≤◌, ◌<◌, List, Some, None, arith, refl}
 use Rattle.breakers.proofs.Runs.{only_the_tripped_rose, CalmChecks-append}
-use Rattle.breakers.specs.Breakers.{Check, CalmChecks, CalmUpTo, TripsRose, TripsWithin}
-use Rattle.breakers.specs.State.{State}
+use Rattle.breakers.specs.{Breakers.{Check, CalmChecks, CalmUpTo, TripsRose, TripsWithin}, State.{State}}
 
 pub one_calm : (old new : List State) → Check old new None → CalmChecks 1 old new
 one_calm old new c = (new, c, refl)

@@ -1,7 +1,6 @@
 -- What a clause sees of a count breaker.
 use Rattle.std.specs.Prelude.{true}
-use Rattle.breakers.specs.State.{State}
-use Rattle.breakers.specs.declared.count_breaker.CountBreaker.{CountBreaker}
+use Rattle.breakers.specs.{State.{State}, declared.count_breaker.CountBreaker.{CountBreaker}}
 
 -- it can always be armed
 abbrev pub state_of : CountBreaker → State

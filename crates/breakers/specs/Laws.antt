@@ -1,8 +1,6 @@
 -- What checks that follow one another keep.
 use Rattle.std.specs.Prelude.{◌≡◌, ◌≢◌, ◌↔◌, ℕ, Option, Some, List, All}
-use Rattle.breakers.specs.State.{State}
-use Rattle.breakers.specs.Breakers.{Check, CalmChecks, TripsRose}
-use Rattle.breakers.specs.declared.breaker.Plan.TheVariants.{Untold}
+use Rattle.breakers.specs.{State.{State}, Breakers.{Check, CalmChecks, TripsRose}, declared.breaker.Plan.TheVariants.{Untold}}
 
 -- the breaker tells its plan
 abbrev pub TellsPlan : State → Type 0

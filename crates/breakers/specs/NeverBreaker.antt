@@ -1,8 +1,6 @@
 -- What a clause sees of a breaker that never trips.
 use Rattle.std.specs.Prelude.{false}
-use Rattle.breakers.specs.State.{State}
-use Rattle.breakers.specs.declared.breaker.Plan.TheVariants.{Idle}
-use Rattle.breakers.specs.declared.never_breaker.NeverBreaker.{NeverBreaker}
+use Rattle.breakers.specs.{State.{State}, declared.breaker.Plan.TheVariants.{Idle}, declared.never_breaker.NeverBreaker.{NeverBreaker}}
 
 -- it has no trips, is always idle, and can never be armed
 abbrev pub state_of : NeverBreaker → State

@@ -1,8 +1,6 @@
 -- What a clause sees of a silent breaker.
 use Rattle.std.specs.Prelude.{ℕ, ◌<◌, List, Contains, false}
-use Rattle.breakers.specs.State.{State, count_on, largest_count}
-use Rattle.breakers.specs.declared.breaker.Plan.TheVariants.{Untold}
-use Rattle.breakers.specs.declared.silent_breaker.SilentBreaker.{SilentBreaker}
+use Rattle.breakers.specs.{State.{State, count_on, largest_count}, declared.breaker.Plan.TheVariants.{Untold}, declared.silent_breaker.SilentBreaker.{SilentBreaker}}
 
 -- it tells nothing of its coming polls, and can never be armed
 abbrev pub state_of : SilentBreaker → State

@@ -1,7 +1,6 @@
 -- What a clause sees of a breaker, and what its calls do to that.
 use Rattle.std.specs.Prelude.{◌≡◌, ℕ, zero, suc, ◌+◌, ◌-◌, ◌^◌, ◌<◌, ◌≤◌, Bool, true, false, nat_lt, if◌then◌else◌}
-use Rattle.breakers.specs.declared.breaker.Plan.{Plan}
-use Rattle.breakers.specs.declared.breaker.Plan.TheVariants.{Untold, Idle, After}
+use Rattle.breakers.specs.{declared.breaker.Plan.{Plan}, declared.breaker.Plan.TheVariants.{Untold, Idle, After}}
 
 -- how often a breaker was polled, how often it tripped, when it will trip, and whether it can be armed
 pub record State : Type 0 where

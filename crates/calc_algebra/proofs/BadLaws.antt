@@ -1,13 +1,9 @@
 -- A Bad tree has no value, and an Easy tree has one or is Bad.
-use Rattle.calc_algebra.proofs.InverseLaws.{zero_is_not_one}
-use Rattle.calc_algebra.proofs.Shared.{◌≡◌, ℕ, ◌⊎◌, inl, inr, ℤ, pos, [], true, sym, ap, ◌∙◌, arith, ◌≤ℤ◌, int_is_negative, Fraction, zero_fraction, one_fraction}
+use Rattle.calc_algebra.proofs.{InverseLaws.{zero_is_not_one}, Shared.{◌≡◌, ℕ, ◌⊎◌, inl, inr, ℤ, pos, [], true, sym, ap, ◌∙◌, arith, ◌≤ℤ◌, int_is_negative, Fraction, zero_fraction, one_fraction}}
 use Rattle.calc_algebra.proofs.Shared.{whole_fraction, lowest, gcd, Tree, undef, add, mult, power, root, neg, sub, div, Trees, none, more, IsPart, itself, in_add, in_mult, in_base, in_exponent}
 use Rattle.calc_algebra.proofs.Shared.{in_root, in_neg, in_left, in_right, in_dividend, in_divisor, IsPartOf, first, later, Surd, surd_of, surd_one, Same, Inverts, MeansSum, MeansProduct}
-use Rattle.calc_algebra.proofs.Shared.{IsWholePower, IsPower, IsRootOf, IsAssignment, HasValue, IsNegative, IsHalf, GivesZeroNoPower, IsBadNode, IsBad, IsEasy}
-use Rattle.calc_algebra.proofs.SurdLaws.{Agree, Agree-Same, Agree-sym, Agree-trans, Agree-eq, Agree-surd_times_right, surd_times-nil}
-use Rattle.calc_algebra.proofs.SquareClassLaws.{Same-Agree}
-use Rattle.calc_algebra.proofs.PowerLaws.{root_zero}
-use Rattle.calc_algebra.proofs.TermLaws.{Same-refl}
+use Rattle.calc_algebra.proofs.{Shared.{IsWholePower, IsPower, IsRootOf, IsAssignment, HasValue, IsNegative, IsHalf, GivesZeroNoPower, IsBadNode, IsBad, IsEasy}, SurdLaws.{Agree, Agree-Same}}
+use Rattle.calc_algebra.proofs.{SurdLaws.{Agree-sym, Agree-trans, Agree-eq, Agree-surd_times_right, surd_times-nil}, SquareClassLaws.{Same-Agree}, PowerLaws.{root_zero}, TermLaws.{Same-refl}}
 use Rattle.calc_algebra.proofs.MeaningLaws.{one_meaning, one_rational, whole_is_no_half, whole_one, class_coefficient-surd_of}
 
 -- a value of a tree comes from values of its parts

@@ -1,9 +1,7 @@
 -- A clean radicand below 10^12 is square-free, and square-free radicands that are alike are equal.
-use Rattle.calc_algebra.proofs.Shared.{◌≡◌, ℕ, zero, suc, ◌+◌, ◌*◌, ◌/◌, ◌%◌, ◌≤◌, ◌<◌, ◌^◌, ◌⊎◌, inl, inr, true, refl, sym, ap, ◌∙◌, arith, subst}
-use Rattle.calc_algebra.proofs.Shared.{dvd_trans, mod-eq-zero_of_dvd, dvd_of_mod-eq-zero, without, left_from, left_of, is_clean, IsClean, mul_pos, gcd, gcd_is, gauss, divided, are_alike, square_root}
-use Rattle.calc_algebra.proofs.Shared.{IsGcd, mul-one, mul-dvd-mul_left, dvd-mul_right, dvd-mul_left, dvd-zero, one-dvd, mul-div_cancel', mul-div_cancel_left, dvd_refl, ◌∣◌}
-use Rattle.calc_algebra.proofs.NumberLaws.{clean_words}
-use Rattle.calc_algebra.proofs.SquareClassLaws.{Alike, alike_from}
+use Rattle.calc_algebra.proofs.Shared.{◌≡◌, ℕ, zero, suc, ◌+◌, ◌*◌, ◌/◌, ◌%◌, ◌≤◌, ◌<◌, ◌^◌, ◌⊎◌, inl, inr, true, refl, sym, ap, ◌∙◌, arith, subst, dvd_trans, mod-eq-zero_of_dvd, dvd_of_mod-eq-zero}
+use Rattle.calc_algebra.proofs.Shared.{without, left_from, left_of, is_clean, IsClean, mul_pos, gcd, gcd_is, gauss, divided, are_alike, square_root, IsGcd, mul-one, mul-dvd-mul_left, dvd-mul_right}
+use Rattle.calc_algebra.proofs.{Shared.{dvd-mul_left, dvd-zero, one-dvd, mul-div_cancel', mul-div_cancel_left, dvd_refl, ◌∣◌}, NumberLaws.{clean_words}, SquareClassLaws.{Alike, alike_from}}
 
 -- no square of a number above 1 divides r
 abbrev pub IsSquareFree : ℕ → Type 0

@@ -1,14 +1,9 @@
 -- Bad and Easy trees from their children, and what their reduced trees tell.
-use Rattle.calc_algebra.proofs.Shared.{arith, ◌≡◌, ◌≢◌, ℕ, ◌≤◌, ◌⊎◌, inl, inr, ℤ, pos, negsuc, List, [], ◌∷◌, ◌++◌, true, false, refl, subst, ◌≤ℤ◌}
-use Rattle.calc_algebra.proofs.Shared.{HasValue, IsZero, IsWhole, IsNegative, GivesZeroNoPower, IsBadNode, IsBad, IsEasy, Fraction, zero_fraction, whole_fraction, int_is_negative, IsPower, IsRootOf}
-use Rattle.calc_algebra.proofs.Shared.{IsNumber, value, classes, Same, Surd, surd_of, Tree, num, undef, add, mult, power, root, neg, sub, div, Trees, none, more, names, names_of, IsPart, itself}
-use Rattle.calc_algebra.proofs.Shared.{in_add, in_mult, in_base, in_exponent, in_root, in_neg, in_left, in_right, in_dividend, in_divisor, IsPartOf, first, later}
-use Rattle.calc_algebra.proofs.MeaningLaws.{Means-Same, Same-sym}
-use Rattle.calc_algebra.proofs.MeaningRewrites.{KeepsMeanings}
-use Rattle.calc_algebra.proofs.NumberClasses.{number_zero, number_rational, number_short}
-use Rattle.calc_algebra.proofs.NumberRewrites.{number_value}
-use Rattle.calc_algebra.proofs.PowerLaws.{zero_surd_of}
-use Rattle.calc_algebra.proofs.SquareClassLaws.{Same-trans}
+use Rattle.calc_algebra.proofs.Shared.{arith, ◌≡◌, ◌≢◌, ℕ, ◌≤◌, ◌⊎◌, inl, inr, ℤ, pos, negsuc, List, [], ◌∷◌, ◌++◌, true, false, refl, subst, ◌≤ℤ◌, HasValue, IsZero, IsWhole, IsNegative}
+use Rattle.calc_algebra.proofs.Shared.{GivesZeroNoPower, IsBadNode, IsBad, IsEasy, Fraction, zero_fraction, whole_fraction, int_is_negative, IsPower, IsRootOf, IsNumber, value, classes, Same, Surd}
+use Rattle.calc_algebra.proofs.Shared.{surd_of, Tree, num, undef, add, mult, power, root, neg, sub, div, Trees, none, more, names, names_of, IsPart, itself, in_add, in_mult, in_base, in_exponent}
+use Rattle.calc_algebra.proofs.{Shared.{in_root, in_neg, in_left, in_right, in_dividend, in_divisor, IsPartOf, first, later}, MeaningLaws.{Means-Same, Same-sym}, MeaningRewrites.{KeepsMeanings}}
+use Rattle.calc_algebra.proofs.{NumberClasses.{number_zero, number_rational, number_short}, NumberRewrites.{number_value}, PowerLaws.{zero_surd_of}, SquareClassLaws.{Same-trans}}
 
 -- ---- parts of parts
 

@@ -1,11 +1,8 @@
 -- Powers whose exponents are surds, whole numbers or halves of odd ones: exponents are added, and multiplied by whole numbers.
-use Rattle.calc_algebra.proofs.Shared.{◌≡◌, inl, inr, Bool, true, false, ℤ, pos, ◌+ℤ◌, ◌*ℤ◌, ◌++◌, refl, sym, ap, ◌∙◌, arith, ints, Fraction, lowest, plus, plus_lowest}
-use Rattle.calc_algebra.proofs.Shared.{times, times_lowest, whole_fraction, int_is_even, IsWholePower, IsPower, IsRoot, Same, Surd, surd_of, surd_times}
-use Rattle.calc_algebra.proofs.HalfLaws.{half_of, half_of_is, half_parts, even_split, half_whole, whole_plus_half, half_plus_half, half_times_whole}
-use Rattle.calc_algebra.proofs.MeaningLaws.{Same-sym, one_root_of}
-use Rattle.calc_algebra.proofs.PowerLaws.{IsWholePower-Same, whole_power_add, whole_power_mul, root_squared, even_power_of_root}
-use Rattle.calc_algebra.proofs.SquareClassLaws.{Same-trans}
-use Rattle.calc_algebra.proofs.SurdLaws.{Agree-refl, Agree-Same, surd_times_comm}
+use Rattle.calc_algebra.proofs.Shared.{◌≡◌, inl, inr, Bool, true, false, ℤ, pos, ◌+ℤ◌, ◌*ℤ◌, ◌++◌, refl, sym, ap, ◌∙◌, arith, ints, Fraction, lowest, plus, plus_lowest, times, times_lowest}
+use Rattle.calc_algebra.proofs.{Shared.{whole_fraction, int_is_even, IsWholePower, IsPower, IsRoot, Same, Surd, surd_of, surd_times}, HalfLaws.{half_of, half_of_is, half_parts, even_split}}
+use Rattle.calc_algebra.proofs.{HalfLaws.{half_whole, whole_plus_half, half_plus_half, half_times_whole}, MeaningLaws.{Same-sym, one_root_of}, PowerLaws.{IsWholePower-Same, whole_power_add}}
+use Rattle.calc_algebra.proofs.{PowerLaws.{whole_power_mul, root_squared, even_power_of_root}, SquareClassLaws.{Same-trans}, SurdLaws.{Agree-refl, Agree-Same, surd_times_comm}}
 use Rattle.calc_algebra.proofs.TermLaws.{joined_radicand, Same-append, Same-append_comm, Same-refl, Same-eq, Same-surd_times}
 
 pub whole_plus : (m n : ℤ) → plus (whole_fraction m) (whole_fraction n) ≡ whole_fraction (m +ℤ n)

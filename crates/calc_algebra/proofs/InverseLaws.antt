@@ -1,15 +1,12 @@
 -- Inverses: of one term, of two terms that are not alike, of products and powers, and which surds have one.
-use Rattle.calc_algebra.proofs.Shared.{◌≡◌, ◌≢◌, ℕ, zero, suc, ◌*◌, ◌<◌, ◌≤◌, ℤ, pos, negsuc, ◌*ℤ◌, [], ◌∷◌, Bool, true, false, length, refl, sym, ap}
-use Rattle.calc_algebra.proofs.Shared.{◌∙◌, arith, nat_abs, ints, not_from_false, IsShort, negative_lowest, times_comm, times_assoc, times_plus, zero_plus, zero_times, one_times, plus_negative}
-use Rattle.calc_algebra.proofs.Shared.{Fraction, lowest, plus, times, negative, inverse, inverse_of, zero_fraction, one_fraction, is_zero_fraction, plus_comm, plus_assoc, same_lowest, lowest_parts}
-use Rattle.calc_algebra.proofs.Shared.{den_pos, plus_lowest, times_lowest, mul_pos, quotient, whole_fraction, gcd, int_is_zero, parts, diffs, eq_diff, are_alike, Same, Inverts, square_root, Surd}
-use Rattle.calc_algebra.proofs.Shared.{term, surd_of, surd_one, surd_times, surd_power, zero_is, no_zero, cross_products, mul-one}
-use Rattle.calc_algebra.proofs.MeaningLaws.{class_coefficient-surd_of, Same-sym}
-use Rattle.calc_algebra.proofs.SquareClassLaws.{Alike, alike_from, alike_true, Same-Agree, Same-trans}
-use Rattle.calc_algebra.proofs.SquareRootLaws.{square_from_scaled}
-use Rattle.calc_algebra.proofs.SurdLaws.{Agree-sym, Agree-trans, Agree-eq, Agree-Same, Agree-surd_times, Agree-surd_times_right, one_inverse, inverse_times, inverse_power, surd_times_comm}
-use Rattle.calc_algebra.proofs.SurdLaws.{surd_times-nil, times_zero}
-use Rattle.calc_algebra.proofs.TermLaws.{Same-refl, Same-eq, Same-append, extracted, joined_radicand, zero_term, zero_radicand}
+use Rattle.calc_algebra.proofs.Shared.{◌≡◌, ◌≢◌, ℕ, zero, suc, ◌*◌, ◌<◌, ◌≤◌, ℤ, pos, negsuc, ◌*ℤ◌, [], ◌∷◌, Bool, true, false, length, refl, sym, ap, ◌∙◌, arith, nat_abs, ints, not_from_false}
+use Rattle.calc_algebra.proofs.Shared.{IsShort, negative_lowest, times_comm, times_assoc, times_plus, zero_plus, zero_times, one_times, plus_negative, Fraction, lowest, plus, times, negative, inverse}
+use Rattle.calc_algebra.proofs.Shared.{inverse_of, zero_fraction, one_fraction, is_zero_fraction, plus_comm, plus_assoc, same_lowest, lowest_parts, den_pos, plus_lowest, times_lowest, mul_pos}
+use Rattle.calc_algebra.proofs.Shared.{quotient, whole_fraction, gcd, int_is_zero, parts, diffs, eq_diff, are_alike, Same, Inverts, square_root, Surd, term, surd_of, surd_one, surd_times, surd_power}
+use Rattle.calc_algebra.proofs.{Shared.{zero_is, no_zero, cross_products, mul-one}, MeaningLaws.{class_coefficient-surd_of, Same-sym}, SquareClassLaws.{Alike, alike_from, alike_true, Same-Agree}}
+use Rattle.calc_algebra.proofs.{SquareClassLaws.{Same-trans}, SquareRootLaws.{square_from_scaled}, SurdLaws.{Agree-sym, Agree-trans, Agree-eq, Agree-Same, Agree-surd_times, Agree-surd_times_right}}
+use Rattle.calc_algebra.proofs.{SurdLaws.{one_inverse, inverse_times, inverse_power, surd_times_comm, surd_times-nil, times_zero}, TermLaws.{Same-refl, Same-eq, Same-append, extracted}}
+use Rattle.calc_algebra.proofs.TermLaws.{joined_radicand, zero_term, zero_radicand}
 
 -- ---- inverses of fractions
 

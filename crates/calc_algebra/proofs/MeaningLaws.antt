@@ -1,10 +1,8 @@
 -- A meaning is closed under sameness, and unique up to it.
-use Rattle.calc_algebra.proofs.Shared.{ℕ, zero, suc, ◌≡◌, ℤ, pos, negsuc, List, [], ◌∷◌, Contains, ◌⊎◌, ◌*ℤ◌, inl, inr, subst, sym, ap, ◌∙◌, arith, times_comm}
-use Rattle.calc_algebra.proofs.Shared.{one_times, zero_plus, Fraction, lowest, zero_fraction, one_fraction, plus_comm, lowest_cross, den_pos, whole_fraction, minus_one_fraction, cancel_pos}
-use Rattle.calc_algebra.proofs.Shared.{whole_denominator, Gives, Binding, bound_names, Assignment, IsAssignment, Means, MeansSum, MeansProduct, IsWholePower, IsPower, IsRootOf, IsRoot, Same, Inverts}
-use Rattle.calc_algebra.proofs.Shared.{class_coefficient, square_root, Surd, surd_one, surd_of, Tree, num, symbol, undef, add, mult, power, root, neg, sub, div, Trees, none, more, get_or-map}
-use Rattle.calc_algebra.proofs.Shared.{length-map}
-use Rattle.calc_algebra.proofs.SquareClassLaws.{Same-trans, Same-Agree}
+use Rattle.calc_algebra.proofs.Shared.{ℕ, zero, suc, ◌≡◌, ℤ, pos, negsuc, List, [], ◌∷◌, Contains, ◌⊎◌, ◌*ℤ◌, inl, inr, subst, sym, ap, ◌∙◌, arith, times_comm, one_times, zero_plus, Fraction, lowest}
+use Rattle.calc_algebra.proofs.Shared.{zero_fraction, one_fraction, plus_comm, lowest_cross, den_pos, whole_fraction, minus_one_fraction, cancel_pos, whole_denominator, Gives, Binding, bound_names}
+use Rattle.calc_algebra.proofs.Shared.{Assignment, IsAssignment, Means, MeansSum, MeansProduct, IsWholePower, IsPower, IsRootOf, IsRoot, Same, Inverts, class_coefficient, square_root, Surd, surd_one}
+use Rattle.calc_algebra.proofs.{Shared.{surd_of, Tree, num, symbol, undef, add, mult, power, root, neg, sub, div, Trees, none, more, get_or-map, length-map}, SquareClassLaws.{Same-trans, Same-Agree}}
 use Rattle.calc_algebra.proofs.SurdLaws.{Agree, Agree-refl, Agree-sym, Agree-trans, Agree-eq, Agree-append, Agree-surd_scale, Agree-surd_times, Agree-surd_times_right, Agree-surd_power, one_inverse}
 use Rattle.calc_algebra.proofs.HalfLaws.{one_is_not_two}
 

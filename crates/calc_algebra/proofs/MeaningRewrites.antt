@@ -1,13 +1,10 @@
 -- Rewritings of sums and products that keep meanings: each meaning of the old tree is one of the new, under every assignment.
-use Rattle.calc_algebra.proofs.Shared.{◌≡◌, ℕ, zero, suc, ◌<◌, List, [], ◌∷◌, ◌++◌, length, refl, sym, arith, subst, append_assoc, append-nil, set, get_or, zero_fraction}
-use Rattle.calc_algebra.proofs.Shared.{one_fraction, minus_one_fraction, Assignment, IsAssignment, Means, Same, Surd, surd_of, surd_one, surd_scale, surd_times, Tree, num, undef, add, mult, power}
-use Rattle.calc_algebra.proofs.Shared.{root, neg, sub, div, Trees, none, more, append, IsPermutation, swap_is, IsPermutation-keeps}
-use Rattle.calc_algebra.proofs.InverseLaws.{Same-times_zero}
-use Rattle.calc_algebra.proofs.MeaningLaws.{one_meaning, Means-Same, Same-sym}
-use Rattle.calc_algebra.proofs.SquareClassLaws.{Same-trans, Same-Agree}
-use Rattle.calc_algebra.proofs.SurdLaws.{Agree, Agree-sym, Agree-trans, Agree-eq, Agree-Same, surd_times-append, surd_times-surd_of, surd_times-surd_one, surd_times-one, surd_times_comm}
-use Rattle.calc_algebra.proofs.SurdLaws.{surd_times_assoc, surd_times_left_comm}
-use Rattle.calc_algebra.proofs.TermLaws.{Same-refl, Same-eq, Same-append, Same-append_comm, Same-surd_times, zero_term}
+use Rattle.calc_algebra.proofs.Shared.{◌≡◌, ℕ, zero, suc, ◌<◌, List, [], ◌∷◌, ◌++◌, length, refl, sym, arith, subst, append_assoc, append-nil, set, get_or, zero_fraction, one_fraction}
+use Rattle.calc_algebra.proofs.Shared.{minus_one_fraction, Assignment, IsAssignment, Means, Same, Surd, surd_of, surd_one, surd_scale, surd_times, Tree, num, undef, add, mult, power, root, neg, sub}
+use Rattle.calc_algebra.proofs.{Shared.{div, Trees, none, more, append, IsPermutation, swap_is, IsPermutation-keeps}, InverseLaws.{Same-times_zero}, MeaningLaws.{one_meaning, Means-Same, Same-sym}}
+use Rattle.calc_algebra.proofs.{SquareClassLaws.{Same-trans, Same-Agree}, SurdLaws.{Agree, Agree-sym, Agree-trans, Agree-eq, Agree-Same, surd_times-append, surd_times-surd_of, surd_times-surd_one}}
+use Rattle.calc_algebra.proofs.{SurdLaws.{surd_times-one, surd_times_comm, surd_times_assoc, surd_times_left_comm}, TermLaws.{Same-refl, Same-eq, Same-append, Same-append_comm, Same-surd_times}}
+use Rattle.calc_algebra.proofs.TermLaws.{zero_term}
 
 -- each meaning of t is one of u, under every assignment
 pub record KeepsMeanings (t u : Tree) : Type 0 where

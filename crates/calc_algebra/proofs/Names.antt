@@ -1,8 +1,7 @@
 -- The names in trees, and in lists of trees.
-use Rattle.calc_algebra.proofs.Shared.{ℕ, ◌≡◌, ◌⊎◌, inl, inr, true, List, [], ◌++◌, refl, sym, ap, ◌∙◌, subst, append_assoc, arith, Contains, Contains-append_left}
-use Rattle.calc_algebra.proofs.Shared.{Contains-append_right, Contains-append_cases, IsNumber, IsTerm, AreTerms, is_number, Tree, Trees, none, more, append, names, names_of, HasNoNewName}
-use Rattle.calc_algebra.proofs.MeaningRewrites.{Permuted, permuted_none, permuted_more, permuted_swap, permuted_trans}
-use Rattle.calc_algebra.proofs.NumberLaws.{number_words}
+use Rattle.calc_algebra.proofs.Shared.{ℕ, ◌≡◌, ◌⊎◌, inl, inr, true, List, [], ◌++◌, refl, sym, ap, ◌∙◌, subst, append_assoc, arith, Contains, Contains-append_left, Contains-append_right}
+use Rattle.calc_algebra.proofs.{Shared.{Contains-append_cases, IsNumber, IsTerm, AreTerms, is_number, Tree, Trees, none, more, append, names, names_of, HasNoNewName}, MeaningRewrites.{Permuted}}
+use Rattle.calc_algebra.proofs.{MeaningRewrites.{permuted_none, permuted_more, permuted_swap, permuted_trans}, NumberLaws.{number_words}}
 
 -- each name in the second list is one in the first
 pub record Within (old new : List (List ℕ)) : Type 0 where

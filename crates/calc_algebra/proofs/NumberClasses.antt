@@ -1,16 +1,10 @@
 -- What the value of a Number tells of its tree, with no bound on radicands: zero, a rational, how many classes.
-use Rattle.calc_algebra.proofs.Shared.{◌≡◌, ◌≢◌, ℕ, zero, suc, ◌*◌, ◌<◌, ◌≤◌, ◌⊎◌, inl, inr, pos, [], ◌∷◌, Bool, true, false, ◌==◌, ◌&&◌, length, refl}
-use Rattle.calc_algebra.proofs.Shared.{sym, ap, ◌∙◌, arith, subst, ⊤, nat_le, false_from_ne_true, IsClean, times_comm, one_times, zero_plus, Fraction, plus, times, zero_fraction, one_fraction}
-use Rattle.calc_algebra.proofs.Shared.{plus_comm, quotient, same_lowest, IsNumber, IsTerm, AreTerms, IsBelowAll, Rises, value, classes, term_of, terms_of, are_alike, term_share, class_coefficient}
-use Rattle.calc_algebra.proofs.Shared.{Same, square_root, Term, Surd, term, surd_of, Tree, num, Trees, none, more, mul_comm, one-mul, plus_zero}
-use Rattle.calc_algebra.proofs.CleanLaws.{clean_no_square}
-use Rattle.calc_algebra.proofs.InverseLaws.{one_is_not_zero}
-use Rattle.calc_algebra.proofs.MeaningLaws.{Same-sym, surd_of_one}
-use Rattle.calc_algebra.proofs.NumberShapes.{AsTerm, as_term, AsNumber, as_number}
-use Rattle.calc_algebra.proofs.PowerLaws.{zero_surd_of}
-use Rattle.calc_algebra.proofs.SquareClassLaws.{alike_from, alike_true, alike_trans, Same-Agree, Same-trans}
-use Rattle.calc_algebra.proofs.SurdLaws.{Agree, Agree-trans}
-use Rattle.calc_algebra.proofs.TermLaws.{Same-append, Same-refl, zero_term, share_alike, share_apart}
+use Rattle.calc_algebra.proofs.Shared.{◌≡◌, ◌≢◌, ℕ, zero, suc, ◌*◌, ◌<◌, ◌≤◌, ◌⊎◌, inl, inr, pos, [], ◌∷◌, Bool, true, false, ◌==◌, ◌&&◌, length, refl, sym, ap, ◌∙◌, arith, subst, ⊤, nat_le}
+use Rattle.calc_algebra.proofs.Shared.{false_from_ne_true, IsClean, times_comm, one_times, zero_plus, Fraction, plus, times, zero_fraction, one_fraction, plus_comm, quotient, same_lowest, IsNumber}
+use Rattle.calc_algebra.proofs.Shared.{IsTerm, AreTerms, IsBelowAll, Rises, value, classes, term_of, terms_of, are_alike, term_share, class_coefficient, Same, square_root, Term, Surd, term, surd_of}
+use Rattle.calc_algebra.proofs.{Shared.{Tree, num, Trees, none, more, mul_comm, one-mul, plus_zero}, CleanLaws.{clean_no_square}, InverseLaws.{one_is_not_zero}, MeaningLaws.{Same-sym, surd_of_one}}
+use Rattle.calc_algebra.proofs.{NumberShapes.{AsTerm, as_term, AsNumber, as_number}, PowerLaws.{zero_surd_of}, SquareClassLaws.{alike_from, alike_true, alike_trans, Same-Agree, Same-trans}}
+use Rattle.calc_algebra.proofs.{SurdLaws.{Agree, Agree-trans}, TermLaws.{Same-append, Same-refl, zero_term, share_alike, share_apart}}
 
 -- ---- alike radicands
 

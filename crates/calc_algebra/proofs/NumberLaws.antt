@@ -1,10 +1,9 @@
 -- The tests for clean radicands and for Numbers say what their words say, both ways.
-use Rattle.calc_algebra.proofs.Shared.{◌≡◌, ℕ, zero, suc, ◌+◌, ◌*◌, ◌%◌, ◌≤◌, ◌<◌, ◌⊎◌, inl, inr, Bool, true, false, not, ◌&&◌, ◌||◌, refl, sym, ap}
-use Rattle.calc_algebra.proofs.Shared.{◌∙◌, arith, [], ◌∷◌, nat_lt, nat_le, ◌==◌, length, mod-eq-zero_of_dvd, dvd_of_mod-eq-zero, and_from, not_from_false, le-leb, lt-ltb, eq-eqb}
-use Rattle.calc_algebra.proofs.Shared.{and_parts, ltb-true, leb-true, eqb-true, not-true, no_zero, no_one, zero_test, one_test, left_of, is_clean, IsClean, no_square_divides, Fraction, IsRadicand}
-use Rattle.calc_algebra.proofs.Shared.{IsTerm, IsNumber, AreTerms, IsBelowAll, Rises, terms_of, is_radicand, is_term, rises, is_number, are_terms, is_below_all, are_numbers, are_alike, square_root}
-use Rattle.calc_algebra.proofs.Shared.{Term, Surd, Tree, num, add, mult, root, Trees, none, more, undef, has_undef, is_undef, ◌∣◌}
-use Rattle.calc_algebra.proofs.SquareRootLaws.{square_root-square}
+use Rattle.calc_algebra.proofs.Shared.{◌≡◌, ℕ, zero, suc, ◌+◌, ◌*◌, ◌%◌, ◌≤◌, ◌<◌, ◌⊎◌, inl, inr, Bool, true, false, not, ◌&&◌, ◌||◌, refl, sym, ap, ◌∙◌, arith, [], ◌∷◌, nat_lt, nat_le, ◌==◌, length}
+use Rattle.calc_algebra.proofs.Shared.{mod-eq-zero_of_dvd, dvd_of_mod-eq-zero, and_from, not_from_false, le-leb, lt-ltb, eq-eqb, and_parts, ltb-true, leb-true, eqb-true, not-true, no_zero, no_one}
+use Rattle.calc_algebra.proofs.Shared.{zero_test, one_test, left_of, is_clean, IsClean, no_square_divides, Fraction, IsRadicand, IsTerm, IsNumber, AreTerms, IsBelowAll, Rises, terms_of, is_radicand}
+use Rattle.calc_algebra.proofs.Shared.{is_term, rises, is_number, are_terms, is_below_all, are_numbers, are_alike, square_root, Term, Surd, Tree, num, add, mult, root, Trees, none, more, undef}
+use Rattle.calc_algebra.proofs.{Shared.{has_undef, is_undef, ◌∣◌}, SquareRootLaws.{square_root-square}}
 
 none_below : (steps d r e : ℕ) → no_square_divides steps d r ≡ true → d ≤ e → e < d + steps → e * e ∣ r → ⊥
 none_below zero d r e h a b x = absurd (omega arith)

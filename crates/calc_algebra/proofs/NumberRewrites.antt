@@ -1,16 +1,11 @@
 -- Rewritings with Numbers that keep meanings: their sums, products, powers, inverses and roots, and coefficients.
-use Rattle.calc_algebra.proofs.Shared.{◌≡◌, ◌≢◌, ℕ, suc, ◌*◌, ◌<◌, ℤ, pos, negsuc, [], ◌∷◌, ◌++◌, Bool, true, false, if◌then◌else◌, sym, ap, ◌∙◌, arith}
-use Rattle.calc_algebra.proofs.Shared.{subst, fraction_power, Fraction, lowest, times, inverse, zero_fraction, whole_fraction, lowest_parts, times_lowest, Assignment, IsAssignment, Means, IsRootOf}
-use Rattle.calc_algebra.proofs.Shared.{IsNumber, value, is_radicand, is_number, split, split_product, product_tree, part_of, num_one, Same, Inverts, Surd, term, surd_of, surd_power, Tree, num, add}
-use Rattle.calc_algebra.proofs.Shared.{mult, power, root, Trees, none, more, one-mul, mul-one}
-use Rattle.calc_algebra.proofs.MeaningLaws.{one_meaning, Means-Same, Same-sym, surd_of_one}
-use Rattle.calc_algebra.proofs.NumberValues.{number_means}
-use Rattle.calc_algebra.proofs.SquareClassLaws.{Same-trans, Same-Agree}
-use Rattle.calc_algebra.proofs.SurdLaws.{Agree-sym, Agree-trans, Agree-Same}
-use Rattle.calc_algebra.proofs.TermLaws.{Same-refl, Same-eq, Same-append, Same-surd_times, Same-surd_power, extracted}
-use Rattle.calc_algebra.proofs.InverseLaws.{Inverts-Same, inverse_times_itself, Inverts-surd_of}
-use Rattle.calc_algebra.proofs.PowerLaws.{whole_power_negative, surd_power-surd_of}
-use Rattle.calc_algebra.proofs.MeaningRewrites.{KeepsMeanings, KeepsMeanings-refl, KeepsMeanings-eq, KeepsMeanings-trans, KeepsMeanings-sum_more, KeepsMeanings-product_more, two, two_sum, two_product}
+use Rattle.calc_algebra.proofs.Shared.{◌≡◌, ◌≢◌, ℕ, suc, ◌*◌, ◌<◌, ℤ, pos, negsuc, [], ◌∷◌, ◌++◌, Bool, true, false, if◌then◌else◌, sym, ap, ◌∙◌, arith, subst, fraction_power, Fraction, lowest, times}
+use Rattle.calc_algebra.proofs.Shared.{inverse, zero_fraction, whole_fraction, lowest_parts, times_lowest, Assignment, IsAssignment, Means, IsRootOf, IsNumber, value, is_radicand, is_number, split}
+use Rattle.calc_algebra.proofs.Shared.{split_product, product_tree, part_of, num_one, Same, Inverts, Surd, term, surd_of, surd_power, Tree, num, add, mult, power, root, Trees, none, more, one-mul}
+use Rattle.calc_algebra.proofs.{Shared.{mul-one}, MeaningLaws.{one_meaning, Means-Same, Same-sym, surd_of_one}, NumberValues.{number_means}, SquareClassLaws.{Same-trans, Same-Agree}}
+use Rattle.calc_algebra.proofs.{SurdLaws.{Agree-sym, Agree-trans, Agree-Same}, TermLaws.{Same-refl, Same-eq, Same-append, Same-surd_times, Same-surd_power, extracted}}
+use Rattle.calc_algebra.proofs.{InverseLaws.{Inverts-Same, inverse_times_itself, Inverts-surd_of}, PowerLaws.{whole_power_negative, surd_power-surd_of}, MeaningRewrites.{KeepsMeanings}}
+use Rattle.calc_algebra.proofs.MeaningRewrites.{KeepsMeanings-refl, KeepsMeanings-eq, KeepsMeanings-trans, KeepsMeanings-sum_more, KeepsMeanings-product_more, two, two_sum, two_product}
 use Rattle.calc_algebra.proofs.MeaningRewrites.{nested_product, single_product, to_single_product, empty_product, one_factor_of_product, to_one_factor, one_times_tree, same_factor}
 use Rattle.calc_algebra.proofs.PowerRewrites.{power_parts}
 

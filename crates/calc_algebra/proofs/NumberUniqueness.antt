@@ -1,14 +1,9 @@
 -- Numbers with the same value, all radicands below 10^12, are one tree.
-use Rattle.calc_algebra.proofs.Shared.{◌≡◌, ◌≢◌, ℕ, ◌<◌, ◌≤◌, ◌^◌, ◌⊎◌, inl, inr, [], ◌∷◌, refl, sym, ap, ◌∙◌, arith, subst, Contains, ⊤}
-use Rattle.calc_algebra.proofs.Shared.{false_from_ne_true, Contains-append_right, IsClean, zero_plus, plus_negative, Fraction, plus, negative, zero_fraction, one_fraction, plus_comm, plus_assoc}
-use Rattle.calc_algebra.proofs.Shared.{IsNumber, IsTerm, AreTerms, IsBelowAll, Rises, value, term_of, terms_of, term_share, class_coefficient, radicands, Same, Term, Surd, term, Tree, add, Trees}
-use Rattle.calc_algebra.proofs.Shared.{none, more}
-use Rattle.calc_algebra.proofs.NumberShapes.{AsTerm, as_term, AsNumber, as_number, one_number_of_value}
-use Rattle.calc_algebra.proofs.NumberClasses.{IsProper, first_coefficient, one_not_zero}
-use Rattle.calc_algebra.proofs.CleanLaws.{IsSquareFree, clean_square_free, one_square_free, alike_square_free}
-use Rattle.calc_algebra.proofs.SquareClassLaws.{Same-Agree}
-use Rattle.calc_algebra.proofs.SurdLaws.{Agree, Agree-sym}
-use Rattle.calc_algebra.proofs.TermLaws.{share_apart}
+use Rattle.calc_algebra.proofs.Shared.{◌≡◌, ◌≢◌, ℕ, ◌<◌, ◌≤◌, ◌^◌, ◌⊎◌, inl, inr, [], ◌∷◌, refl, sym, ap, ◌∙◌, arith, subst, Contains, ⊤, false_from_ne_true, Contains-append_right, IsClean, zero_plus}
+use Rattle.calc_algebra.proofs.Shared.{plus_negative, Fraction, plus, negative, zero_fraction, one_fraction, plus_comm, plus_assoc, IsNumber, IsTerm, AreTerms, IsBelowAll, Rises, value, term_of}
+use Rattle.calc_algebra.proofs.{Shared.{terms_of, term_share, class_coefficient, radicands, Same, Term, Surd, term, Tree, add, Trees, none, more}, NumberShapes.{AsTerm, as_term, AsNumber, as_number}}
+use Rattle.calc_algebra.proofs.{NumberShapes.{one_number_of_value}, NumberClasses.{IsProper, first_coefficient, one_not_zero}, CleanLaws.{IsSquareFree, clean_square_free, one_square_free}}
+use Rattle.calc_algebra.proofs.{CleanLaws.{alike_square_free}, SquareClassLaws.{Same-Agree}, SurdLaws.{Agree, Agree-sym}, TermLaws.{share_apart}}
 
 -- ---- lists of square-free terms
 

@@ -1,9 +1,8 @@
 -- A Number means its terms under every assignment.
-use Rattle.calc_algebra.proofs.Shared.{◌≡◌, ℕ, ◌*◌, ◌≤◌, ℤ, pos, [], ◌∷◌, Bool, true, false, if◌then◌else◌, refl, sym, ap, ◌∙◌, arith, times_comm, one_times}
-use Rattle.calc_algebra.proofs.Shared.{zero_times, zero_plus, Fraction, times, zero_fraction, one_fraction, plus, quotient, int_is_zero, Assignment, Means, MeansSum, IsRootOf, IsNumber, IsTerm}
-use Rattle.calc_algebra.proofs.Shared.{IsRadicand, value, term_of, terms_of, natural_of, AreTerms, Same, term_share, are_alike, square_root, Surd, term, surd_one, surd_times, surd_of, Tree, num, add}
-use Rattle.calc_algebra.proofs.Shared.{mult, root, Trees, none, more, zero_is}
-use Rattle.calc_algebra.proofs.SurdLaws.{Agree, Agree-refl, Agree-trans, Agree-eq, Agree-Same}
+use Rattle.calc_algebra.proofs.Shared.{◌≡◌, ℕ, ◌*◌, ◌≤◌, ℤ, pos, [], ◌∷◌, Bool, true, false, if◌then◌else◌, refl, sym, ap, ◌∙◌, arith, times_comm, one_times, zero_times, zero_plus, Fraction, times}
+use Rattle.calc_algebra.proofs.Shared.{zero_fraction, one_fraction, plus, quotient, int_is_zero, Assignment, Means, MeansSum, IsRootOf, IsNumber, IsTerm, IsRadicand, value, term_of, terms_of}
+use Rattle.calc_algebra.proofs.Shared.{natural_of, AreTerms, Same, term_share, are_alike, square_root, Surd, term, surd_one, surd_times, surd_of, Tree, num, add, mult, root, Trees, none, more}
+use Rattle.calc_algebra.proofs.{Shared.{zero_is}, SurdLaws.{Agree, Agree-refl, Agree-trans, Agree-eq, Agree-Same}}
 
 pub Same-refl : (v : Surd) → Same v v
 Same-refl v = Agree-Same (Agree-refl v)

@@ -1,13 +1,11 @@
 -- Powers: laws of exponents for natural and for whole exponents, powers of products, of powers and of roots, and powers of rationals.
-use Rattle.calc_algebra.proofs.Shared.{◌≡◌, ℕ, zero, suc, ◌+◌, ◌*◌, ◌<◌, ◌⊎◌, inl, inr, ℤ, pos, negsuc, neg_ℤ, ◌+ℤ◌, ◌*ℤ◌, [], refl, sym, ap, ◌∙◌}
-use Rattle.calc_algebra.proofs.Shared.{arith, subst, ints, fraction_power, Fraction, lowest, times, zero_fraction, same_lowest, lowest_parts, den_pos, times_lowest, mul_pos, whole_fraction, gcd}
-use Rattle.calc_algebra.proofs.Shared.{parts, diff_eq, mul_diff, IsWholePower, IsRootOf, IsRoot, Same, Inverts, Surd, surd_of, surd_one, surd_times, surd_power, up, down}
-use Rattle.calc_algebra.proofs.MeaningLaws.{class_coefficient-surd_of, Same-sym}
-use Rattle.calc_algebra.proofs.SquareClassLaws.{Same-Agree, Same-trans}
-use Rattle.calc_algebra.proofs.SurdLaws.{Agree, Agree-refl, Agree-sym, Agree-trans, Agree-eq, Agree-Same, Agree-surd_times, Agree-surd_times_right, Agree-surd_power, surd_times_comm, surd_times_assoc}
-use Rattle.calc_algebra.proofs.SurdLaws.{surd_times-surd_one, surd_times-one, surd_times_exchange}
-use Rattle.calc_algebra.proofs.TermLaws.{Same-refl, Same-eq, Same-surd_times, Same-surd_power, zero_term, extracted}
-use Rattle.calc_algebra.proofs.InverseLaws.{Inverts-sym, Inverts-Same, Inverts-surd_times, Inverts-surd_one, Inverts-surd_power, Inverts-not_zero, Inverts-one, Same-times_zero}
+use Rattle.calc_algebra.proofs.Shared.{◌≡◌, ℕ, zero, suc, ◌+◌, ◌*◌, ◌<◌, ◌⊎◌, inl, inr, ℤ, pos, negsuc, neg_ℤ, ◌+ℤ◌, ◌*ℤ◌, [], refl, sym, ap, ◌∙◌, arith, subst, ints, fraction_power, Fraction, lowest}
+use Rattle.calc_algebra.proofs.Shared.{times, zero_fraction, same_lowest, lowest_parts, den_pos, times_lowest, mul_pos, whole_fraction, gcd, parts, diff_eq, mul_diff, IsWholePower, IsRootOf, IsRoot}
+use Rattle.calc_algebra.proofs.{Shared.{Same, Inverts, Surd, surd_of, surd_one, surd_times, surd_power, up, down}, MeaningLaws.{class_coefficient-surd_of, Same-sym}}
+use Rattle.calc_algebra.proofs.{SquareClassLaws.{Same-Agree, Same-trans}, SurdLaws.{Agree, Agree-refl, Agree-sym, Agree-trans, Agree-eq, Agree-Same, Agree-surd_times, Agree-surd_times_right}}
+use Rattle.calc_algebra.proofs.{SurdLaws.{Agree-surd_power, surd_times_comm, surd_times_assoc, surd_times-surd_one, surd_times-one, surd_times_exchange}, TermLaws.{Same-refl, Same-eq}}
+use Rattle.calc_algebra.proofs.{TermLaws.{Same-surd_times, Same-surd_power, zero_term, extracted}, InverseLaws.{Inverts-sym, Inverts-Same, Inverts-surd_times, Inverts-surd_one, Inverts-surd_power}}
+use Rattle.calc_algebra.proofs.InverseLaws.{Inverts-not_zero, Inverts-one, Same-times_zero}
 
 -- ---- natural exponents
 

@@ -1,12 +1,8 @@
 -- Rewritings of quotients, powers and roots that keep meanings.
-use Rattle.calc_algebra.proofs.Shared.{arith, ◌≡◌, inl, inr, ℤ, pos, negsuc, ◌+ℤ◌, ◌++◌, sym, ap, subst, if◌then◌else◌, Fraction, zero_fraction, one_fraction}
-use Rattle.calc_algebra.proofs.Shared.{minus_one_fraction, whole_fraction, Assignment, Means, IsPower, IsWholePower, IsRoot, is_opaque_exponent, base_of, Same, Surd, surd_of, surd_times, Tree, num}
-use Rattle.calc_algebra.proofs.Shared.{add, mult, power, root, div, Trees, none, more}
-use Rattle.calc_algebra.proofs.MeaningLaws.{one_meaning, Means-Same, Same-sym, whole_one, one_rational, whole_is_no_half}
-use Rattle.calc_algebra.proofs.SurdLaws.{Agree-refl, Agree-Same}
-use Rattle.calc_algebra.proofs.TermLaws.{Same-refl}
-use Rattle.calc_algebra.proofs.ExponentLaws.{IsPower-Same, power_add, power_mul}
-use Rattle.calc_algebra.proofs.PowerLaws.{IsWholePower-Same, whole_power_of_product, whole_power_of_one, even_power_of_root}
+use Rattle.calc_algebra.proofs.Shared.{arith, ◌≡◌, inl, inr, ℤ, pos, negsuc, ◌+ℤ◌, ◌++◌, sym, ap, subst, if◌then◌else◌, Fraction, zero_fraction, one_fraction, minus_one_fraction, whole_fraction}
+use Rattle.calc_algebra.proofs.Shared.{Assignment, Means, IsPower, IsWholePower, IsRoot, is_opaque_exponent, base_of, Same, Surd, surd_of, surd_times, Tree, num, add, mult, power, root, div, Trees}
+use Rattle.calc_algebra.proofs.{Shared.{none, more}, MeaningLaws.{one_meaning, Means-Same, Same-sym, whole_one, one_rational, whole_is_no_half}, SurdLaws.{Agree-refl, Agree-Same}}
+use Rattle.calc_algebra.proofs.{TermLaws.{Same-refl}, ExponentLaws.{IsPower-Same, power_add, power_mul}, PowerLaws.{IsWholePower-Same, whole_power_of_product, whole_power_of_one, even_power_of_root}}
 use Rattle.calc_algebra.proofs.MeaningRewrites.{KeepsMeanings, KeepsMeanings-refl, KeepsMeanings-eq, KeepsMeanings-trans, KeepsMeanings-product_more, two, sum_two, product_parts, product_more}
 use Rattle.calc_algebra.proofs.MeaningRewrites.{product_none, product_two, two_product, none_product}
 

@@ -1,8 +1,7 @@
 -- Being alike is an equivalence, and surds that are equal class by class agree at every number.
-use Rattle.calc_algebra.proofs.Shared.{ℕ, zero, suc, ◌*◌, ◌≡◌, ◌<◌, ◌⊎◌, pos, ◌*ℤ◌, [], ◌∷◌, Bool, true, false, Contains, refl, sym, ap, ◌∙◌, arith, inl, inr}
-use Rattle.calc_algebra.proofs.Shared.{Contains-append_right, and_from, times_comm, times_assoc, times_plus, zero_plus, zero_times, Fraction, plus, times, zero_fraction, same_lowest, times_lowest}
-use Rattle.calc_algebra.proofs.Shared.{mul_pos, quotient, are_alike, term_share, class_coefficient, radicands, Same, square_root, Term, Surd}
-use Rattle.calc_algebra.proofs.SquareRootLaws.{square_root-square, square_from_scaled}
+use Rattle.calc_algebra.proofs.Shared.{ℕ, zero, suc, ◌*◌, ◌≡◌, ◌<◌, ◌⊎◌, pos, ◌*ℤ◌, [], ◌∷◌, Bool, true, false, Contains, refl, sym, ap, ◌∙◌, arith, inl, inr, Contains-append_right, and_from}
+use Rattle.calc_algebra.proofs.Shared.{times_comm, times_assoc, times_plus, zero_plus, zero_times, Fraction, plus, times, zero_fraction, same_lowest, times_lowest, mul_pos, quotient, are_alike}
+use Rattle.calc_algebra.proofs.{Shared.{term_share, class_coefficient, radicands, Same, square_root, Term, Surd}, SquareRootLaws.{square_root-square, square_from_scaled}}
 use Rattle.calc_algebra.proofs.SurdLaws.{Agree, Agree-Same, Agree-trans}
 
 -- the product is the square of t, which is not 0

@@ -1,9 +1,8 @@
 -- Sums, multiples, products and powers of surds, up to equality at every number.
-use Rattle.calc_algebra.proofs.Shared.{ℕ, zero, suc, ◌*◌, ◌≡◌, ◌≤◌, ◌<◌, pos, ◌*ℤ◌, [], ◌∷◌, ◌++◌, map, Bool, true, false, ◌==◌, ◌&&◌, nat_le}
-use Rattle.calc_algebra.proofs.Shared.{if◌then◌else◌, refl, sym, ap, ◌∙◌, arith, append_assoc, append-nil, eqb-true, leb-true, and_parts, times_comm, times_assoc, times_plus, zero_plus}
-use Rattle.calc_algebra.proofs.Shared.{zero_times, one_times, Fraction, lowest, plus, times, zero_fraction, one_fraction, plus_comm, plus_assoc, same_lowest, times_lowest, mul_pos, quotient}
-use Rattle.calc_algebra.proofs.Shared.{square_root, surd_of, Term, Surd, term, surd_one, term_scale, surd_scale, term_times, surd_times, surd_power, are_alike, term_share, class_coefficient, Same}
-use Rattle.calc_algebra.proofs.Shared.{mul_assoc, mul_comm, one-mul}
+use Rattle.calc_algebra.proofs.Shared.{ℕ, zero, suc, ◌*◌, ◌≡◌, ◌≤◌, ◌<◌, pos, ◌*ℤ◌, [], ◌∷◌, ◌++◌, map, Bool, true, false, ◌==◌, ◌&&◌, nat_le, if◌then◌else◌, refl, sym, ap, ◌∙◌, arith, append_assoc}
+use Rattle.calc_algebra.proofs.Shared.{append-nil, eqb-true, leb-true, and_parts, times_comm, times_assoc, times_plus, zero_plus, zero_times, one_times, Fraction, lowest, plus, times, zero_fraction}
+use Rattle.calc_algebra.proofs.Shared.{one_fraction, plus_comm, plus_assoc, same_lowest, times_lowest, mul_pos, quotient, square_root, surd_of, Term, Surd, term, surd_one, term_scale, surd_scale}
+use Rattle.calc_algebra.proofs.Shared.{term_times, surd_times, surd_power, are_alike, term_share, class_coefficient, Same, mul_assoc, mul_comm, one-mul}
 
 -- the same at every number, whether it occurs or not
 pub record Agree (v w : Surd) : Type 0 where

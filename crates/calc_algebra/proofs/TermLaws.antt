@@ -1,12 +1,10 @@
 -- Surds term by term: what respects sameness, terms of one class joined, squares taken out, products of two terms, and the order of terms.
-use Rattle.calc_algebra.proofs.Shared.{◌≡◌, ℕ, zero, suc, ◌*◌, ◌<◌, pos, [], ◌∷◌, ◌++◌, Bool, true, false, if◌then◌else◌, refl, sym, ap, ◌∙◌, arith, append_assoc}
-use Rattle.calc_algebra.proofs.Shared.{times_comm, times_assoc, times_plus, zero_plus, zero_times, Fraction, lowest, plus, times, zero_fraction, plus_assoc, times_lowest, mul_pos, quotient}
-use Rattle.calc_algebra.proofs.Shared.{whole_fraction, are_alike, term_share, Same, square_root, Term, Surd, term, surd_scale, surd_times, surd_power, false_from_ne_true, one-mul}
-use Rattle.calc_algebra.proofs.SquareRootLaws.{square_root-square, square_from_scaled}
+use Rattle.calc_algebra.proofs.Shared.{◌≡◌, ℕ, zero, suc, ◌*◌, ◌<◌, pos, [], ◌∷◌, ◌++◌, Bool, true, false, if◌then◌else◌, refl, sym, ap, ◌∙◌, arith, append_assoc, times_comm, times_assoc, times_plus}
+use Rattle.calc_algebra.proofs.Shared.{zero_plus, zero_times, Fraction, lowest, plus, times, zero_fraction, plus_assoc, times_lowest, mul_pos, quotient, whole_fraction, are_alike, term_share, Same}
+use Rattle.calc_algebra.proofs.{Shared.{square_root, Term, Surd, term, surd_scale, surd_times, surd_power, false_from_ne_true, one-mul}, SquareRootLaws.{square_root-square, square_from_scaled}}
 use Rattle.calc_algebra.proofs.SurdLaws.{Agree, Agree-refl, Agree-sym, Agree-trans, Agree-eq, Agree-Same, Agree-append, append_comm, Agree-surd_scale, Agree-surd_times, Agree-surd_power, times_zero}
 use Rattle.calc_algebra.proofs.SquareClassLaws.{Alike, alike_from, alike_true, Same-Agree}
-pub use Rattle.calc_algebra.proofs.NumberValues.{Same-refl}
-pub use Rattle.calc_algebra.proofs.SquareClassLaws.{positive_right as alike_right}
+pub use Rattle.calc_algebra.proofs.{NumberValues.{Same-refl}, SquareClassLaws.{positive_right as alike_right}}
 
 -- ---- sameness is respected
 

@@ -1,14 +1,8 @@
 -- Trees that have no meaning: a part without one, zero to a power of at most 0, a division by zero, the root of a negative rational.
-use Rattle.calc_algebra.proofs.Shared.{arith, [], ◌≡◌, ℕ, ℤ, pos, neg_ℤ, true, Fraction, zero_fraction, whole_fraction, int_is_negative, Assignment, IsAssignment, Means, MeansSum}
-use Rattle.calc_algebra.proofs.Shared.{MeansProduct, IsRootOf, Same, Surd, Tree, num, undef, add, mult, power, root, neg, sub, div, Trees, none, more, IsPart, itself, in_add, in_mult, in_base}
-use Rattle.calc_algebra.proofs.Shared.{in_exponent, in_root, in_neg, in_left, in_right, in_dividend, in_divisor, IsPartOf, first, later}
-use Rattle.calc_algebra.proofs.MeaningRewrites.{KeepsMeanings, KeepsMeanings-refl}
-use Rattle.calc_algebra.proofs.NumberRewrites.{root_parts}
-use Rattle.calc_algebra.proofs.PowerLaws.{no_power_of_zero}
-use Rattle.calc_algebra.proofs.PowerRewrites.{power_parts}
-use Rattle.calc_algebra.proofs.SquareClassLaws.{Same-trans}
-use Rattle.calc_algebra.proofs.TermLaws.{zero_term}
-use Rattle.calc_algebra.proofs.BadLaws.{no_root}
+use Rattle.calc_algebra.proofs.Shared.{arith, [], ◌≡◌, ℕ, ℤ, pos, neg_ℤ, true, Fraction, zero_fraction, whole_fraction, int_is_negative, Assignment, IsAssignment, Means, MeansSum, MeansProduct}
+use Rattle.calc_algebra.proofs.Shared.{IsRootOf, Same, Surd, Tree, num, undef, add, mult, power, root, neg, sub, div, Trees, none, more, IsPart, itself, in_add, in_mult, in_base, in_exponent, in_root}
+use Rattle.calc_algebra.proofs.{Shared.{in_neg, in_left, in_right, in_dividend, in_divisor, IsPartOf, first, later}, MeaningRewrites.{KeepsMeanings, KeepsMeanings-refl}, NumberRewrites.{root_parts}}
+use Rattle.calc_algebra.proofs.{PowerLaws.{no_power_of_zero}, PowerRewrites.{power_parts}, SquareClassLaws.{Same-trans}, TermLaws.{zero_term}, BadLaws.{no_root}}
 
 -- p has a meaning under f
 HasMeaning : Assignment → Tree → Type 0

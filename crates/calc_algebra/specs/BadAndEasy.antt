@@ -1,11 +1,7 @@
 -- Trees without symbols of which it is known whether they have a value.
 use Rattle.std.specs.Prelude.{ℕ, ◌≡◌, ◌≤◌, ◌⊎◌, ℤ, pos, negsuc, ◌≤ℤ◌, [], length, true}
-use Rattle.calc_terms.specs.Integers.{int_is_negative}
-use Rattle.calc_terms.specs.Fractions.{Fraction, whole_fraction}
-use Rattle.calc_terms.specs.Trees.{Tree, undef, power, root, div, names, IsPart}
-use Rattle.calc_algebra.specs.Surds.{Surd, surd_of}
-use Rattle.calc_algebra.specs.SquareClasses.{Same}
-use Rattle.calc_algebra.specs.Meanings.{Means}
+use Rattle.calc_terms.specs.{Integers.{int_is_negative}, Fractions.{Fraction, whole_fraction}, Trees.{Tree, undef, power, root, div, names, IsPart}}
+use Rattle.calc_algebra.specs.{Surds.{Surd, surd_of}, SquareClasses.{Same}, Meanings.{Means}}
 
 -- v is a meaning of the tree under no assignment
 abbrev pub HasValue : Tree → Surd → Type 0

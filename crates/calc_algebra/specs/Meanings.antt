@@ -1,9 +1,7 @@
 -- What an expression means under an assignment of fractions to names.
 use Rattle.std.specs.Prelude.{ℕ, zero, suc, ◌*◌, ◌≡◌, ◌⊎◌, ℤ, pos, negsuc, List, [], ◌∷◌, ◌++◌, map, Contains, ⊤}
-use Rattle.calc_terms.specs.Fractions.{Fraction, lowest, whole_fraction, minus_one_fraction}
-use Rattle.calc_terms.specs.Trees.{Tree, num, symbol, undef, add, mult, power, root, neg, sub, div, Trees, none, more}
-use Rattle.calc_algebra.specs.Surds.{Surd, term, surd_of, surd_one, surd_scale, surd_times, surd_power}
-use Rattle.calc_algebra.specs.SquareClasses.{Same, Inverts}
+use Rattle.calc_terms.specs.{Fractions.{Fraction, lowest, whole_fraction, minus_one_fraction}, Trees.{Tree, num, symbol, undef, add, mult, power, root, neg, sub, div, Trees, none, more}}
+use Rattle.calc_algebra.specs.{Surds.{Surd, term, surd_of, surd_one, surd_scale, surd_times, surd_power}, SquareClasses.{Same, Inverts}}
 
 -- a name and the fraction that it stands for
 pub record Binding : Type 0 where

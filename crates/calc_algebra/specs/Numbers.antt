@@ -1,10 +1,7 @@
 -- Numbers: sums of rational multiples of square roots, a term for each square class, and their values.
 use Rattle.std.specs.Prelude.{ℕ, ◌≡◌, ◌≢◌, ◌≤◌, ◌<◌, ⊤, ℤ, pos, negsuc, [], ◌∷◌, Bool, true, false, ◌&&◌, ◌==◌, not, nat_lt, nat_le, if◌then◌else◌, length}
-use Rattle.calc_terms.specs.Fractions.{Fraction, zero_fraction, one_fraction, is_zero_fraction, is_one_fraction}
-use Rattle.calc_algebra.specs.Clean.{is_clean, IsClean}
-use Rattle.calc_terms.specs.Trees.{Tree, num, add, mult, root, Trees, none, more}
-use Rattle.calc_algebra.specs.Surds.{Term, Surd, term, surd_of}
-use Rattle.calc_algebra.specs.SquareClasses.{are_alike}
+use Rattle.calc_terms.specs.{Fractions.{Fraction, zero_fraction, one_fraction, is_zero_fraction, is_one_fraction}, Trees.{Tree, num, add, mult, root, Trees, none, more}}
+use Rattle.calc_algebra.specs.{Clean.{is_clean, IsClean}, Surds.{Term, Surd, term, surd_of}, SquareClasses.{are_alike}}
 
 -- ---- terms
 

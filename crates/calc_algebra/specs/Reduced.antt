@@ -1,12 +1,8 @@
 -- Reduced trees: the form that no rule of reduction changes.
-use Rattle.std.specs.declared.cmp.Ordering.TheVariants.{Less}
-use Rattle.std.specs.Prelude.{◌≡◌, ◌≢◌, ◌≤◌, ◌⊎◌, ⊤, Bool, true, false, ◌&&◌, ◌||◌, ◌==◌, not, nat_le, if◌then◌else◌}
-use Rattle.std.specs.Ordering.{is_lt}
-use Rattle.calc_terms.specs.Integers.{int_is_negative, int_is_even}
-use Rattle.calc_terms.specs.Fractions.{Fraction, zero_fraction, one_fraction, is_zero_fraction, is_one_fraction}
-use Rattle.calc_terms.specs.Trees.{HasTwo, AllParts, Tree, num, symbol, undef, add, mult, power, root, neg, sub, div, Trees, none, more, has_two, is_num, is_add, is_mult, is_root, is_undef}
-use Rattle.calc_algebra.specs.TreeOrder.{tree_cmp}
-use Rattle.calc_algebra.specs.Numbers.{IsNumber, Rises, is_radicand, is_term, is_number, terms_of, rises, classes}
+use Rattle.std.specs.{declared.cmp.Ordering.TheVariants.{Less}, Prelude.{◌≡◌, ◌≢◌, ◌≤◌, ◌⊎◌, ⊤, Bool, true, false, ◌&&◌, ◌||◌, ◌==◌, not, nat_le, if◌then◌else◌}, Ordering.{is_lt}}
+use Rattle.calc_terms.specs.{Integers.{int_is_negative, int_is_even}, Fractions.{Fraction, zero_fraction, one_fraction, is_zero_fraction, is_one_fraction}, Trees.{HasTwo, AllParts, Tree, num, symbol}}
+use Rattle.calc_terms.specs.Trees.{undef, add, mult, power, root, neg, sub, div, Trees, none, more, has_two, is_num, is_add, is_mult, is_root, is_undef}
+use Rattle.calc_algebra.specs.{TreeOrder.{tree_cmp}, Numbers.{IsNumber, Rises, is_radicand, is_term, is_number, terms_of, rises, classes}}
 
 -- ---- powers
 

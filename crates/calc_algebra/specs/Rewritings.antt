@@ -1,8 +1,6 @@
 -- What a rewriting of a tree keeps.
 use Rattle.std.specs.Prelude.{ℕ, ◌≡◌, true, List, Contains}
-use Rattle.calc_algebra.specs.Meanings.{Assignment, IsAssignment, Means}
-use Rattle.calc_algebra.specs.Reduced.{is_reduced}
-use Rattle.calc_algebra.specs.Surds.{Surd}
+use Rattle.calc_algebra.specs.{Meanings.{Assignment, IsAssignment, Means}, Reduced.{is_reduced}, Surds.{Surd}}
 use Rattle.calc_terms.specs.Trees.{Tree, names}
 
 -- under every assignment, each meaning of the old tree is one of the new

@@ -1,8 +1,7 @@
 -- Square classes: radicands are alike where their product is a square. Surds are equal class by class.
 use Rattle.std.specs.Prelude.{ℕ, ◌*◌, ◌≡◌, List, [], ◌∷◌, map, Bool, ◌==◌, ◌&&◌, nat_le, if◌then◌else◌, Contains}
 use Rattle.calc_terms.specs.Fractions.{Fraction, quotient, plus, times, zero_fraction}
-use Rattle.calc_algebra.specs.SquareRoots.{square_root}
-use Rattle.calc_algebra.specs.Surds.{Term, Surd, surd_one, surd_times}
+use Rattle.calc_algebra.specs.{SquareRoots.{square_root}, Surds.{Term, Surd, surd_one, surd_times}}
 
 -- r * s is a square, and not 0
 abbrev pub are_alike : ℕ → ℕ → Bool

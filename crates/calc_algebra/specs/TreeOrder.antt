@@ -1,10 +1,6 @@
 -- The order of trees: by kind, then by value or by bytes, then child by child.
-use Rattle.std.specs.declared.cmp.Ordering.{Ordering}
-use Rattle.std.specs.declared.cmp.Ordering.TheVariants.{Less, Equal, Greater}
-use Rattle.std.specs.Ordering.{nat_cmp, ordering_then}
-use Rattle.std.specs.Cmp.Lexicographic.{slice_cmp}
-use Rattle.calc_terms.specs.Fractions.{fraction_cmp}
-use Rattle.calc_terms.specs.Trees.{Tree, num, symbol, undef, add, mult, power, root, neg, sub, div, Trees, none, more, root_code}
+use Rattle.std.specs.{declared.cmp.Ordering.{Ordering}, declared.cmp.Ordering.TheVariants.{Less, Equal, Greater}, Ordering.{nat_cmp, ordering_then}, Cmp.Lexicographic.{slice_cmp}}
+use Rattle.calc_terms.specs.{Fractions.{fraction_cmp}, Trees.{Tree, num, symbol, undef, add, mult, power, root, neg, sub, div, Trees, none, more, root_code}}
 
 -- by the codes of their kinds
 abbrev pub kind_cmp : Tree → Tree → Ordering

@@ -1,11 +1,9 @@
 -- A Number has no more mass than a list that is the same, class by class.
-use Rattle.calc_bits.proofs.Shared.{◌≡◌, ◌≢◌, ℕ, ◌+◌, ◌*◌, ◌≤◌, ◌<◌, max, [], ◌∷◌, Bool, true, false, if◌then◌else◌, ℤ, pos, ◌+ℤ◌, ◌*ℤ◌, refl}
-use Rattle.calc_bits.proofs.Shared.{sym, ap, ◌∙◌, subst, arith, nat_abs, ⊤, ◌∣◌, ints, unsigned_abs-mul, false_from_ne_true, mul-le, Fraction, lowest, plus, times, quotient}
-use Rattle.calc_bits.proofs.Shared.{zero_fraction, same_lowest, times_lowest, mul_pos, den_pos, zero_plus, IsBelowAll, Rises, are_alike, term_share, class_coefficient, Same, square_root, Term, Surd}
-use Rattle.calc_bits.proofs.Shared.{Alike, alike_from, Same-Agree, Agree, share_alike, share_apart, IsProper, AreProper, first_coefficient, alike_common, behind_coefficient, AreWholeOver, Parts}
-use Rattle.calc_bits.proofs.Shared.{magnitude_over, root_above, term_mass, mass_from}
-use Rattle.calc_bits.proofs.Quotients.{cancel_le, cancel_right, abs_cross, magnitude_cross, whole_over, whole_over-abs, over_multiple, plus_over}
-use Rattle.calc_bits.proofs.RootsAbove.{root_enough, root_least, square_sum}
+use Rattle.calc_bits.proofs.Shared.{◌≡◌, ◌≢◌, ℕ, ◌+◌, ◌*◌, ◌≤◌, ◌<◌, max, [], ◌∷◌, Bool, true, false, if◌then◌else◌, ℤ, pos, ◌+ℤ◌, ◌*ℤ◌, refl, sym, ap, ◌∙◌, subst, arith, nat_abs, ⊤, ◌∣◌, ints}
+use Rattle.calc_bits.proofs.Shared.{unsigned_abs-mul, false_from_ne_true, mul-le, Fraction, lowest, plus, times, quotient, zero_fraction, same_lowest, times_lowest, mul_pos, den_pos, zero_plus}
+use Rattle.calc_bits.proofs.Shared.{IsBelowAll, Rises, are_alike, term_share, class_coefficient, Same, square_root, Term, Surd, Alike, alike_from, Same-Agree, Agree, share_alike, share_apart}
+use Rattle.calc_bits.proofs.Shared.{IsProper, AreProper, first_coefficient, alike_common, behind_coefficient, AreWholeOver, Parts, magnitude_over, root_above, term_mass, mass_from}
+use Rattle.calc_bits.proofs.{Quotients.{cancel_le, cancel_right, abs_cross, magnitude_cross, whole_over, whole_over-abs, over_multiple, plus_over}, RootsAbove.{root_enough, root_least, square_sum}}
 
 -- ---- the terms of one class, and the others
 

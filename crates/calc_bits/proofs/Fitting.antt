@@ -1,10 +1,8 @@
 -- Which sums, products and powers of rationals fit.
-use Rattle.calc_bits.proofs.Shared.{◌≡◌, ℕ, zero, suc, ◌+◌, ◌*◌, ◌/◌, ◌^◌, ◌≤◌, ◌<◌, true, ℤ, pos, ◌+ℤ◌, ◌*ℤ◌, refl, sym, ap, ◌∙◌, subst, arith}
-use Rattle.calc_bits.proofs.Shared.{nat_abs, IsGcd, ◌∣◌, ints, unsigned_abs-mul, and_from, le_of_dvd, same_from_IsGcd, IsGcd-swap, mul-div_cancel', dvd_of_mul-dvd-mul_left, pos_of_dvd_of_pos}
-use Rattle.calc_bits.proofs.Shared.{mul-le-mul_left, pow-suc, pow-zero, mul_comm, fits, fraction_fits, sum_fits, fraction_power, Fraction, lowest, plus, times, den_pos, one_fraction, gcd, gcd_is}
-use Rattle.calc_bits.proofs.Shared.{gauss, divided, magnitude_over}
-use Rattle.calc_bits.proofs.Quotients.{den_divides, den_at_most, num_at_most, plus_den, magnitude_cross, times_den, magnitude_times, magnitude_is, cancel_le, abs_cross}
-use Rattle.calc_bits.proofs.ClassMasses.{abs_plus}
+use Rattle.calc_bits.proofs.Shared.{◌≡◌, ℕ, zero, suc, ◌+◌, ◌*◌, ◌/◌, ◌^◌, ◌≤◌, ◌<◌, true, ℤ, pos, ◌+ℤ◌, ◌*ℤ◌, refl, sym, ap, ◌∙◌, subst, arith, nat_abs, IsGcd, ◌∣◌, ints, unsigned_abs-mul, and_from}
+use Rattle.calc_bits.proofs.Shared.{le_of_dvd, same_from_IsGcd, IsGcd-swap, mul-div_cancel', dvd_of_mul-dvd-mul_left, pos_of_dvd_of_pos, mul-le-mul_left, pow-suc, pow-zero, mul_comm, fits}
+use Rattle.calc_bits.proofs.Shared.{fraction_fits, sum_fits, fraction_power, Fraction, lowest, plus, times, den_pos, one_fraction, gcd, gcd_is, gauss, divided, magnitude_over}
+use Rattle.calc_bits.proofs.{Quotients.{den_divides, den_at_most, num_at_most, plus_den, magnitude_cross, times_den, magnitude_times, magnitude_is, cancel_le, abs_cross}, ClassMasses.{abs_plus}}
 
 bounded : (z : ℤ) (n : ℕ) → nat_abs z ≤ n → n < 2 ^ 127 → fits z ≡ true
 bounded z n h k = grind arith

@@ -1,10 +1,8 @@
 -- What is held: products, powers and sums, and what that says of one term.
-use Rattle.calc_bits.proofs.Shared.{◌≡◌, ℕ, zero, suc, ◌+◌, ◌*◌, ◌^◌, ◌≤◌, ◌<◌, ◌++◌, pos, refl, sym, ap, ◌∙◌, subst, arith, nat_abs, ◌∣◌, mul-le}
-use Rattle.calc_bits.proofs.Shared.{pow-add, pow-suc, pow-zero, mul_comm, Fraction, lowest, one_fraction, mul_pos, den_pos, Surd, surd_one, surd_times, surd_power, Parts, magnitude_over, root_above}
-use Rattle.calc_bits.proofs.Shared.{mass_from, mass, IsHeld}
-use Rattle.calc_bits.proofs.MassLaws.{parts_scale, parts_append, parts_times, mass-append, mass_scale, mass_times}
-use Rattle.calc_bits.proofs.Quotients.{cancel_le, cancel_right, magnitude_cross, den_divides, magnitude_is, abs_cross}
-use Rattle.calc_bits.proofs.RootsAbove.{root_least}
+use Rattle.calc_bits.proofs.Shared.{◌≡◌, ℕ, zero, suc, ◌+◌, ◌*◌, ◌^◌, ◌≤◌, ◌<◌, ◌++◌, pos, refl, sym, ap, ◌∙◌, subst, arith, nat_abs, ◌∣◌, mul-le, pow-add, pow-suc, pow-zero, mul_comm, Fraction}
+use Rattle.calc_bits.proofs.Shared.{lowest, one_fraction, mul_pos, den_pos, Surd, surd_one, surd_times, surd_power, Parts, magnitude_over, root_above, mass_from, mass, IsHeld}
+use Rattle.calc_bits.proofs.{MassLaws.{parts_scale, parts_append, parts_times, mass-append, mass_scale, mass_times}, Quotients.{cancel_le, cancel_right, magnitude_cross, den_divides, magnitude_is}}
+use Rattle.calc_bits.proofs.{Quotients.{abs_cross}, RootsAbove.{root_least}}
 
 -- ---- powers of surds
 

@@ -1,8 +1,6 @@
 -- The same by one denominator, a term counted by its magnitude alone.
-use Rattle.calc_bits.proofs.Shared.{◌≡◌, ℕ, suc, ◌+◌, ◌*◌, ◌^◌, ◌≤◌, ◌++◌, ◌∙◌, subst, arith, mul-le, pow-add, pow-suc, mul_comm, Surd, surd_times, surd_power}
-use Rattle.calc_bits.proofs.Shared.{Parts, mass_from, IsHeldByOne}
-use Rattle.calc_bits.proofs.Held.{two_powers, power_bound, low_power, parts_power, mass_power}
-use Rattle.calc_bits.proofs.MassLaws.{parts_scale, parts_append, parts_times, mass-append, mass_scale, mass_times}
+use Rattle.calc_bits.proofs.Shared.{◌≡◌, ℕ, suc, ◌+◌, ◌*◌, ◌^◌, ◌≤◌, ◌++◌, ◌∙◌, subst, arith, mul-le, pow-add, pow-suc, mul_comm, Surd, surd_times, surd_power, Parts, mass_from, IsHeldByOne}
+use Rattle.calc_bits.proofs.{Held.{two_powers, power_bound, low_power, parts_power, mass_power}, MassLaws.{parts_scale, parts_append, parts_times, mass-append, mass_scale, mass_times}}
 
 pub times_by_one : (v w : Surd) (h k l n : ℕ) → IsHeldByOne v h l → IsHeldByOne w k n → IsHeldByOne (surd_times v w) (h + k) (l + n)
 times_by_one v w h k l n a b = record {

@@ -1,7 +1,6 @@
 -- Scales, sums and products of masses.
-use Rattle.calc_bits.proofs.Shared.{◌≡◌, ℕ, ◌+◌, ◌*◌, ◌≤◌, ◌<◌, ◌⊎◌, max, min, [], ◌∷◌, ◌++◌, map, sym, ap, ◌∙◌, subst, arith, ◌∣◌, dvd_trans}
-use Rattle.calc_bits.proofs.Shared.{dvd-mul_left, times, mul_pos, Term, Surd, term_times, surd_times, AreWholeOver, Parts, magnitude_over, root_above, term_mass, mass_from, IsHeld}
-use Rattle.calc_bits.proofs.Quotients.{magnitude_scale, magnitude_times, times_den}
+use Rattle.calc_bits.proofs.Shared.{◌≡◌, ℕ, ◌+◌, ◌*◌, ◌≤◌, ◌<◌, ◌⊎◌, max, min, [], ◌∷◌, ◌++◌, map, sym, ap, ◌∙◌, subst, arith, ◌∣◌, dvd_trans, dvd-mul_left, times, mul_pos, Term, Surd, term_times}
+use Rattle.calc_bits.proofs.{Shared.{surd_times, AreWholeOver, Parts, magnitude_over, root_above, term_mass, mass_from, IsHeld}, Quotients.{magnitude_scale, magnitude_times, times_den}}
 use Rattle.calc_bits.proofs.RootsAbove.{root_times, root_scale}
 
 -- ---- denominators

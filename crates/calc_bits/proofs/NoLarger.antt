@@ -1,9 +1,7 @@
 -- Numbers that are the same as a surd or as a power of one are no larger; and lists that are the same, with more terms behind.
-use Rattle.calc_bits.proofs.Shared.{◌≡◌, ℕ, zero, suc, ◌+◌, ◌*◌, ◌^◌, ◌≤◌, ◌++◌, true, subst, arith, ◌∙◌, pow-suc, Rises, is_number, value, Same, Surd, surd_power}
-use Rattle.calc_bits.proofs.Shared.{AreProper, value_proper, value_rises, number_words, IsNoLarger, IsNoLargerThanPower, SharesPowers, Parts, SharesDenominators, mass_from, mass, IsHeld, Tree}
-use Rattle.calc_bits.proofs.Held.{parts_power, mass_power, power_bound, low_power}
-use Rattle.calc_bits.proofs.MassLaws.{mass-append}
-use Rattle.calc_bits.proofs.Parts.{parts_left, mass_of_same, held_same, held_same_by_one, same_without}
+use Rattle.calc_bits.proofs.Shared.{◌≡◌, ℕ, zero, suc, ◌+◌, ◌*◌, ◌^◌, ◌≤◌, ◌++◌, true, subst, arith, ◌∙◌, pow-suc, Rises, is_number, value, Same, Surd, surd_power, AreProper, value_proper}
+use Rattle.calc_bits.proofs.Shared.{value_rises, number_words, IsNoLarger, IsNoLargerThanPower, SharesPowers, Parts, SharesDenominators, mass_from, mass, IsHeld, Tree}
+use Rattle.calc_bits.proofs.{Held.{parts_power, mass_power, power_bound, low_power}, MassLaws.{mass-append}, Parts.{parts_left, mass_of_same, held_same, held_same_by_one, same_without}}
 
 pub no_larger : (t : Tree) (v : Surd) → is_number t ≡ true → Same (value t) v → SharesDenominators v (value t) → IsNoLarger v (value t)
 no_larger t v n s f = grind (arith, mass_of_same, value_proper, number_words, value_rises, held_same, held_same_by_one)

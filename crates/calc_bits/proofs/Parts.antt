@@ -1,10 +1,7 @@
 -- Parts of lists that are held, and lists of rising terms that are the same as one that is held.
-use Rattle.calc_bits.proofs.Shared.{◌≡◌, ℕ, ◌+◌, ◌*◌, ◌^◌, ◌≤◌, [], ◌∷◌, ◌++◌, sym, ap, ◌∙◌, subst, arith, le_of_dvd, Fraction, plus, negative, zero_fraction}
-use Rattle.calc_bits.proofs.Shared.{plus_comm, plus_assoc, zero_plus, plus_negative, Rises, class_coefficient, Same, Term, Surd, AreProper, Same-Agree, Agree-Same, class_coefficient-append}
-use Rattle.calc_bits.proofs.Shared.{AreWholeOver, Parts, magnitude_over, root_above, term_mass, mass_from, mass, IsHeld, IsHeldByOne}
-use Rattle.calc_bits.proofs.ClassMasses.{mass_same}
-use Rattle.calc_bits.proofs.Held.{magnitudes_cross, square_held}
-use Rattle.calc_bits.proofs.MassLaws.{parts_append, mass-append}
+use Rattle.calc_bits.proofs.Shared.{◌≡◌, ℕ, ◌+◌, ◌*◌, ◌^◌, ◌≤◌, [], ◌∷◌, ◌++◌, sym, ap, ◌∙◌, subst, arith, le_of_dvd, Fraction, plus, negative, zero_fraction, plus_comm, plus_assoc, zero_plus}
+use Rattle.calc_bits.proofs.Shared.{plus_negative, Rises, class_coefficient, Same, Term, Surd, AreProper, Same-Agree, Agree-Same, class_coefficient-append, AreWholeOver, Parts, magnitude_over}
+use Rattle.calc_bits.proofs.{Shared.{root_above, term_mass, mass_from, mass, IsHeld, IsHeldByOne}, ClassMasses.{mass_same}, Held.{magnitudes_cross, square_held}, MassLaws.{parts_append, mass-append}}
 use Rattle.calc_bits.proofs.RootsAbove.{root_enough}
 
 -- ---- parts of lists

@@ -1,8 +1,7 @@
 -- Surds within the bits that calculations have, and what is no larger than a surd or a power of one.
 use Rattle.std.specs.Prelude.{ℕ, ◌+◌, ◌*◌, ◌^◌, ◌≤◌}
 use Rattle.calc_algebra.specs.Surds.{Surd}
-use Rattle.calc_bits.specs.Denominators.{Parts, SharesDenominators}
-use Rattle.calc_bits.specs.Masses.{mass_from, IsHeld, IsHeldByOne}
+use Rattle.calc_bits.specs.{Denominators.{Parts, SharesDenominators}, Masses.{mass_from, IsHeld, IsHeldByOne}}
 
 -- v is held within 124 bits
 pub record HasFewBits (v : Surd) : Type 0 where

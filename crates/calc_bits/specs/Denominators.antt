@@ -1,6 +1,5 @@
 -- Common denominators of the coefficients of a surd.
-use Rattle.std.specs.Prelude.{ℕ, ◌*◌, ◌/◌, ◌<◌, ⊤, [], ◌∷◌, nat_abs}
-use Rattle.std.specs.Int.{◌∣◌}
+use Rattle.std.specs.{Prelude.{ℕ, ◌*◌, ◌/◌, ◌<◌, ⊤, [], ◌∷◌, nat_abs}, Int.{◌∣◌}}
 use Rattle.calc_terms.specs.Fractions.{Fraction}
 use Rattle.calc_algebra.specs.Surds.{Surd}
 

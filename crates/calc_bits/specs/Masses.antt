@@ -1,7 +1,6 @@
 -- How large a surd is, by whole numbers alone.
 use Rattle.std.specs.Prelude.{ℕ, suc, ◌+◌, ◌*◌, ◌^◌, ◌≤◌, max, [], ◌∷◌, ◌==◌, if◌then◌else◌}
-use Rattle.calc_algebra.specs.SquareRoots.{square_root}
-use Rattle.calc_algebra.specs.Surds.{Term, Surd}
+use Rattle.calc_algebra.specs.{SquareRoots.{square_root}, Surds.{Term, Surd}}
 use Rattle.calc_bits.specs.Denominators.{Parts, magnitude_over}
 
 -- the least number whose square is at least n

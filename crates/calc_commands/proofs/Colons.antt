@@ -1,7 +1,6 @@
 -- Command lines begin with a colon, and blank ones do not.
 use Rattle.std.proofs.Common.{◌≡◌, ◌∙◌, ℕ, List, [], ◌∷◌, ◌++◌, Bool, true, false, cond, nat_eq, refl, ap}
-use Rattle.std.specs.Prelude.{◌&&◌}
-use Rattle.std.specs.List.{list_all}
+use Rattle.std.specs.{Prelude.{◌&&◌}, List.{list_all}}
 use Rattle.calc_language.specs.Tokens.{is_blank}
 use Rattle.calc_commands.specs.Commands.{Asked, IsCommandLine, asks_after, asks_diff, asks_draw, asks_dump, asks_expand, asks_forget, asks_layout, asks_pool, asks_solve, is_command}
 

@@ -1,6 +1,5 @@
 -- The bytes in use, and their text.
-use Rattle.calc_commands.proofs.Shared.{◌≡◌, ◌∙◌, ℕ, ◌<◌, ◌≤◌, List, [], ◌∷◌, ◌++◌, length, get_or, take, sym, ap, arith, append-nil, length-encodings}
-use Rattle.calc_commands.proofs.Shared.{extended, entries}
+use Rattle.calc_commands.proofs.Shared.{◌≡◌, ◌∙◌, ℕ, ◌<◌, ◌≤◌, List, [], ◌∷◌, ◌++◌, length, get_or, take, sym, ap, arith, append-nil, length-encodings, extended, entries}
 use Rattle.std.proofs.{Common.{◌+◌, ◌*◌, replicate, append_assoc, length-append}, lemmas.List.{length-take, take_at, take_more}}
 use Rattle.node_pool.specs.{Nodes.{used, encodings}, State.{State, IsPool, bytes_of, free_of}}
 use Rattle.line_text.specs.Content.{Content}

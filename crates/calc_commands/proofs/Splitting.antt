@@ -1,17 +1,13 @@
 -- How a text is split into equations.
-use Rattle.std.proofs.Common.{append-nil, ◌≡◌, ◌∙◌, inl, inr, ℕ, zero, suc, ◌+◌, ◌-◌, ◌<◌, ◌≤◌, List, [], ◌∷◌, ◌++◌, length, map, take, drop, get_or, eqb, Bool, true, false, refl, sym, ap, subst, arith, append_assoc, drop-cons, length-append, length-take, length-drop}
-use Rattle.std.specs.Prelude.{All, Contains}
-use Rattle.std.specs.List.{join_with_byte, position_or_len, slice_split}
-use Rattle.std.proofs.lemmas.Bool.{both_ways, cases_lt, eq-eqb, eqb-true, lt-leb, le-leb}
-use Rattle.std.proofs.lemmas.List.{drop-drop, drop-take, get_or-take, get_or_default, length-map, map-append, take-append-drop, take-take, take_all}
-use Rattle.std.proofs.lemmas.List.Elements.{All-append, All-cons, All-drop, All-head, All-nil, All-push, All-tail, All-take}
-use Rattle.std.proofs.lemmas.List.Splits.{join_with_byte-slice_split, length-slice_split, slice_split_at, slice_split_first, slice_split_none}
-use Rattle.std.proofs.lemmas.List.Sums.{fails_before_first, passes_at_first}
+use Rattle.std.proofs.Common.{append-nil, ◌≡◌, ◌∙◌, inl, inr, ℕ, zero, suc, ◌+◌, ◌-◌, ◌<◌, ◌≤◌, List, [], ◌∷◌, ◌++◌, length, map, take, drop, get_or, eqb, Bool, true, false, refl, sym, ap, subst}
+use Rattle.std.proofs.{Common.{arith, append_assoc, drop-cons, length-append, length-take, length-drop}, lemmas.Bool.{both_ways, cases_lt, eq-eqb, eqb-true, lt-leb, le-leb}, lemmas.List.{drop-drop}}
+use Rattle.std.proofs.{lemmas.List.{drop-take, get_or-take, get_or_default, length-map, map-append, take-append-drop, take-take, take_all}, lemmas.List.Elements.{All-append, All-cons, All-drop}}
+use Rattle.std.proofs.{lemmas.List.Elements.{All-head, All-nil, All-push, All-tail, All-take}, lemmas.List.Splits.{join_with_byte-slice_split, length-slice_split, slice_split_at, slice_split_first}}
+use Rattle.std.proofs.{lemmas.List.Splits.{slice_split_none}, lemmas.List.Sums.{fails_before_first, passes_at_first}}
+use Rattle.std.specs.{Prelude.{All, Contains}, List.{join_with_byte, position_or_len, slice_split}}
 use Rattle.tree_handles.proofs.Outcomes.{by_test}
-use Rattle.calc_commands.specs.Equations.{AreSides, IsSideText, Sides, Splits, all_placed, cut_at, placed, written, written_all}
-use Rattle.calc_commands.specs.Parsing.{are_blanks}
-use Rattle.calc_commands.specs.Ranges.{AreSplit, IsWithin, between, pieces_at, pieces_from, sides_at}
-use Rattle.calc_commands.specs.declared.equations.EquationRange.{EquationRange}
+use Rattle.calc_commands.specs.{Equations.{AreSides, IsSideText, Sides, Splits, all_placed, cut_at, placed, written, written_all}, Parsing.{are_blanks}, Ranges.{AreSplit, IsWithin, between}}
+use Rattle.calc_commands.specs.{Ranges.{pieces_at, pieces_from, sides_at}, declared.equations.EquationRange.{EquationRange}}
 
 -- ---- bytes other than one
 

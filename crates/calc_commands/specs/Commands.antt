@@ -1,8 +1,6 @@
 -- Command lines.
-use Rattle.std.specs.Prelude.{ℕ, ◌≡◌, ◌<◌, ◌==◌, List, [], ◌∷◌, ◌++◌, length, Bool, true, false, not, if◌then◌else◌, Some, codes}
-use Rattle.std.specs.List.{list_all}
-use Rattle.calc_terms.specs.Leaf.{name_of}
-use Rattle.calc_terms.specs.Name.{is_name}
+use Rattle.std.specs.{Prelude.{ℕ, ◌≡◌, ◌<◌, ◌==◌, List, [], ◌∷◌, ◌++◌, length, Bool, true, false, not, if◌then◌else◌, Some, codes}, List.{list_all}}
+use Rattle.calc_terms.specs.{Leaf.{name_of}, Name.{is_name}}
 use Rattle.calc_language.specs.Tokens.{is_blank}
 use Rattle.calc_commands.specs.declared.command.Command.{Command}
 use Rattle.calc_commands.specs.declared.command.Command.TheVariants as command

@@ -1,8 +1,5 @@
 -- Numbers in decimal digits.
-use Rattle.std.specs.Prelude.{ℕ, ◌^◌, List, length, Bool, ◌&&◌, nat_le, nat_lt, if◌then◌else◌, Option, Some, None}
-use Rattle.std.specs.List.{list_all}
-use Rattle.std.specs.Str.Parse.{digits_value}
-use Rattle.std.specs.Char.{is_ascii_digit}
+use Rattle.std.specs.{Prelude.{ℕ, ◌^◌, List, length, Bool, ◌&&◌, nat_le, nat_lt, if◌then◌else◌, Option, Some, None}, List.{list_all}, Str.Parse.{digits_value}, Char.{is_ascii_digit}}
 
 -- one or more decimal digits
 abbrev pub is_digits : List ℕ → Bool

@@ -1,14 +1,11 @@
 -- How a command line is cut.
-use Rattle.std.specs.Prelude.{ℕ, ◌==◌, List, [], ◌∷◌, length, Bool, ◌&&◌, ◌||◌, not, nat_le, nat_lt, if◌then◌else◌, Option, Some, None, codes}
-use Rattle.std.specs.List.{list_all}
-use Rattle.std.specs.Option.{option_map, option_and_then}
+use Rattle.std.specs.{Prelude.{ℕ, ◌==◌, List, [], ◌∷◌, length, Bool, ◌&&◌, ◌||◌, not, nat_le, nat_lt, if◌then◌else◌, Option, Some, None, codes}, List.{list_all}, Option.{option_map, option_and_then}}
 use Rattle.std.specs.Str.{bytes_eq}
 use Rattle.calc_terms.specs.Name.{is_name}
 use Rattle.calc_language.specs.Tokens.{is_blank, leading_run}
 use Rattle.calc_commands.specs.declared.parts.Class.{Class}
 use Rattle.calc_commands.specs.declared.parts.Class.TheVariants as class
-use Rattle.calc_commands.specs.Commands.{Asked, pool, dump, draw, layout, forget, after, diff, solve, expand}
-use Rattle.calc_commands.specs.Numbers.{value_of}
+use Rattle.calc_commands.specs.{Commands.{Asked, pool, dump, draw, layout, forget, after, diff, solve, expand}, Numbers.{value_of}}
 
 -- a byte is of a class
 abbrev pub is_in : Class → ℕ → Bool

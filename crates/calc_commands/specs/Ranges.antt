@@ -1,8 +1,6 @@
 -- Equations by where they stand in a text.
-use Rattle.std.specs.Prelude.{ℕ, ◌≡◌, ◌≤◌, ◌<◌, ◌+◌, ◌-◌, List, [], ◌∷◌, ◌==◌, length, map, take, drop, nat_le, if◌then◌else◌, All}
-use Rattle.std.specs.List.{slice_split}
-use Rattle.calc_commands.specs.declared.equations.EquationRange.{EquationRange}
-use Rattle.calc_commands.specs.declared.equations.SplitFault.{SplitFault}
+use Rattle.std.specs.{Prelude.{ℕ, ◌≡◌, ◌≤◌, ◌<◌, ◌+◌, ◌-◌, List, [], ◌∷◌, ◌==◌, length, map, take, drop, nat_le, if◌then◌else◌, All}, List.{slice_split}}
+use Rattle.calc_commands.specs.{declared.equations.EquationRange.{EquationRange}, declared.equations.SplitFault.{SplitFault}}
 use Rattle.calc_commands.specs.declared.equations.SplitFault.TheVariants as split_fault
 use Rattle.calc_commands.specs.Equations.{Pieces, Sides, Splits, all_placed}
 

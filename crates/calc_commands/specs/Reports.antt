@@ -1,9 +1,7 @@
 -- What the reports say.
 use Rattle.std.specs.Prelude.{ℕ, ◌+◌, ◌-◌, ◌/◌, ◌%◌, ◌==◌, List, [], ◌∷◌, ◌++◌, length, nat_lt, if◌then◌else◌, decimal, codes}
-use Rattle.node_pool.specs.Nodes.{used, encodings}
-use Rattle.node_pool.specs.State.{State}
-use Rattle.tree_handles.specs.Forest.{arity}
-use Rattle.tree_handles.specs.Standing.{forest}
+use Rattle.node_pool.specs.{Nodes.{used, encodings}, State.{State}}
+use Rattle.tree_handles.specs.{Forest.{arity}, Standing.{forest}}
 
 -- the bytes in use, the capacity, the nodes and the trees
 abbrev pub pool_report : State → List ℕ

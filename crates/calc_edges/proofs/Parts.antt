@@ -1,8 +1,5 @@
 -- Lemmas on parts of what a sink was to take.
-use Rattle.std.proofs.Common.{ℕ, ◌+◌, ◌≤◌, List, ◌++◌, length, take, Option, sym, subst, arith, length-append}
-use Rattle.std.proofs.KnownBytes.{Appends-trans}
-use Rattle.std.proofs.Math.Seq.{take-append-add}
-use Rattle.std.proofs.lemmas.List.{take-append-le}
+use Rattle.std.proofs.{Common.{ℕ, ◌+◌, ◌≤◌, List, ◌++◌, length, take, Option, sym, subst, arith, length-append}, KnownBytes.{Appends-trans}, Math.Seq.{take-append-add}, lemmas.List.{take-append-le}}
 use Rattle.std.specs.Io.KnownBytes.{Appends}
 use Rattle.calc_edges.specs.Taken.{AppendsPart}
 

@@ -1,7 +1,6 @@
 -- Lemmas on what came before the first failure.
 use Rattle.std.proofs.Common.{◌≡◌, ◌∙◌, ℕ, List, Option, Result, Ok, Err, arith}
-use Rattle.calc_edges.specs.Faults.{HasCause, IsCalm, StopsAtFailure, counted}
-use Rattle.calc_edges.specs.declared.failures.Failures.{Failures}
+use Rattle.calc_edges.specs.{Faults.{HasCause, IsCalm, StopsAtFailure, counted}, declared.failures.Failures.{Failures}}
 
 -- where nothing had failed before, it stopped at the first failure in all
 pub stops_later : {X : Type 0} (bytes : X → Option (List ℕ)) (faults : X → Failures) (old middle new : X)

@@ -1,6 +1,5 @@
 -- Counts of failures. A count never falls, and it stops at 2 ^ 64 - 1.
-use Rattle.std.specs.Prelude.{◌≡◌, ◌⊎◌, ℕ, ◌+◌, ◌-◌, ◌^◌, ◌<◌, ◌≤◌, List, Option, nat_lt, true, false, is_ok, if◌then◌else◌, Result, OnOk, OnErr}
-use Rattle.std.specs.Io.KnownBytes.{Keeps}
+use Rattle.std.specs.{Prelude.{◌≡◌, ◌⊎◌, ℕ, ◌+◌, ◌-◌, ◌^◌, ◌<◌, ◌≤◌, List, Option, nat_lt, true, false, is_ok, if◌then◌else◌, Result, OnOk, OnErr}, Io.KnownBytes.{Keeps}}
 use Rattle.calc_edges.specs.declared.failures.Failures.{Failures}
 
 -- one more, up to 2 ^ 64 - 1

@@ -1,7 +1,5 @@
 -- Sources and sinks over readers and writers of std.
-use Rattle.calc_edges.specs.declared.failures.Failures.{Failures}
-use Rattle.calc_edges.specs.declared.std_edges.StdSource.{StdSource}
-use Rattle.calc_edges.specs.declared.std_edges.StdSink.{StdSink}
+use Rattle.calc_edges.specs.{declared.failures.Failures.{Failures}, declared.std_edges.StdSource.{StdSource}, declared.std_edges.StdSink.{StdSink}}
 
 -- the reader that a source reads from
 abbrev pub reader_of : {R : Type 0} → StdSource R → R

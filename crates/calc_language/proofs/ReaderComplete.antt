@@ -1,11 +1,10 @@
 -- What the grammar allows is read, so it has one tree.
-use Rattle.calc_language.proofs.Shared.{ℕ, suc, ◌+◌, ◌≡◌, List, [], ◌∷◌, ◌++◌, Bool, true, false, Some, refl, ap, ◌∙◌, arith, append_assoc, SoFar, single, as_tree}
-use Rattle.calc_language.proofs.Shared.{plus_term, minus_term, times_factor, over_factor, joined_tree, joins, Sum, first_term, plus_more, minus_more, Signed, minus_signed, plain_signed, Product}
-use Rattle.calc_language.proofs.Shared.{first_factor, times_more, over_more, Right, minus_right, plain_right, Joined, one_power, another_power, Power, plain_power, raised_power, Exponent}
-use Rattle.calc_language.proofs.Shared.{minus_exponent, plain_exponent, Primary, a_literal, a_name, an_undef, parenthesized, a_root, name, Token, literal, undef_mark, root_mark, plus_mark}
-use Rattle.calc_language.proofs.Shared.{minus_mark, times_mark, slash_mark, caret_mark, left_mark, right_mark, Tree, power, root, neg, Trees, none, more, append}
-use Rattle.calc_language.proofs.Reader.{Read, andthen, closed, sum_at, terms_at, signed_at, product_at, factors_at, right_at, joined_at, powers_at, power_at, raise_at, exponent_at, primary_at}
-use Rattle.calc_language.proofs.ReaderSteps.{More, mono, raised_to, one_answer}
+use Rattle.calc_language.proofs.Shared.{ℕ, suc, ◌+◌, ◌≡◌, List, [], ◌∷◌, ◌++◌, Bool, true, false, Some, refl, ap, ◌∙◌, arith, append_assoc, SoFar, single, as_tree, plus_term, minus_term, times_factor}
+use Rattle.calc_language.proofs.Shared.{over_factor, joined_tree, joins, Sum, first_term, plus_more, minus_more, Signed, minus_signed, plain_signed, Product, first_factor, times_more, over_more}
+use Rattle.calc_language.proofs.Shared.{Right, minus_right, plain_right, Joined, one_power, another_power, Power, plain_power, raised_power, Exponent, minus_exponent, plain_exponent, Primary}
+use Rattle.calc_language.proofs.Shared.{a_literal, a_name, an_undef, parenthesized, a_root, name, Token, literal, undef_mark, root_mark, plus_mark, minus_mark, times_mark, slash_mark, caret_mark}
+use Rattle.calc_language.proofs.{Shared.{left_mark, right_mark, Tree, power, root, neg, Trees, none, more, append}, Reader.{Read, andthen, closed, sum_at, terms_at, signed_at, product_at, factors_at}}
+use Rattle.calc_language.proofs.{Reader.{right_at, joined_at, powers_at, power_at, raise_at, exponent_at, primary_at}, ReaderSteps.{More, mono, raised_to, one_answer}}
 
 -- what may come behind
 abbrev pub ends_power : List Token → Bool

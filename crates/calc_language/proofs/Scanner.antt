@@ -1,7 +1,6 @@
 -- Functions that read a text, for examples that compute.
 use Rattle.std.proofs.Common.{◌≡◌, ℕ, zero, suc, List, [], ◌∷◌, ◌++◌, Bool, true, false, Option, Some, None}
-use Rattle.calc_language.proofs.{Shared.{refl, subst, Token, arrow_mark, name, token_at, is_blank, Scans, at_end, at_blank, at_token, SoFar, as_tree, Reads}, Reader.sum_at}
-use Rattle.calc_language.proofs.ReaderSound.{reads-Sum}
+use Rattle.calc_language.proofs.{Reader.sum_at, Shared.{refl, subst, Token, arrow_mark, name, token_at, is_blank, Scans, at_end, at_blank, at_token, SoFar, as_tree, Reads}, ReaderSound.{reads-Sum}}
 use Rattle.calc_language.specs.Reads.{Stores}
 
 abbrev before : Token → Option (List Token) → Option (List Token)

@@ -1,7 +1,6 @@
 -- The face of a reduced tree: how it is displayed, with minus signs, fraction bars and whole numbers at least 0.
 use Rattle.std.specs.Prelude.{ℕ, zero, suc, ℤ, negsuc, nat_abs, Bool, true, false, ◌==◌, if◌then◌else◌}
-use Rattle.calc_terms.specs.Integers.{int_is_negative}
-use Rattle.calc_terms.specs.Trees.{Tree, num, symbol, undef, add, mult, power, root, neg, sub, div, Trees, none, more, whole_num}
+use Rattle.calc_terms.specs.{Integers.{int_is_negative}, Trees.{Tree, num, symbol, undef, add, mult, power, root, neg, sub, div, Trees, none, more, whole_num}}
 use Rattle.calc_language.specs.Grammar.{SoFar, single, as_tree, plus_term, minus_term}
 
 -- a minus sign stands before the face: the leading rational is negative

@@ -1,7 +1,6 @@
 -- The grammar of a line over its tokens, a rule of inference for each of its alternatives.
 use Rattle.std.specs.Prelude.{ℕ, ◌≡◌, List, [], ◌∷◌, ◌++◌, Bool, true, false}
-use Rattle.calc_terms.specs.Fractions.{Fraction}
-use Rattle.calc_terms.specs.Trees.{Tree, num, symbol, undef, add, mult, power, root, neg, sub, div, Trees, none, more, append}
+use Rattle.calc_terms.specs.{Fractions.{Fraction}, Trees.{Tree, num, symbol, undef, add, mult, power, root, neg, sub, div, Trees, none, more, append}}
 use Rattle.calc_language.specs.Tokens.{Token, literal, name, undef_mark, root_mark, plus_mark, minus_mark, times_mark, slash_mark, caret_mark, left_mark, right_mark, arrow_mark}
 
 -- what a sum or a product has made so far: one tree, or the children of an Add or Mult of its own

@@ -1,8 +1,7 @@
 -- What a text reads as, with no limit of length or depth.
 use Rattle.std.specs.Prelude.{ℕ, List}
 use Rattle.calc_terms.specs.Trees.{Tree}
-use Rattle.calc_language.specs.Tokens.{Token, Scans}
-use Rattle.calc_language.specs.Grammar.{IsSum, IsStore}
+use Rattle.calc_language.specs.{Tokens.{Token, Scans}, Grammar.{IsSum, IsStore}}
 
 -- the text is a sum with this tree
 abbrev pub Reads : List ℕ → Tree → Type 0

@@ -1,8 +1,6 @@
 -- The text of a tree, with the parentheses that it needs to be read again.
 use Rattle.std.specs.Prelude.{ℕ, zero, suc, ◌+◌, ◌/◌, ◌%◌, List, [], ◌∷◌, ◌++◌, Bool, true, ◌||◌, nat_le, nat_abs, ◌≡◌, pos, ⊤, if◌then◌else◌, codes}
-use Rattle.calc_terms.specs.Name.{is_name}
-use Rattle.calc_terms.specs.Fractions.{Fraction, whole_fraction}
-use Rattle.calc_terms.specs.Trees.{AllParts, Tree, num, symbol, undef, add, mult, power, root, neg, sub, div, Trees, none, more, is_sub, is_div}
+use Rattle.calc_terms.specs.{Name.{is_name}, Fractions.{Fraction, whole_fraction}, Trees.{AllParts, Tree, num, symbol, undef, add, mult, power, root, neg, sub, div, Trees, none, more, is_sub, is_div}}
 use Rattle.calc_language.specs.Tokens.{times_sign, root_sign}
 
 -- the digits of n in front of those; n is below 10 ^ steps

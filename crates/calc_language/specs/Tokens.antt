@@ -1,7 +1,6 @@
 -- Tokens, and how the bytes of a line are cut into them.
 use Rattle.std.specs.Prelude.{ℕ, ◌+◌, ◌-◌, ◌*◌, ◌^◌, ◌≡◌, List, [], ◌∷◌, ◌++◌, length, Bool, true, false, ◌&&◌, ◌||◌, ◌==◌, nat_le, if◌then◌else◌, Option, Some, None, pos, codes}
-use Rattle.calc_terms.specs.Fractions.{Fraction, lowest}
-use Rattle.calc_terms.specs.Name.{is_digit, is_letter, is_name_byte}
+use Rattle.calc_terms.specs.{Fractions.{Fraction, lowest}, Name.{is_digit, is_letter, is_name_byte}}
 
 -- a literal by its value, a name by its bytes, or a mark
 pub data Token : Type 0 where

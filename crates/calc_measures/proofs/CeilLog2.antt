@@ -1,6 +1,5 @@
 -- The least exponent of 2 that reaches a number.
-use Rattle.calc_measures.proofs.Shared.{◌≡◌, ℕ, zero, suc, ◌+◌, ◌^◌, ◌≤◌, ◌<◌, Bool, true, false, refl, arith, leb-true, leb-false, nat_le, ◌⊎◌, inl, inr, below_power}
-use Rattle.calc_measures.proofs.Shared.{least_exponent, ceil_log2}
+use Rattle.calc_measures.proofs.Shared.{◌≡◌, ℕ, zero, suc, ◌+◌, ◌^◌, ◌≤◌, ◌<◌, Bool, true, false, refl, arith, leb-true, leb-false, nat_le, ◌⊎◌, inl, inr, below_power, least_exponent, ceil_log2}
 
 -- k is the least exponent with n at most 2 to its power
 pub record IsCeilLog2 (n k : ℕ) : Type 0 where

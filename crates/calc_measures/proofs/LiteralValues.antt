@@ -1,9 +1,8 @@
 -- Exponents that are written as a whole number or as half of an odd one are worth that number.
-use Rattle.calc_measures.proofs.Shared.{◌≡◌, ℕ, ℤ, pos, neg_ℤ, ◌*ℤ◌, [], Bool, true, false, ◌&&◌, ◌==◌, not, if◌then◌else◌, Option, Some, None, refl, sym, ap}
-use Rattle.calc_measures.proofs.Shared.{◌∙◌, subst, arith, and_parts, eqb-true, not-true, ints, half_of, half_of_is, is_half_num, whole_literal, half_literal, half_value, half_quotient}
-use Rattle.calc_measures.proofs.Shared.{int_is_two, is_half_literal, is_some, opposite, IsPlainAnswer, PlainValue, exactly, overflow, calculated, plain_value, divided, gather, values, on_one, mul_op}
-use Rattle.calc_measures.proofs.Shared.{result_of, operation_fits, Fraction, lowest, times, negative, inverse, inverse_of, whole_fraction, lowest_parts, times_lowest, int_is_even, Tree, num, neg, div}
-use Rattle.calc_measures.proofs.Shared.{negative_parts}
+use Rattle.calc_measures.proofs.Shared.{◌≡◌, ℕ, ℤ, pos, neg_ℤ, ◌*ℤ◌, [], Bool, true, false, ◌&&◌, ◌==◌, not, if◌then◌else◌, Option, Some, None, refl, sym, ap, ◌∙◌, subst, arith, and_parts, eqb-true}
+use Rattle.calc_measures.proofs.Shared.{not-true, ints, half_of, half_of_is, is_half_num, whole_literal, half_literal, half_value, half_quotient, int_is_two, is_half_literal, is_some, opposite}
+use Rattle.calc_measures.proofs.Shared.{IsPlainAnswer, PlainValue, exactly, overflow, calculated, plain_value, divided, gather, values, on_one, mul_op, result_of, operation_fits, Fraction, lowest}
+use Rattle.calc_measures.proofs.Shared.{times, negative, inverse, inverse_of, whole_fraction, lowest_parts, times_lowest, int_is_even, Tree, num, neg, div, negative_parts}
 
 chosen : (b : Bool) (m n : ℤ) → (if b then Some m else None) ≡ Some n → (b ≡ true) × (m ≡ n)
 chosen b m n h = grind arith

@@ -1,8 +1,7 @@
 -- How much trees weigh, at least and by their nodes.
-use Rattle.calc_measures.proofs.Shared.{ℕ, ◌+◌, ◌*◌, ◌≤◌, Bool, arith, suc, if◌then◌else◌, ◌≡◌, inl, inr, true, false, refl, ◌<◌, max, and_parts, reduced_words}
-use Rattle.calc_measures.proofs.Shared.{is_number, are_numbers, is_opaque_exponent, base_of, is_reduced, weight, load_of_factors, weight_of_factors, load_of_factor, has_coefficient, nest, nest_of}
-use Rattle.calc_measures.proofs.Shared.{Tree, mult, Trees, nodes, power, root, none, more, nodes_of}
-use Rattle.calc_measures.proofs.Nests.{nest_number}
+use Rattle.calc_measures.proofs.Shared.{ℕ, ◌+◌, ◌*◌, ◌≤◌, Bool, arith, suc, if◌then◌else◌, ◌≡◌, inl, inr, true, false, refl, ◌<◌, max, and_parts, reduced_words, is_number, are_numbers}
+use Rattle.calc_measures.proofs.Shared.{is_opaque_exponent, base_of, is_reduced, weight, load_of_factors, weight_of_factors, load_of_factor, has_coefficient, nest, nest_of, Tree, mult, Trees, nodes}
+use Rattle.calc_measures.proofs.{Shared.{power, root, none, more, nodes_of}, Nests.{nest_number}}
 
 product_cases : (x y : Bool) (w n : ℕ) → w ≤ 3 * n → (if x then 2 else 1 + (if y then 2 else 0) + w) ≤ 3 * suc n
 product_cases x y w n h = grind arith

@@ -1,8 +1,6 @@
 -- Exponents that are written as a whole number, or as half of an odd one.
 use Rattle.std.specs.Prelude.{zero, suc, ℤ, pos, neg_ℤ, Bool, true, false, ◌&&◌, ◌==◌, not, if◌then◌else◌, Option, Some, None}
-use Rattle.calc_terms.specs.Integers.{int_is_even}
-use Rattle.calc_terms.specs.Fractions.{Fraction}
-use Rattle.calc_terms.specs.Trees.{Tree, num, neg, div}
+use Rattle.calc_terms.specs.{Integers.{int_is_even}, Fractions.{Fraction}, Trees.{Tree, num, neg, div}}
 
 -- the whole number that the fraction is
 abbrev pub whole_value : Fraction → Option ℤ

@@ -1,8 +1,7 @@
 -- Nest, Weight and Load of a reduced tree, or of a node with reduced children.
 use Rattle.std.specs.Prelude.{ℕ, suc, ◌+◌, max, Bool, false, ◌||◌, if◌then◌else◌}
 use Rattle.calc_terms.specs.Trees.{Tree, add, mult, power, root, neg, sub, div, Trees, none, more, is_undef}
-use Rattle.calc_algebra.specs.Numbers.{is_number}
-use Rattle.calc_algebra.specs.Reduced.{base_of}
+use Rattle.calc_algebra.specs.{Numbers.{is_number}, Reduced.{base_of}}
 
 -- how deep powers stand in exponents that are no Numbers
 abbrev mutual

@@ -1,10 +1,8 @@
 -- What is answered where a tree has a plain value.
 use Rattle.std.specs.Prelude.{◌≡◌, ⊤}
 use Rattle.calc_measures.specs.PlainValues.{PlainValue, exactly, undefined, overflow, nothing}
-use Rattle.calc_terms.specs.Rat.{value_of}
-use Rattle.calc_terms.specs.Trees.{Tree, num, undef}
-use Rattle.rational128.specs.Refusals.{operation_of}
-use Rattle.rational128.specs.declared.overflow.Overflow.{Overflow}
+use Rattle.calc_terms.specs.{Rat.{value_of}, Trees.{Tree, num, undef}}
+use Rattle.rational128.specs.{Refusals.{operation_of}, declared.overflow.Overflow.{Overflow}}
 
 -- a tree is answered only where the plain value is no overflow: it is that rational, or Undef
 abbrev pub IsPlainAnswer : PlainValue → Tree → Type 0

@@ -1,8 +1,7 @@
 -- The plain value of a tree without symbols and roots, as exact arithmetic in 128 bits gives it.
 use Rattle.std.specs.Prelude.{ℕ, zero, suc, ℤ, pos, negsuc, List, [], ◌∷◌, Bool, true, false, ◌&&◌, if◌then◌else◌}
-use Rattle.calc_terms.specs.Fractions.{Fraction, negative, one_fraction, whole_fraction, inverse, is_zero_fraction}
-use Rattle.calc_terms.specs.Fits.{Operation, add_op, mul_op, pow_op, result_of, operation_fits}
-use Rattle.calc_terms.specs.Trees.{Tree, num, symbol, undef, add, mult, power, root, neg, sub, div, Trees, none, more}
+use Rattle.calc_terms.specs.{Fractions.{Fraction, negative, one_fraction, whole_fraction, inverse, is_zero_fraction}, Fits.{Operation, add_op, mul_op, pow_op, result_of, operation_fits}, Trees.{Tree}}
+use Rattle.calc_terms.specs.Trees.{num, symbol, undef, add, mult, power, root, neg, sub, div, Trees, none, more}
 
 -- a rational, Undef, an overflow, or nothing
 pub data PlainValue : Type 0 where

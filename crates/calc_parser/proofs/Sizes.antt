@@ -1,7 +1,6 @@
 -- The room that the nodes of a tree take.
-use Rattle.calc_parser.proofs.Shared.{◌≡◌, ℕ, ◌+◌, ◌-◌, ◌≤◌, ◌↔◌, List, [], ◌∷◌, ◌++◌, if◌then◌else◌, Ok, Err, refl, ap, arith, leb}
-use Rattle.calc_parser.proofs.Shared.{leb-true, Tree, num, symbol, undef, add, mult, power, root, neg, sub, div, Trees, none, more, count, size, sizes, by_test, Node, parent, postfix, postfixes}
-use Rattle.calc_parser.proofs.{Shared.{bytes_of_node, placing, building}, UnderWay.by_room}
+use Rattle.calc_parser.proofs.Shared.{◌≡◌, ℕ, ◌+◌, ◌-◌, ◌≤◌, ◌↔◌, List, [], ◌∷◌, ◌++◌, if◌then◌else◌, Ok, Err, refl, ap, arith, leb, leb-true, Tree, num, symbol, undef, add, mult, power, root, neg}
+use Rattle.calc_parser.proofs.{Shared.{sub, div, Trees, none, more, count, size, sizes, by_test, Node, parent, postfix, postfixes, bytes_of_node, placing, building}, UnderWay.by_room}
 use Rattle.calc_terms.specs.declared.kind.Kind.TheVariants as kind
 
 -- the bytes that nodes take

@@ -3,15 +3,11 @@ use Rattle.std.specs.Prelude.{ℕ, ◌+◌, max, List, [], ◌∷◌, ◌++◌, 
 use Rattle.calc_terms.specs.declared.kind.Kind.{Kind}
 use Rattle.calc_terms.specs.declared.kind.Kind.TheVariants as kind
 use Rattle.calc_language.specs.Tokens.{Token, literal, name, undef_mark, root_mark, plus_mark, minus_mark, times_mark, slash_mark, caret_mark, left_mark, right_mark}
-use Rattle.calc_parser.specs.declared.nesting.Open.{Open}
-use Rattle.calc_parser.specs.declared.nesting.Open.TheVariants.{Parentheses, Root, Sum, Difference, NegatedTerm, Product, Quotient, NegatedFactor, Joined, Power, NegatedExponent}
-use Rattle.calc_parser.specs.declared.nesting.Level.{Level}
+use Rattle.calc_parser.specs.{declared.nesting.Open.{Open}, declared.nesting.Open.TheVariants.{Parentheses, Root, Sum, Difference, NegatedTerm, Product, Quotient, NegatedFactor, Joined, Power}}
+use Rattle.calc_parser.specs.{declared.nesting.Open.TheVariants.{NegatedExponent}, declared.nesting.Level.{Level}}
 use Rattle.calc_parser.specs.declared.nesting.Level.TheVariants as level
-use Rattle.calc_parser.specs.declared.nesting.Place.{Place}
-use Rattle.calc_parser.specs.declared.nesting.Place.TheVariants.{Child, Right}
-use Rattle.calc_parser.specs.declared.reader.Expects.{Expects}
-use Rattle.calc_parser.specs.declared.reader.Expects.TheVariants.{Operand, Parenthesis, Operator}
-use Rattle.calc_parser.specs.Postfix.{Node, leaf, parent}
+use Rattle.calc_parser.specs.{declared.nesting.Place.{Place}, declared.nesting.Place.TheVariants.{Child, Right}, declared.reader.Expects.{Expects}}
+use Rattle.calc_parser.specs.{declared.reader.Expects.TheVariants.{Operand, Parenthesis, Operator}, Postfix.{Node, leaf, parent}}
 
 -- what may come next, what is open (the last first), and the whole nodes in postfix order
 pub record State : Type 0 where

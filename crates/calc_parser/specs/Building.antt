@@ -1,8 +1,7 @@
 -- How the nodes of a tree find room.
 use Rattle.std.specs.Prelude.{ℕ, ◌-◌, List, [], ◌∷◌, nat_le, if◌then◌else◌, Result, Ok, Err}
-use Rattle.calc_terms.specs.Payload.{bare, size_of_payload}
+use Rattle.calc_terms.specs.{Payload.{bare, size_of_payload}, Trees.{Tree, num, symbol, undef, root_size}}
 use Rattle.calc_language.specs.Tokens.{literal, name}
-use Rattle.calc_terms.specs.Trees.{Tree, num, symbol, undef, root_size}
 use Rattle.node_pool.specs.declared.full.Full.{Full}
 use Rattle.calc_parser.specs.Postfix.{Node, leaf, parent, postfix}
 

@@ -1,13 +1,9 @@
 -- What one node in postfix order makes of the last trees.
 use Rattle.std.specs.Prelude.{ℕ, ◌≡◌, Bool, true}
-use Rattle.calc_terms.specs.Payload.{Payload, size_of_payload}
+use Rattle.calc_terms.specs.{Payload.{Payload, size_of_payload}, Trees.{Tree, Trees, num, symbol, undef}}
 use Rattle.calc_language.specs.Tokens.{literal, name}
-use Rattle.calc_terms.specs.Trees.{Tree, Trees, num, symbol, undef}
-use Rattle.tree_handles.specs.Expressions.{compound, grown, takes, takes_kind}
-use Rattle.tree_handles.specs.Forest.{Forest, one_tree, before_last, last_trees}
-use Rattle.tree_handles.specs.Handed.{Ends}
-use Rattle.calc_parser.specs.Postfix.{Node, leaf, parent}
-use Rattle.calc_parser.specs.Building.{bytes_of_node}
+use Rattle.tree_handles.specs.{Expressions.{compound, grown, takes, takes_kind}, Forest.{Forest, one_tree, before_last, last_trees}, Handed.{Ends}}
+use Rattle.calc_parser.specs.{Postfix.{Node, leaf, parent}, Building.{bytes_of_node}}
 
 -- how many of the last trees become its children
 abbrev pub children_in : Node → ℕ

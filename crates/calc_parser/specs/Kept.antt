@@ -1,10 +1,6 @@
 -- What a parser keeps of a line.
-use Rattle.calc_tokens.specs.Placed.{bare}
-use Rattle.calc_tokens.specs.Tokens.{tokens_of}
-use Rattle.calc_tokens.specs.declared.tokens.Tokens.{Tokens}
-use Rattle.calc_parser.specs.Reader.{steps_in}
-use Rattle.calc_parser.specs.Steps.{AreStepsOf}
-use Rattle.calc_parser.specs.declared.parser.Parser.TheInside.{Inside}
+use Rattle.calc_tokens.specs.{Placed.{bare}, Tokens.{tokens_of}, declared.tokens.Tokens.{Tokens}}
+use Rattle.calc_parser.specs.{Reader.{steps_in}, Steps.{AreStepsOf}, declared.parser.Parser.TheInside.{Inside}}
 
 abbrev pub kept_tokens : Inside → Tokens
 kept_tokens p = p.tokens

@@ -1,8 +1,7 @@
 -- Lines of the grammar, and how deep their trees are.
 use Rattle.std.specs.Prelude.{ℕ, ◌≤◌, ◌<◌, List, Option, Some, None}
-use Rattle.calc_language.specs.Tokens.{Token}
+use Rattle.calc_language.specs.{Tokens.{Token}, Grammar.{IsSum, IsStore}}
 use Rattle.calc_terms.specs.Trees.{Tree, depth}
-use Rattle.calc_language.specs.Grammar.{IsSum, IsStore}
 
 -- the tokens are a line with this tree, to be stored under the name where there is one
 abbrev pub IsLine : List Token → Option (List ℕ) → Tree → Type 0

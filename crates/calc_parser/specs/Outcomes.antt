@@ -1,13 +1,8 @@
 -- What each answer of the check says.
-use Rattle.std.specs.Prelude.{List, Option}
-use Rattle.std.specs.Option.{option_map}
+use Rattle.std.specs.{Prelude.{List, Option}, Option.{option_map}}
 use Rattle.calc_language.specs.Tokens.{Token}
-use Rattle.calc_terms.specs.Leaf.{name_of}
-use Rattle.calc_terms.specs.Limits.{depth_limit}
-use Rattle.calc_terms.specs.declared.name.Name.{Name}
-use Rattle.calc_parser.specs.declared.checking.ParseFault.{ParseFault}
-use Rattle.calc_parser.specs.declared.checking.ParseFault.TheVariants.{Syntax, Deep}
-use Rattle.calc_parser.specs.Lines.{IsLineOver, IsLineWithin, IsNoLine}
+use Rattle.calc_terms.specs.{Leaf.{name_of}, Limits.{depth_limit}, declared.name.Name.{Name}}
+use Rattle.calc_parser.specs.{declared.checking.ParseFault.{ParseFault}, declared.checking.ParseFault.TheVariants.{Syntax, Deep}, Lines.{IsLineOver, IsLineWithin, IsNoLine}}
 
 -- a line within the limit of depth, to be stored under the name where there is one
 abbrev pub IsShallow : List Token → Option Name → Type 0

@@ -1,18 +1,10 @@
 -- What the reader's fields stand for.
 use Rattle.std.specs.Prelude.{ℕ, ◌+◌, ◌≡◌, List, [], ◌∷◌, map, length, reverse, Option, Some, None, Result, Ok, Err, slice_index_or}
 use Rattle.calc_language.specs.Tokens.{Token, undef_mark}
-use Rattle.calc_parser.specs.declared.nesting.Open.{Open}
-use Rattle.calc_tokens.specs.declared.tokens.Token.{Token as Placed}
-use Rattle.calc_tokens.specs.Tokens.{token_of}
-use Rattle.calc_parser.specs.declared.nesting.Level.{Level}
-use Rattle.calc_parser.specs.declared.nesting.Place.{Place}
-use Rattle.calc_parser.specs.declared.nesting.Nesting.{Nesting}
-use Rattle.calc_parser.specs.declared.postfix.Step.{Step}
-use Rattle.calc_parser.specs.declared.postfix.Step.TheVariants.{Leaf, Node as Parent}
-use Rattle.calc_parser.specs.declared.postfix.Postfix.{Postfix}
-use Rattle.calc_parser.specs.declared.reader.Reader.{Reader}
-use Rattle.calc_parser.specs.Postfix.{Node, leaf, parent}
+use Rattle.calc_parser.specs.{declared.nesting.Open.{Open}, declared.nesting.Level.{Level}, declared.nesting.Place.{Place}, declared.nesting.Nesting.{Nesting}, declared.postfix.Step.{Step}}
+use Rattle.calc_parser.specs.{declared.postfix.Step.TheVariants.{Leaf, Node as Parent}, declared.postfix.Postfix.{Postfix}, declared.reader.Reader.{Reader}, Postfix.{Node, leaf, parent}}
 use Rattle.calc_parser.specs.Automaton.{State, state, Ended, ended, completed, place_in, weight}
+use Rattle.calc_tokens.specs.{declared.tokens.Token.{Token as Placed}, Tokens.{token_of}}
 
 -- what is open, the last first
 abbrev pub open_in : Nesting → List Open

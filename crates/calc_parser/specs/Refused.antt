@@ -1,10 +1,7 @@
 -- Why a line is refused.
 use Rattle.std.specs.Prelude.{ℕ, List}
-use Rattle.calc_tokens.specs.Faults.{IsFaultOf as IsTokenFaultOf}
-use Rattle.calc_tokens.specs.Placed.{Placed, bare}
-use Rattle.calc_tokens.specs.Scanned.{AreTokensOf}
-use Rattle.calc_parser.specs.Outcomes.{IsFaultOf}
-use Rattle.calc_parser.specs.declared.parser.LineFault.{LineFault}
+use Rattle.calc_tokens.specs.{Faults.{IsFaultOf as IsTokenFaultOf}, Placed.{Placed, bare}, Scanned.{AreTokensOf}}
+use Rattle.calc_parser.specs.{Outcomes.{IsFaultOf}, declared.parser.LineFault.{LineFault}}
 use Rattle.calc_parser.specs.declared.parser.LineFault.TheVariants as line_fault
 
 -- its first place that begins no token or a literal that is too wide; or its tokens are no line, or one over the limit of depth

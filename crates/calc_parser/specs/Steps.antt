@@ -2,10 +2,7 @@
 use Rattle.std.specs.Prelude.{◌≡◌, List, map}
 use Rattle.calc_language.specs.Tokens.{Token}
 use Rattle.calc_terms.specs.Trees.{Tree}
-use Rattle.calc_parser.specs.Lines.{IsTreeOf}
-use Rattle.calc_parser.specs.Postfix.{postfix}
-use Rattle.calc_parser.specs.Reader.{node_of}
-use Rattle.calc_parser.specs.declared.postfix.Step.{Step}
+use Rattle.calc_parser.specs.{Lines.{IsTreeOf}, Postfix.{postfix}, Reader.{node_of}, declared.postfix.Step.{Step}}
 
 -- where the tokens are a line, the steps are the nodes of its tree
 abbrev pub AreStepsOf : List Step → List Token → Type 0

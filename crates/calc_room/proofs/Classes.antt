@@ -1,7 +1,6 @@
 -- How many classes a list of radicands spans.
-use Rattle.calc_room.proofs.Shared.{◌≡◌, ℕ, suc, ◌+◌, ◌*◌, ◌^◌, ◌≤◌, List, [], ◌∷◌, length, Bool, true, false, refl, sym, ap, ◌∙◌, arith, ⊤, pow-suc, mul_assoc}
-use Rattle.calc_room.proofs.Shared.{one-mul, are_alike, alike_common, chosen_product, IsSpanned}
-use Rattle.calc_room.proofs.SpanLaws.{none_chosen}
+use Rattle.calc_room.proofs.Shared.{◌≡◌, ℕ, suc, ◌+◌, ◌*◌, ◌^◌, ◌≤◌, List, [], ◌∷◌, length, Bool, true, false, refl, sym, ap, ◌∙◌, arith, ⊤, pow-suc, mul_assoc, one-mul, are_alike, alike_common}
+use Rattle.calc_room.proofs.{Shared.{chosen_product, IsSpanned}, SpanLaws.{none_chosen}}
 
 -- alike with none of them
 abbrev pub NoneAlike : ℕ → List ℕ → Type 0

@@ -1,11 +1,8 @@
 -- How many classes and how many bytes a Number has at most.
-use Rattle.calc_room.proofs.Shared.{◌≡◌, ℕ, suc, ◌+◌, ◌*◌, ◌^◌, ◌≤◌, ◌<◌, ◌⊎◌, inl, inr, List, [], ◌∷◌, length, Bool, true, false, refl, sym, ap, ◌∙◌}
-use Rattle.calc_room.proofs.Shared.{subst, arith, ⊤, nat_le, if◌then◌else◌, pow_pos, Fraction, num_most, Tree, num, add, Trees, none, more, count, size, sizes, IsNumber, IsTerm, AreTerms}
-use Rattle.calc_room.proofs.Shared.{IsBelowAll, Rises, value, classes, term_of, terms_of, are_alike, radicands, Same, Term, Surd, term_proper, terms_proper, value_rises, one_apart_from_clean, AsTerm}
-use Rattle.calc_room.proofs.Shared.{as_term, AsNumber, as_number, root_terms, Spans}
-use Rattle.calc_room.proofs.SpanLaws.{one_spanned}
-use Rattle.calc_room.proofs.NumberSpans.{spans_same_terms}
-use Rattle.calc_room.proofs.Classes.{NoneAlike, AreApart, AreSpanned, few_spanned}
+use Rattle.calc_room.proofs.Shared.{◌≡◌, ℕ, suc, ◌+◌, ◌*◌, ◌^◌, ◌≤◌, ◌<◌, ◌⊎◌, inl, inr, List, [], ◌∷◌, length, Bool, true, false, refl, sym, ap, ◌∙◌, subst, arith, ⊤, nat_le, if◌then◌else◌, pow_pos}
+use Rattle.calc_room.proofs.Shared.{Fraction, num_most, Tree, num, add, Trees, none, more, count, size, sizes, IsNumber, IsTerm, AreTerms, IsBelowAll, Rises, value, classes, term_of, terms_of}
+use Rattle.calc_room.proofs.Shared.{are_alike, radicands, Same, Term, Surd, term_proper, terms_proper, value_rises, one_apart_from_clean, AsTerm, as_term, AsNumber, as_number, root_terms, Spans}
+use Rattle.calc_room.proofs.{SpanLaws.{one_spanned}, NumberSpans.{spans_same_terms}, Classes.{NoneAlike, AreApart, AreSpanned, few_spanned}}
 
 -- ---- bytes of terms
 

@@ -1,11 +1,10 @@
 -- What is spanned of sums, products, powers and inverses of Numbers.
-use Rattle.calc_room.proofs.Shared.{ℤ, pos, negsuc, ◌≡◌, ◌≢◌, ℕ, zero, suc, ◌*◌, ◌≤◌, ◌<◌, inl, inr, List, [], ◌∷◌, ◌++◌, map, length, Bool, true, false, refl}
-use Rattle.calc_room.proofs.Shared.{sym, ap, ◌∙◌, subst, arith, Fraction, lowest, plus, zero_fraction, mul_pos, zero_plus, Tree, num, add, root, Trees, none, more, IsNumber, IsTerm, AreTerms}
-use Rattle.calc_room.proofs.Shared.{Rises, value, classes, term_of, terms_of, natural_of, are_alike, class_coefficient, Same, Inverts, square_root, Term, Surd, surd_scale, term_times, surd_times}
-use Rattle.calc_room.proofs.Shared.{surd_power, surd_of, term, Inverts-not_zero, Inverts-one, inverse_of_term, term_has_inverse, inverse_of_terms, terms_have_inverse, AreProper, first_coefficient}
-use Rattle.calc_room.proofs.Shared.{value_proper, value_rises, AsNumber, as_number, Alike, alike_from, alike_true, Same-Agree, share_apart, Same-refl, Means, IsRootOf, KeepsMeanings, one_meaning}
-use Rattle.calc_room.proofs.Shared.{number_means, Agree-Same, IsSpanned, Spans, SpansRoot, SpansTree, SpansTrees, chosen_product}
-use Rattle.calc_room.proofs.SpanLaws.{one_spanned, spanned_alike, spanned_times, right_factor}
+use Rattle.calc_room.proofs.Shared.{ℤ, pos, negsuc, ◌≡◌, ◌≢◌, ℕ, zero, suc, ◌*◌, ◌≤◌, ◌<◌, inl, inr, List, [], ◌∷◌, ◌++◌, map, length, Bool, true, false, refl, sym, ap, ◌∙◌, subst, arith, Fraction}
+use Rattle.calc_room.proofs.Shared.{lowest, plus, zero_fraction, mul_pos, zero_plus, Tree, num, add, root, Trees, none, more, IsNumber, IsTerm, AreTerms, Rises, value, classes, term_of, terms_of}
+use Rattle.calc_room.proofs.Shared.{natural_of, are_alike, class_coefficient, Same, Inverts, square_root, Term, Surd, surd_scale, term_times, surd_times, surd_power, surd_of, term, Inverts-not_zero}
+use Rattle.calc_room.proofs.Shared.{Inverts-one, inverse_of_term, term_has_inverse, inverse_of_terms, terms_have_inverse, AreProper, first_coefficient, value_proper, value_rises, AsNumber, as_number}
+use Rattle.calc_room.proofs.Shared.{Alike, alike_from, alike_true, Same-Agree, share_apart, Same-refl, Means, IsRootOf, KeepsMeanings, one_meaning, number_means, Agree-Same, IsSpanned, Spans}
+use Rattle.calc_room.proofs.{Shared.{SpansRoot, SpansTree, SpansTrees, chosen_product}, SpanLaws.{one_spanned, spanned_alike, spanned_times, right_factor}}
 
 -- ---- lists of terms
 

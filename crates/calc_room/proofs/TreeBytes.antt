@@ -1,11 +1,9 @@
 -- How many bytes a reduced tree has at most.
-use Rattle.calc_room.proofs.Shared.{◌≡◌, ℕ, ◌+◌, ◌*◌, ◌^◌, ◌≤◌, ◌<◌, ◌⊎◌, inl, inr, max, List, length, Bool, true, false, ◌==◌, refl, sym, ap, ◌∙◌, subst}
-use Rattle.calc_room.proofs.Shared.{arith, ⊤, if◌then◌else◌, pow_pos, mul-le, eqb-true, Fraction, Tree, num, symbol, undef, add, mult, power, root, neg, sub, div, Trees, none, more, size}
-use Rattle.calc_room.proofs.Shared.{sizes, is_num, is_mult, AllParts, AllPartsOf, IsNumber, IsTerm, AreTerms, Rises, is_number, is_term, is_radicand, terms_of, HasForm, IsProductForm, IsPowerForm}
-use Rattle.calc_room.proofs.Shared.{IsWholePowerForm, NoneIs, number_terms, other_terms, split_product, split, num_one, IsFrontForm, is_whole_num, is_transparent_power, IsReduced, number_test}
-use Rattle.calc_room.proofs.Shared.{term_words, number_words, counted, counted_among, SpansTree, SpansTrees}
-use Rattle.calc_room.proofs.NumberSpans.{value_spanned, terms_spanned}
-use Rattle.calc_room.proofs.NumberBytes.{number_bytes, sum_bytes}
+use Rattle.calc_room.proofs.Shared.{◌≡◌, ℕ, ◌+◌, ◌*◌, ◌^◌, ◌≤◌, ◌<◌, ◌⊎◌, inl, inr, max, List, length, Bool, true, false, ◌==◌, refl, sym, ap, ◌∙◌, subst, arith, ⊤, if◌then◌else◌, pow_pos, mul-le}
+use Rattle.calc_room.proofs.Shared.{eqb-true, Fraction, Tree, num, symbol, undef, add, mult, power, root, neg, sub, div, Trees, none, more, size, sizes, is_num, is_mult, AllParts, AllPartsOf}
+use Rattle.calc_room.proofs.Shared.{IsNumber, IsTerm, AreTerms, Rises, is_number, is_term, is_radicand, terms_of, HasForm, IsProductForm, IsPowerForm, IsWholePowerForm, NoneIs, number_terms}
+use Rattle.calc_room.proofs.Shared.{other_terms, split_product, split, num_one, IsFrontForm, is_whole_num, is_transparent_power, IsReduced, number_test, term_words, number_words, counted}
+use Rattle.calc_room.proofs.{Shared.{counted_among, SpansTree, SpansTrees}, NumberSpans.{value_spanned, terms_spanned}, NumberBytes.{number_bytes, sum_bytes}}
 
 -- ---- what counts
 

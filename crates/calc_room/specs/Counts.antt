@@ -1,8 +1,6 @@
 -- How many nodes of a reduced tree count for its bytes.
 use Rattle.std.specs.Prelude.{ℕ, suc, ◌+◌, max, [], ◌∷◌, nat_le, if◌then◌else◌}
-use Rattle.calc_algebra.specs.Numbers.{is_number}
-use Rattle.calc_algebra.specs.Reduced.{is_whole_num}
-use Rattle.calc_algebra.specs.Surds.{Surd}
+use Rattle.calc_algebra.specs.{Numbers.{is_number}, Reduced.{is_whole_num}, Surds.{Surd}}
 use Rattle.calc_terms.specs.Trees.{Tree, add, mult, power, root, Trees, none, more, is_num}
 
 -- Symbols, sums, roots, powers whose exponent is no whole number, and Numbers that stand alone: as the whole tree, a

@@ -1,8 +1,6 @@
 -- The span of a list of radicands: the radicands whose roots are rational multiples of products of theirs.
 use Rattle.std.specs.Prelude.{ℕ, ◌*◌, ◌≡◌, ⊤, List, [], ◌∷◌, Bool, true, if◌then◌else◌}
-use Rattle.calc_algebra.specs.Numbers.{natural_of}
-use Rattle.calc_algebra.specs.SquareClasses.{are_alike}
-use Rattle.calc_algebra.specs.Surds.{Surd}
+use Rattle.calc_algebra.specs.{Numbers.{natural_of}, SquareClasses.{are_alike}, Surds.{Surd}}
 use Rattle.calc_terms.specs.Trees.{Tree, num, root, Trees, AllParts, AllPartsOf}
 
 -- the product of those that are chosen, place by place; 1 where none is

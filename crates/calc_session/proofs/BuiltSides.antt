@@ -1,11 +1,12 @@
 -- Lemmas on equations whose sides are built one after another.
-use Rattle.std.proofs.Common.{◌≡◌, ◌∙◌, ℕ, zero, suc, ◌+◌, List, [], ◌∷◌, ◌++◌, length, length-append, map, take, drop, refl, sym, ap, subst, arith}
+use Rattle.std.proofs.{Common.{◌≡◌, ◌∙◌, ℕ, zero, suc, ◌+◌, List, [], ◌∷◌, ◌++◌, length, length-append, map, take, drop, refl, sym, ap, subst, arith}, lemmas.List.{map-append, take-map}}
 use Rattle.std.specs.Prelude.{All}
-use Rattle.std.proofs.lemmas.List.{map-append, take-map}
-use Rattle.calc_session.proofs.Shared.{take-append-drop, AllZip, All-cons, All-head, All-tail, Tree, Trees, none, more, append, fills, values, HasEntries, Table, entries-left, Equation, equation_at, equations_in, free_of, Adds, AddsAll, adds_more, adds_none, adds_one, still_expression, still_plain, IsExpression, plain, Forest, tree_at, Stands, forest, given_handed, given_root, given_told, expression_root, plain_root, EquationRange, Unmade, made, pieces_at, Reason, AreUnmade, Become, ReadsEquation, nothing}
+use Rattle.calc_session.proofs.Shared.{take-append-drop, AllZip, All-cons, All-head, All-tail, Tree, Trees, none, more, append, fills, values, HasEntries, Table, entries-left, Equation, equation_at}
+use Rattle.calc_session.proofs.Shared.{equations_in, free_of, Adds, AddsAll, adds_more, adds_none, adds_one, still_expression, still_plain, IsExpression, plain, Forest, tree_at, Stands, forest}
+use Rattle.calc_session.proofs.Shared.{given_handed, given_root, given_told, expression_root, plain_root, EquationRange, Unmade, made, pieces_at, Reason, AreUnmade, Become, ReadsEquation, nothing}
+use Rattle.calc_session.proofs.SideLemmas.{become_more, unmade_behind}
 use Rattle.node_pool.specs.State.{State}
 use Rattle.calc_session.specs.Solving.{at_left as unmade_left, at_right as unmade_right}
-use Rattle.calc_session.proofs.SideLemmas.{become_more, unmade_behind}
 
 -- ---- lists side by side
 

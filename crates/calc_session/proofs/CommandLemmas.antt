@@ -1,12 +1,13 @@
 -- Lemmas on commands.
 use Rattle.std.proofs.Common.{◌≡◌, ◌∙◌, ◌↔◌, ℕ, zero, suc, List, [], ◌∷◌, ◌++◌, codes, Bool, true, false, if◌then◌else◌, Option, Some, None, refl, sym, ap, arith}
 use Rattle.std.specs.Prelude.{IsNone}
-use Rattle.calc_session.proofs.Shared.{TripsRose, armed_first, forget, forgot_report, Tree, AnswersBy, IsReplyToCommand, forgets, forgot, text_of, Content, extended, bytes_eq, IsHeld, held_by, holders_in, Entry, Table, has_entry, without_entry, without_name, flatten, Stands, forest, KeepsRefusals, LineAnswer, Refusal, state_of}
+use Rattle.calc_session.proofs.Shared.{TripsRose, armed_first, forget, forgot_report, Tree, AnswersBy, IsReplyToCommand, forgets, forgot, text_of, Content, extended, bytes_eq, IsHeld, held_by}
+use Rattle.calc_session.proofs.Shared.{holders_in, Entry, Table, has_entry, without_entry, without_name, flatten, Stands, forest, KeepsRefusals, LineAnswer, Refusal, state_of}
+use Rattle.calc_session.proofs.EvaluationLemmas.{none_rose}
 use Rattle.breakers.specs.State.{State as Breaker, armed_after, planned_after}
 use Rattle.name_table.specs.Tables.{is_stored}
 use Rattle.name_table.proofs.Counting.{counted-same}
 use Rattle.node_pool.specs.State.{State as PoolState}
-use Rattle.calc_session.proofs.EvaluationLemmas.{none_rose}
 use Rattle.calc_session.specs.declared.answers.LineAnswer.TheVariants as answer
 use Rattle.calc_session.specs.declared.answers.Refusal.TheVariants as refusal
 

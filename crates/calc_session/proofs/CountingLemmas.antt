@@ -1,12 +1,10 @@
 -- Lemmas on which refusals are counted.
-use Rattle.std.proofs.lemmas.Bool.{both_ways}
-use Rattle.std.proofs.Common.{◌≡◌, ◌∙◌, ℕ, ◌≤◌, List, IfSome, false, inl, inr, Option, None, Some, sym, ap, subst, arith}
-use Rattle.calc_session.proofs.Shared.{Asked, IsCommandLine, is_command, once, Tree, size, Placed, derivative, fills, Full, AsksForTooMuch, CountsRefusal, ExpressionBecomes, IsCountedBut, IsKnownOf, IsNoExpression, LacksBytesFor, LacksDerivative, ReadsText, Reason, Unmade, KeepsRefusals, made_in, State}
+use Rattle.std.proofs.{lemmas.Bool.{both_ways}, Common.{◌≡◌, ◌∙◌, ℕ, ◌≤◌, List, IfSome, false, inl, inr, Option, None, Some, sym, ap, subst, arith}}
+use Rattle.calc_session.proofs.Shared.{Asked, IsCommandLine, is_command, once, Tree, size, Placed, derivative, fills, Full, AsksForTooMuch, CountsRefusal, ExpressionBecomes, IsCountedBut, IsKnownOf}
+use Rattle.calc_session.proofs.{Shared.{IsNoExpression, LacksBytesFor, LacksDerivative, ReadsText, Reason, Unmade, KeepsRefusals, made_in, State}, EvaluationLemmas.{keeps_then}}
+use Rattle.calc_session.proofs.{PoolLemmas.{still_counted}, TextLemmas.{one_text, read_at_all}}
 use Rattle.node_pool.specs.State.{State as PoolState}
 use Rattle.calc_commands.proofs.Colons.{asks_colon}
-use Rattle.calc_session.proofs.EvaluationLemmas.{keeps_then}
-use Rattle.calc_session.proofs.PoolLemmas.{still_counted}
-use Rattle.calc_session.proofs.TextLemmas.{one_text, read_at_all}
 
 -- ---- what is known of no refusal
 

@@ -1,18 +1,21 @@
 -- Lemmas on what the tree of a line comes to.
 use Rattle.std.proofs.Common.{◌≡◌, ◌∙◌, ◌↔◌, ℕ, zero, suc, ◌+◌, ◌*◌, ◌≤◌, ◌<◌, List, [], ◌∷◌, true, false, Option, Some, None, Result, Ok, Err, ◌⊎◌, inl, inr, refl, sym, ap, subst, arith}
 use Rattle.std.specs.Prelude.{Contains}
-use Rattle.calc_session.proofs.Shared.{HasNoNewName, Contains-append_cases, CalmChecks, TripsRose, IsEasy, Reduces, face, HasNames, Token, building, IsTreeOf, one_line, name_of, Tree, undef, is_undef, names, nodes, root_kind, size, NamedTree, values, LacksNames, lacks, fills, filling, refused_filling, FaultsFilling, IsKeepable, names_with, Table, table_names, Full, AreNodes, used, free_of, AreNodes-right, MayExceed, Covers, CalmUpTo, TripsWithin, Evaluates, HasEasyBadPart, CountsRefusals, IfFull, IfInterrupted, IfOverflow, ReduceFault, Overflows, plain, Forest, flatten, bytes_in, tree_of, Gives, KeepsFront, Starts, root_tree, without_root, LacksBytes, Stands, forest, KeepsRefusals, bytes_in-join, flatten-join, behind_first, behind_new, front_after_one, front_at, front_end, front_same, front_without, given_rest, given_told, gives_as, last_tree, size-plain, Refusal, Evaluation, Face, Undefined, Refused, ComesTo, CountsRefusal, IsDisplayOf, LacksName, refusal_of, refusal_to_fill, reason_of, reply_of, HasFittingRationals, IsAnswerTo, IsReplyWith, has_no_value, holds_its_name, is_shown, is_stored, OverflowsAt, IsReduction, lacks_bytes, is_answered, made, Unmade, IsReplyToTree, is_made, Reply, displayed, circular, refused, refusal_in, state_of}
+use Rattle.calc_session.proofs.Shared.{HasNoNewName, Contains-append_cases, CalmChecks, TripsRose, IsEasy, Reduces, face, HasNames, Token, building, IsTreeOf, one_line, name_of, Tree, undef, is_undef}
+use Rattle.calc_session.proofs.Shared.{names, nodes, root_kind, size, NamedTree, values, LacksNames, lacks, fills, filling, refused_filling, FaultsFilling, IsKeepable, names_with, Table, table_names}
+use Rattle.calc_session.proofs.Shared.{Full, AreNodes, used, free_of, AreNodes-right, MayExceed, Covers, CalmUpTo, TripsWithin, Evaluates, HasEasyBadPart, CountsRefusals, IfFull, IfInterrupted}
+use Rattle.calc_session.proofs.Shared.{IfOverflow, ReduceFault, Overflows, plain, Forest, flatten, bytes_in, tree_of, Gives, KeepsFront, Starts, root_tree, without_root, LacksBytes, Stands, forest}
+use Rattle.calc_session.proofs.Shared.{KeepsRefusals, bytes_in-join, flatten-join, behind_first, behind_new, front_after_one, front_at, front_end, front_same, front_without, given_rest, given_told}
+use Rattle.calc_session.proofs.Shared.{gives_as, last_tree, size-plain, Refusal, Evaluation, Face, Undefined, Refused, ComesTo, CountsRefusal, IsDisplayOf, LacksName, refusal_of, refusal_to_fill}
+use Rattle.calc_session.proofs.Shared.{reason_of, reply_of, HasFittingRationals, IsAnswerTo, IsReplyWith, has_no_value, holds_its_name, is_shown, is_stored, OverflowsAt, IsReduction, lacks_bytes}
+use Rattle.calc_session.proofs.{Shared.{is_answered, made, Unmade, IsReplyToTree, is_made, Reply, displayed, circular, refused, refusal_in, state_of}, StoredTrees.{fitting_tree, named_tree}}
 use Rattle.breakers.specs.State.{State as Breaker}
-use Rattle.calc_measures.specs.PlainOverflows.{is_overflow, nodes_to_overflow}
-use Rattle.calc_measures.specs.PlainTrees.{IsPlainAnswer, IsPlainOverflow}
-use Rattle.calc_measures.specs.PlainValues.{plain_value}
+use Rattle.calc_measures.specs.{PlainOverflows.{is_overflow, nodes_to_overflow}, PlainTrees.{IsPlainAnswer, IsPlainOverflow}, PlainValues.{plain_value}}
 use Rattle.reduce_port.proofs.Leaves.{one_node}
 use Rattle.name_table.specs.declared.fault.FillFault.{FillFault}
 use Rattle.node_pool.specs.State.{State}
 use Rattle.tree_handles.proofs.Places.{used_forest}
-use Rattle.calc_session.specs.Evaluations.{is_interrupted, does_not_fit}
-use Rattle.calc_session.specs.Faces.{Shows}
-use Rattle.calc_session.proofs.StoredTrees.{fitting_tree, named_tree}
+use Rattle.calc_session.specs.{Evaluations.{is_interrupted, does_not_fit}, Faces.{Shows}}
 use Rattle.beautify.proofs.FaceTexts.{face_names, face_written}
 use Rattle.calc_terms.specs.declared.kind.Kind.TheVariants as kind
 use Rattle.reduce_port.specs.declared.fault.ReduceFault.TheVariants as fault

@@ -1,8 +1,8 @@
 -- Lemmas on the bytes of a form's tree and of its face.
 use Rattle.std.proofs.Common.{◌≡◌, ℕ, ◌+◌, ◌*◌, ◌≤◌, List, [], ◌∷◌, Bool, true, false, if◌then◌else◌, refl, arith}
 use Rattle.std.specs.Prelude.{⊤}
-use Rattle.calc_session.proofs.Shared.{face, has_minus, next_term, next_terms, unsigned_face, with_minus, SoFar, as_tree, Fraction, is_one_fraction, is_zero_fraction, zero_fraction, Tree, num, symbol, mult, Trees, none, more, count, is_undef, size, sizes, IsSmall, form_tree, multiple_of, multiples, sum_of_trees, summands}
-use Rattle.calc_session.proofs.FormLemmas.{sizes_of_multiples}
+use Rattle.calc_session.proofs.Shared.{face, has_minus, next_term, next_terms, unsigned_face, with_minus, SoFar, as_tree, Fraction, is_one_fraction, is_zero_fraction, zero_fraction, Tree, num, symbol}
+use Rattle.calc_session.proofs.{Shared.{mult, Trees, none, more, count, is_undef, size, sizes, IsSmall, form_tree, multiple_of, multiples, sum_of_trees, summands}, FormLemmas.{sizes_of_multiples}}
 use Rattle.beautify.proofs.Sizes.{sizes-append}
 
 size_num : (q : Fraction) → size (num q) ≤ 40

@@ -1,13 +1,14 @@
 -- Lemmas on the trees of a form that are placed one after another.
 use Rattle.std.proofs.Common.{◌≡◌, ◌≢◌, ◌∙◌, ℕ, zero, suc, ◌+◌, ◌<◌, ◌≤◌, List, [], ◌∷◌, length, take, map, get_or, Bool, true, false, if◌then◌else◌, of_z, to_z, refl, sym, ap, subst, arith}
-use Rattle.std.specs.Prelude.{ℤ, pos, IfErr, IfOk, OnOk, Result, Ok, Err, Some, None, ◌==◌, ◌&&◌}
-use Rattle.calc_session.proofs.Shared.{get_or-map, Kind, Rat, Fraction, is_one_fraction, is_zero_fraction, lowest, one_fraction, zero_fraction, rational, size_of_payload, ratio_of, value_of, Ratio, whole, Tree, Trees, num, symbol, add, mult, none, more, append, count, size, sizes, Name, name_of, one_test, whole_denominator, whole_numerator, zero_test, ratio_parts, Adds, AddsAll, adds_as, adds_first, adds_free, adds_more, adds_none, adds_one, adds_over, adds_tree, Full, free_of, compound, nth, takes_kind, Forest, join, before_last, last_trees, one_tree, Ends, Gives, KeepsFront, IsRefused, KeepsRefusals, Stands, forest, join_assoc, front_at, front_end, front_same, append-none, IsLast, IsPlaced, multiple_of, multiples, sum_of_trees, summands}
-use Rattle.std.specs.Int.{w128}
 use Rattle.std.proofs.lemmas.List.{take_all}
-use Rattle.beautify.proofs.Sizes.{sizes-append}
-use Rattle.beautify.proofs.Trees.{append_assoc, count-append}
-use Rattle.calc_terms.specs.Integers.{int_is_one, int_is_zero}
-use Rattle.calc_terms.specs.Payload.{bare}
+use Rattle.std.specs.{Prelude.{ℤ, pos, IfErr, IfOk, OnOk, Result, Ok, Err, Some, None, ◌==◌, ◌&&◌}, Int.{w128}}
+use Rattle.calc_session.proofs.Shared.{get_or-map, Kind, Rat, Fraction, is_one_fraction, is_zero_fraction, lowest, one_fraction, zero_fraction, rational, size_of_payload, ratio_of, value_of, Ratio}
+use Rattle.calc_session.proofs.Shared.{whole, Tree, Trees, num, symbol, add, mult, none, more, append, count, size, sizes, Name, name_of, one_test, whole_denominator, whole_numerator, zero_test}
+use Rattle.calc_session.proofs.Shared.{ratio_parts, Adds, AddsAll, adds_as, adds_first, adds_free, adds_more, adds_none, adds_one, adds_over, adds_tree, Full, free_of, compound, nth, takes_kind}
+use Rattle.calc_session.proofs.Shared.{Forest, join, before_last, last_trees, one_tree, Ends, Gives, KeepsFront, IsRefused, KeepsRefusals, Stands, forest, join_assoc, front_at, front_end, front_same}
+use Rattle.calc_session.proofs.Shared.{append-none, IsLast, IsPlaced, multiple_of, multiples, sum_of_trees, summands}
+use Rattle.beautify.proofs.{Sizes.{sizes-append}, Trees.{append_assoc, count-append}}
+use Rattle.calc_terms.specs.{Integers.{int_is_one, int_is_zero}, Payload.{bare}}
 use Rattle.calc_terms.proofs.ShortForm.{whole_short}
 use Rattle.rational128.proofs.Signed.{told}
 use Rattle.node_pool.specs.State.{State}

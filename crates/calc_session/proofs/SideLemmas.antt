@@ -1,9 +1,9 @@
 -- Lemmas on the sides of equations, as they are read and built.
 use Rattle.std.proofs.Common.{◌≡◌, ℕ, List, [], ◌∷◌, ◌++◌, None, subst, arith}
-use Rattle.calc_session.proofs.Shared.{IsLine, IsTreeOf, Tree, Placed, bare, one_list, NamedTree, fills, values, Table, Equation, free_of, Gives, tree_of, KeepsRefusals, Stands, forest, ReadsText, made, Reason, BuildsSide, AreUnmade, Become, ReadsSide, equation, nothing}
+use Rattle.calc_session.proofs.Shared.{IsLine, IsTreeOf, Tree, Placed, bare, one_list, NamedTree, fills, values, Table, Equation, free_of, Gives, tree_of, KeepsRefusals, Stands, forest, ReadsText}
+use Rattle.calc_session.proofs.{Shared.{made, Reason, BuildsSide, AreUnmade, Become, ReadsSide, equation, nothing}, EvaluationLemmas.{gives_told}}
 use Rattle.node_pool.specs.State.{State}
 use Rattle.calc_session.specs.Solving.{later as unmade_later}
-use Rattle.calc_session.proofs.EvaluationLemmas.{gives_told}
 
 -- ---- they are read
 

@@ -1,12 +1,12 @@
 -- Lemmas on equations that are solved.
-use Rattle.std.proofs.Common.{◌≡◌, ◌∙◌, ◌↔◌, ℕ, zero, suc, ◌+◌, ◌<◌, ◌≤◌, List, [], ◌∷◌, length, get_or, map, take, Bool, true, false, not, cond, Option, Some, None, Result, Ok, Err, below_more, refl, sym, ap, subst, arith}
+use Rattle.std.proofs.Common.{◌≡◌, ◌∙◌, ◌↔◌, ℕ, zero, suc, ◌+◌, ◌<◌, ◌≤◌, List, [], ◌∷◌, length, get_or, map, take, Bool, true, false, not, cond, Option, Some, None, Result, Ok, Err, below_more, refl}
+use Rattle.std.proofs.{Common.{sym, ap, subst, arith}, lemmas.List.Quantifiers.{position-Some}}
 use Rattle.std.specs.Prelude.{All, nat_lt, IfOk, IfErr, OnOk}
-use Rattle.linear_solve.specs.Checks.{solving_checks}
-use Rattle.calc_session.proofs.Shared.{position_or_len, le-ltb, lt-ltb, position_or_len_is, TripsRose, Name, name_of, Equation, equation_at, equations_in, OfOverflow, StopsAfter, solving, misfit_of, IsExpression, Forest, Refusal, Listed, reply_of, names_listed, AreNamesOf, refusal_to_solve, IsReplyToSolve, are_linear, does_not_fit, first_not_linear, is_interrupted, is_linear_equation}
-use Rattle.std.proofs.lemmas.List.Quantifiers.{position-Some}
+use Rattle.linear_solve.specs.{Checks.{solving_checks}, declared.fault.SolveFault.{SolveFault}}
+use Rattle.calc_session.proofs.Shared.{position_or_len, le-ltb, lt-ltb, position_or_len_is, TripsRose, Name, name_of, Equation, equation_at, equations_in, OfOverflow, StopsAfter, solving, misfit_of}
+use Rattle.calc_session.proofs.Shared.{IsExpression, Forest, Refusal, Listed, reply_of, names_listed, AreNamesOf, refusal_to_solve, IsReplyToSolve, are_linear, does_not_fit, first_not_linear}
+use Rattle.calc_session.proofs.{Shared.{is_interrupted, is_linear_equation}, EvaluationLemmas.{none_rose}}
 use Rattle.breakers.specs.State.{State as Breaker}
-use Rattle.linear_solve.specs.declared.fault.SolveFault.{SolveFault}
-use Rattle.calc_session.proofs.EvaluationLemmas.{none_rose}
 use Rattle.linear_solve.specs.declared.fault.SolveFault.TheVariants as fault
 use Rattle.calc_session.specs.declared.answers.Refusal.TheVariants as refusal
 

@@ -1,6 +1,7 @@
 -- A text is read in one way.
 use Rattle.std.proofs.Common.{◌≡◌, ℕ, List, Option, Some, None, ap, subst, arith}
-use Rattle.calc_session.proofs.Shared.{IsLine, SameLine, one_line, Tree, depth, Placed, bare, AreTokensOf, character_or_all, wide_or_all, one_list, IsMisread, meets_no_token, meets_a_wide_number, forms_no_line, forms_a_deep_line, IsNoExpression, is_misread, forms_a_store, ReadsText, Reason}
+use Rattle.calc_session.proofs.Shared.{IsLine, SameLine, one_line, Tree, depth, Placed, bare, AreTokensOf, character_or_all, wide_or_all, one_list, IsMisread, meets_no_token, meets_a_wide_number}
+use Rattle.calc_session.proofs.Shared.{forms_no_line, forms_a_deep_line, IsNoExpression, is_misread, forms_a_store, ReadsText, Reason}
 
 pub no_store : (y : List ℕ) → None ≡ Some y → ⊥
 no_store y e = cc

@@ -4,27 +4,20 @@ use Rattle.breakers.specs.State.{State as Breaker}
 use Rattle.calc_algebra.specs.Rewritings.{HasNoNewName}
 use Rattle.calc_commands.specs.Reports.{forgot_report}
 use Rattle.calc_language.specs.Texts.{IsWritable, text}
-use Rattle.calc_terms.specs.Leaf.{name_of}
-use Rattle.calc_terms.specs.Rat.{value_of}
-use Rattle.calc_terms.specs.Trees.{Tree, names}
+use Rattle.calc_terms.specs.{Leaf.{name_of}, Rat.{value_of}, Trees.{Tree, names}}
 use Rattle.name_table.specs.declared.fault.FillFault.{FillFault}
 use Rattle.name_table.specs.declared.fault.FillFault.TheVariants as fill
-use Rattle.node_pool.specs.declared.full.Full.{Full as PoolFull}
-use Rattle.node_pool.specs.State.{State as PoolState}
+use Rattle.node_pool.specs.{declared.full.Full.{Full as PoolFull}, State.{State as PoolState}}
 use Rattle.rational128.specs.Refusals.{operation_of}
 use Rattle.reduce_port.specs.declared.fault.ReduceFault.{ReduceFault}
 use Rattle.reduce_port.specs.declared.fault.ReduceFault.TheVariants as fault
-use Rattle.tree_handles.specs.Forest.{Forest}
-use Rattle.tree_handles.specs.Handed.{Gives, tree_of}
-use Rattle.tree_handles.specs.Standing.{KeepsRefusals, Refuses}
-use Rattle.calc_session.specs.declared.answers.Refusal.{Refusal}
-use Rattle.calc_session.specs.declared.answers.Refusal.TheVariants.{Long, Character, Number, Syntax, Deep, Reserved, NamesFull, Full, Overflow, Interrupted, Circular, Command, NotPolynomial, NoDerivative, NotLinear, TooMany}
-use Rattle.calc_session.specs.declared.answers.LineAnswer.{LineAnswer}
-use Rattle.calc_session.specs.declared.answers.LineAnswer.TheVariants.{Blank, Shown, Stored, Undef, Report, Draw, Refused}
-use Rattle.calc_session.specs.declared.evaluating.Evaluation.{Evaluation}
+use Rattle.tree_handles.specs.{Forest.{Forest}, Handed.{Gives, tree_of}, Standing.{KeepsRefusals, Refuses}}
+use Rattle.calc_session.specs.{declared.answers.Refusal.{Refusal}, declared.answers.Refusal.TheVariants.{Long, Character, Number, Syntax, Deep, Reserved, NamesFull, Full, Overflow, Interrupted}}
+use Rattle.calc_session.specs.{declared.answers.Refusal.TheVariants.{Circular, Command, NotPolynomial, NoDerivative, NotLinear, TooMany}, declared.answers.LineAnswer.{LineAnswer}}
+use Rattle.calc_session.specs.{declared.answers.LineAnswer.TheVariants.{Blank, Shown, Stored, Undef, Report, Draw, Refused}, declared.evaluating.Evaluation.{Evaluation}}
 use Rattle.calc_session.specs.declared.evaluating.Evaluation.TheVariants as evaluation
-use Rattle.calc_session.specs.Replies.{Reason, Reply, blank, shown, stored, undefined, report, forgot, drawn, refused, long, character_at, number_at, syntax, deep, reserved, names_full, full, overflow, interrupted, circular, command, not_polynomial, no_derivative, not_linear, too_many, displayed, text_of, refusal_in}
-use Rattle.calc_session.specs.States.{State}
+use Rattle.calc_session.specs.Replies.{Reason, Reply, blank, shown, stored, undefined, report, forgot, drawn, refused, long, character_at, number_at, syntax, deep, reserved, names_full, full}
+use Rattle.calc_session.specs.{Replies.{overflow, interrupted, circular, command, not_polynomial, no_derivative, not_linear, too_many, displayed, text_of, refusal_in}, States.{State}}
 use Rattle.calc_session.specs.Steps.{IsReply, Leaves, Step}
 
 abbrev pub reason_of : Refusal → Reason

@@ -1,9 +1,7 @@
 -- Texts within a line that are calculated with.
 use Rattle.std.specs.Prelude.{ℕ, ◌≤◌, ◌+◌, ◌-◌, List, length, Option, Some}
-use Rattle.calc_terms.specs.Limits.{depth_limit}
-use Rattle.calc_terms.specs.Trees.{Tree, depth}
-use Rattle.calc_tokens.specs.Placed.{Placed, bare}
-use Rattle.calc_tokens.specs.Scanned.{AreTokensOf, IsFirstCharacter, IsFirstWide}
+use Rattle.calc_terms.specs.{Limits.{depth_limit}, Trees.{Tree, depth}}
+use Rattle.calc_tokens.specs.{Placed.{Placed, bare}, Scanned.{AreTokensOf, IsFirstCharacter, IsFirstWide}}
 use Rattle.calc_parser.specs.Lines.{IsLine, IsNoLine, IsLineOver}
 use Rattle.calc_session.specs.Replies.{Reason, character_at, number_at, syntax, deep, command}
 

@@ -1,13 +1,9 @@
 -- What a line asks for.
 use Rattle.std.specs.Prelude.{ℕ, ◌≡◌, ◌≤◌, ◌<◌, List, length, true, Option}
-use Rattle.calc_commands.specs.Commands.{Asked, IsCommandLine, is_command}
-use Rattle.calc_commands.specs.Parsing.{are_blanks}
+use Rattle.calc_commands.specs.{Commands.{Asked, IsCommandLine, is_command}, Parsing.{are_blanks}}
 use Rattle.calc_terms.specs.Trees.{Tree}
-use Rattle.calc_tokens.specs.Limits.{line_limit}
-use Rattle.calc_tokens.specs.Placed.{Placed}
-use Rattle.calc_session.specs.Arguments.{IsMisread}
-use Rattle.calc_session.specs.Reading.{IsText, ReadsAs}
-use Rattle.calc_session.specs.Replies.{Reason, long, command}
+use Rattle.calc_tokens.specs.{Limits.{line_limit}, Placed.{Placed}}
+use Rattle.calc_session.specs.{Arguments.{IsMisread}, Reading.{IsText, ReadsAs}, Replies.{Reason, long, command}}
 
 -- nothing; the value of a tree, which is to be stored under the name where there is one; or what a command asks for
 pub data Request : Type 0 where

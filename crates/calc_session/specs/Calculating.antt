@@ -4,10 +4,7 @@ use Rattle.breakers.specs.State.{State as Breaker}
 use Rattle.calc_terms.specs.Trees.{Tree}
 use Rattle.calc_tokens.specs.Placed.{Placed}
 use Rattle.name_table.specs.Filling.{Filling, fills, values}
-use Rattle.calc_session.specs.Arguments.{IsNoExpression, ReadsText}
-use Rattle.calc_session.specs.Evaluations.{IsReplyToMade, made}
-use Rattle.calc_session.specs.Replies.{Reason, Reply, refused}
-use Rattle.calc_session.specs.States.{State, free_bytes, trees}
+use Rattle.calc_session.specs.{Arguments.{IsNoExpression, ReadsText}, Evaluations.{IsReplyToMade, made}, Replies.{Reason, Reply, refused}, States.{State, free_bytes, trees}}
 
 -- a tree is built in a state, and the stored trees take the places of their names
 abbrev pub made_in : State → Tree → Filling

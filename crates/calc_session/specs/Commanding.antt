@@ -1,23 +1,12 @@
 -- The replies to commands, by cases on what is asked for.
-use Rattle.std.specs.Prelude.{ℕ, ◌≡◌, List, Option, true, false, Result, Ok, Err, codes}
-use Rattle.std.specs.List.{list_any}
-use Rattle.std.specs.Str.{bytes_eq}
-use Rattle.breakers.specs.Breakers.{armed_first}
-use Rattle.breakers.specs.State.{State as Breaker}
-use Rattle.calc_commands.specs.Commands.{Asked, pool, dump, draw, layout, forget, after as arm, diff, solve, expand}
-use Rattle.calc_commands.specs.Reports.{pool_report, dump_of, unknown_report, after_report}
+use Rattle.std.specs.{Prelude.{ℕ, ◌≡◌, List, Option, true, false, Result, Ok, Err, codes}, List.{list_any}, Str.{bytes_eq}}
+use Rattle.breakers.specs.{Breakers.{armed_first}, State.{State as Breaker}}
+use Rattle.calc_commands.specs.{Commands.{Asked, pool, dump, draw, layout, forget, after as arm, diff, solve, expand}, Reports.{pool_report, dump_of, unknown_report, after_report}}
 use Rattle.calc_terms.specs.Trees.{Tree}
 use Rattle.name_table.specs.Tables.{is_stored}
-use Rattle.node_pool.specs.declared.full.Full.{Full}
-use Rattle.node_pool.specs.State.{State as PoolState}
-use Rattle.calc_session.specs.Arguments.{bytes_before}
-use Rattle.calc_session.specs.Calculating.{IsReplyToExpression}
-use Rattle.calc_session.specs.Deriving.{IsReplyToDerivative}
-use Rattle.calc_session.specs.Drawing.{serial_in}
-use Rattle.calc_session.specs.Expanding.{IsReplyToExpansion}
-use Rattle.calc_session.specs.Replies.{Reason, Reply, report, forgot, drawn, refused, reserved, full}
-use Rattle.calc_session.specs.Solving.{IsReplyToEquations}
-use Rattle.calc_session.specs.States.{State, free_bytes}
+use Rattle.node_pool.specs.{declared.full.Full.{Full}, State.{State as PoolState}}
+use Rattle.calc_session.specs.{Arguments.{bytes_before}, Calculating.{IsReplyToExpression}, Deriving.{IsReplyToDerivative}, Drawing.{serial_in}, Expanding.{IsReplyToExpansion}, Replies.{Reason}}
+use Rattle.calc_session.specs.{Replies.{Reply, report, forgot, drawn, refused, reserved, full}, Solving.{IsReplyToEquations}, States.{State, free_bytes}}
 
 -- a pool with the session's nodes, before it refused anything
 abbrev pub pool_in : State → PoolState

@@ -3,9 +3,7 @@ use Rattle.std.specs.Prelude.{ℕ, ◌≡◌, ◌⊎◌, List, Option, Some, Non
 use Rattle.calc_commands.specs.Commands.{Asked, IsCommandLine, diff}
 use Rattle.calc_terms.specs.Trees.{Tree}
 use Rattle.node_pool.specs.declared.full.Full.{Full}
-use Rattle.calc_session.specs.Calculating.{ExpressionBecomes}
-use Rattle.calc_session.specs.Deriving.{LacksDerivative}
-use Rattle.calc_session.specs.States.{State}
+use Rattle.calc_session.specs.{Calculating.{ExpressionBecomes}, Deriving.{LacksDerivative}, States.{State}}
 
 -- of what an expression becomes, with so many bytes left, a refusal is known before the pool is asked
 pub record IsKnownOf (Known : ℕ → Tree → Full → Type 0) (old : State) (text : List ℕ) (refusal : Full) : Type 0 where

@@ -2,11 +2,9 @@
 use Rattle.std.specs.Prelude.{ℕ, ◌≡◌, ◌≤◌, ◌<◌, List, Option, None}
 use Rattle.breakers.specs.State.{State as Breaker}
 use Rattle.calc_terms.specs.Trees.{Tree, size}
-use Rattle.dual_diff.specs.Derivatives.{HasDerivative, derivative}
-use Rattle.dual_diff.specs.Placing.{capped}
+use Rattle.dual_diff.specs.{Derivatives.{HasDerivative, derivative}, Placing.{capped}}
 use Rattle.node_pool.specs.declared.full.Full.{Full}
-use Rattle.calc_session.specs.Evaluations.{IsReduction}
-use Rattle.calc_session.specs.Replies.{Reply, refused, full, no_derivative, reported}
+use Rattle.calc_session.specs.{Evaluations.{IsReduction}, Replies.{Reply, refused, full, no_derivative, reported}}
 
 -- the derivative of a tree has more bytes than are left, which is refused so
 pub record LacksDerivative (x : List ℕ) (left : ℕ) (t : Tree) (refusal : Full) : Type 0 where

@@ -1,19 +1,10 @@
 -- Pictures of the last answer, and how drawing them ends.
-use Rattle.std.specs.Prelude.{ℕ, zero, suc, ◌≡◌, List, [], ◌∷◌, ◌++◌, Option, Some, None, Result, Ok, Err, encode_utf8_all}
-use Rattle.std.specs.Io.KnownBytes.{Appends}
-use Rattle.calc_edges.specs.Faults.{StopsAtFailure}
-use Rattle.calc_edges.specs.declared.failures.Failures.{Failures}
-use Rattle.calc_edges.specs.Taken.{AppendsPart}
+use Rattle.std.specs.{Prelude.{ℕ, zero, suc, ◌≡◌, List, [], ◌∷◌, ◌++◌, Option, Some, None, Result, Ok, Err, encode_utf8_all}, Io.KnownBytes.{Appends}}
+use Rattle.calc_edges.specs.{Faults.{StopsAtFailure}, declared.failures.Failures.{Failures}, Taken.{AppendsPart}}
 use Rattle.calc_terms.specs.Trees.{Tree}
-use Rattle.node_pool.specs.declared.full.Full.{Full}
-use Rattle.node_pool.specs.State.{State as PoolState, free_of}
-use Rattle.pool_layouts.specs.Building.{laying}
-use Rattle.pool_layouts.specs.Layouts.{Layout, layout}
-use Rattle.pool_layouts.specs.Pictures.{Block, cut, height, picture}
-use Rattle.pool_layouts.specs.Serial.{serial}
-use Rattle.tree_handles.specs.Expressions.{plain}
-use Rattle.tree_handles.specs.Inside.{tree_at}
-use Rattle.tree_handles.specs.Standing.{forest}
+use Rattle.node_pool.specs.{declared.full.Full.{Full}, State.{State as PoolState, free_of}}
+use Rattle.pool_layouts.specs.{Building.{laying}, Layouts.{Layout, layout}, Pictures.{Block, cut, height, picture}, Serial.{serial}}
+use Rattle.tree_handles.specs.{Expressions.{plain}, Inside.{tree_at}, Standing.{forest}}
 use Rattle.calc_session.specs.declared.answers.DrawFault.{DrawFault}
 use Rattle.calc_session.specs.declared.answers.DrawFault.TheVariants as fault
 use Rattle.calc_session.specs.States.{State, free_bytes, trees}

@@ -1,25 +1,15 @@
 -- What the tree of a line comes to.
 use Rattle.std.specs.Prelude.{ℕ, ◌≡◌, ◌≤◌, ◌<◌, ⊤, true, false, List, Option, Some, None, Ok, Err, Contains}
-use Rattle.breakers.specs.Breakers.{CalmChecks}
-use Rattle.breakers.specs.State.{State as Breaker}
-use Rattle.calc_algebra.specs.BadAndEasy.{IsEasy}
-use Rattle.calc_algebra.specs.Rewritings.{Reduces}
+use Rattle.breakers.specs.{Breakers.{CalmChecks}, State.{State as Breaker}}
+use Rattle.calc_algebra.specs.{BadAndEasy.{IsEasy}, Rewritings.{Reduces}}
 use Rattle.calc_language.specs.Faces.{face}
-use Rattle.calc_measures.specs.PlainOverflows.{is_overflow, nodes_to_overflow}
-use Rattle.calc_measures.specs.PlainTrees.{IsPlainAnswer, IsPlainOverflow}
-use Rattle.calc_measures.specs.PlainValues.{plain_value}
-use Rattle.calc_terms.specs.Fits.{fraction_fits}
-use Rattle.calc_terms.specs.Limits.{bits_limit}
-use Rattle.calc_terms.specs.Rat.{value_of}
-use Rattle.calc_terms.specs.Trees.{Tree, num, undef, is_undef, names, nodes, size, AllParts}
+use Rattle.calc_measures.specs.{PlainOverflows.{is_overflow, nodes_to_overflow}, PlainTrees.{IsPlainAnswer, IsPlainOverflow}, PlainValues.{plain_value}}
+use Rattle.calc_terms.specs.{Fits.{fraction_fits}, Limits.{bits_limit}, Rat.{value_of}, Trees.{Tree, num, undef, is_undef, names, nodes, size, AllParts}}
 use Rattle.calc_parser.specs.Building.{building}
 use Rattle.name_table.specs.Filling.{NamedTree, Filling, lacks, too_deep, fills, filling}
 use Rattle.node_pool.specs.declared.full.Full.{Full}
-use Rattle.rational128.specs.Refusals.{operation_of}
-use Rattle.rational128.specs.declared.overflow.Overflow.{Overflow}
-use Rattle.reduce_port.specs.Bounds.{MayExceed}
-use Rattle.reduce_port.specs.Checks.{CalmUpTo, TripsWithin}
-use Rattle.reduce_port.specs.EasyTrees.{Evaluates, HasEasyBadPart}
+use Rattle.rational128.specs.{Refusals.{operation_of}, declared.overflow.Overflow.{Overflow}}
+use Rattle.reduce_port.specs.{Bounds.{MayExceed}, Checks.{CalmUpTo, TripsWithin}, EasyTrees.{Evaluates, HasEasyBadPart}}
 use Rattle.tree_handles.specs.Causes.{Overflows}
 use Rattle.calc_session.specs.Replies.{Reason, Reply, shown, stored, undefined, refused, deep, full, overflow, interrupted, circular}
 

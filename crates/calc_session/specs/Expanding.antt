@@ -1,19 +1,12 @@
 -- What the expansion of a tree comes to.
 use Rattle.std.specs.Prelude.{ℕ, ◌≡◌, ◌≤◌, ◌<◌, List, true, false}
-use Rattle.breakers.specs.Breakers.{CalmChecks}
-use Rattle.breakers.specs.State.{State as Breaker}
-use Rattle.calc_language.specs.Faces.{face}
-use Rattle.calc_language.specs.Texts.{text}
+use Rattle.breakers.specs.{Breakers.{CalmChecks}, State.{State as Breaker}}
+use Rattle.calc_language.specs.{Faces.{face}, Texts.{text}}
 use Rattle.calc_measures.specs.Measures.{bits}
-use Rattle.calc_terms.specs.Limits.{bits_limit}
-use Rattle.calc_terms.specs.Rat.{value_of}
-use Rattle.calc_terms.specs.Trees.{Tree, nodes}
-use Rattle.expand_forms.specs.ExpandedTrees.{expanded}
-use Rattle.expand_forms.specs.ExpansionRoom.{expansion_room}
-use Rattle.expand_forms.specs.PolynomialTrees.{is_polynomial, polynomial_of}
+use Rattle.calc_terms.specs.{Limits.{bits_limit}, Rat.{value_of}, Trees.{Tree, nodes}}
+use Rattle.expand_forms.specs.{ExpandedTrees.{expanded}, ExpansionRoom.{expansion_room}, PolynomialTrees.{is_polynomial, polynomial_of}}
 use Rattle.node_pool.specs.declared.full.Full.{Full}
-use Rattle.rational128.specs.Refusals.{operation_of}
-use Rattle.rational128.specs.declared.overflow.Overflow.{Overflow}
+use Rattle.rational128.specs.{Refusals.{operation_of}, declared.overflow.Overflow.{Overflow}}
 use Rattle.reduce_port.specs.Checks.{CalmUpTo, TripsWithin}
 use Rattle.tree_handles.specs.Causes.{Overflows}
 use Rattle.calc_session.specs.Replies.{Reply, report, refused, full, overflow, interrupted, not_polynomial}

@@ -3,12 +3,9 @@ use Rattle.std.specs.Prelude.{ℕ, ◌≡◌, ◌<◌, ◌*◌, true, false}
 use Rattle.calc_language.specs.Faces.{face}
 use Rattle.calc_terms.specs.Trees.{is_undef, size}
 use Rattle.node_pool.specs.State.{State, free_of}
-use Rattle.tree_handles.specs.Standing.{LacksBytes, forest}
-use Rattle.tree_handles.specs.Handed.{tree_of, Gives}
-use Rattle.tree_handles.specs.Roots.{without_root}
+use Rattle.tree_handles.specs.{Standing.{LacksBytes, forest}, Handed.{tree_of, Gives}, Roots.{without_root}}
 use Rattle.calc_session.specs.declared.answers.Refusal.TheVariants as refusal
-use Rattle.calc_session.specs.declared.evaluating.Evaluation.{Evaluation}
-use Rattle.calc_session.specs.declared.evaluating.Evaluation.TheVariants.{Face, Undefined, Refused}
+use Rattle.calc_session.specs.{declared.evaluating.Evaluation.{Evaluation}, declared.evaluating.Evaluation.TheVariants.{Face, Undefined, Refused}}
 
 -- The face of a tree stands in its place; or the tree is Undef; or bytes are lacking, and four times its own were not free.
 abbrev pub Shows : ℕ → State → State → Evaluation → Type 0

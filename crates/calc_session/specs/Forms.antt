@@ -1,13 +1,10 @@
 -- Trees that are placed for a form.
 use Rattle.std.specs.Prelude.{ℕ, ◌≡◌, ◌≤◌, ◌<◌, ◌*◌, ⊤, List, Option, Some, None, Result, Ok, Err}
-use Rattle.calc_terms.specs.Fractions.{Fraction}
-use Rattle.calc_terms.specs.Trees.{Tree, Trees, none, more, count}
+use Rattle.calc_terms.specs.{Fractions.{Fraction}, Trees.{Tree, Trees, none, more, count}}
 use Rattle.dual_diff.specs.Placing.{Adds, AddsAll}
 use Rattle.linear_solve.specs.Forms.{Form, free, bound}
-use Rattle.node_pool.specs.declared.full.Full.{Full}
-use Rattle.node_pool.specs.State.{State}
-use Rattle.calc_session.specs.declared.forms.Placed.{Placed}
-use Rattle.calc_session.specs.SolutionTexts.{multiples}
+use Rattle.node_pool.specs.{declared.full.Full.{Full}, State.{State}}
+use Rattle.calc_session.specs.{declared.forms.Placed.{Placed}, SolutionTexts.{multiples}}
 
 -- the last of the trees: there is none; or, where it is the only one, it stands there
 abbrev pub IsLast : State → State → Trees → Option ℕ → Type 0

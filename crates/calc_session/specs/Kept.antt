@@ -2,11 +2,7 @@
 use Rattle.std.specs.Prelude.{◌≡◌, ◌*◌, ◌+◌, ◌≤◌}
 use Rattle.name_table.specs.Held.{IsHeld}
 use Rattle.tree_handles.specs.Standing.{Stands, forest}
-use Rattle.calc_session.specs.Forms.{solution_room}
-use Rattle.calc_session.specs.declared.parts.Parts.{Parts}
-use Rattle.calc_session.specs.declared.parts.Workspace.{Workspace}
-use Rattle.calc_session.specs.Seen.{Seen}
-use Rattle.calc_session.specs.States.{State, state_of}
+use Rattle.calc_session.specs.{Forms.{solution_room}, declared.parts.Parts.{Parts}, declared.parts.Workspace.{Workspace}, Seen.{Seen}, States.{State, state_of}}
 
 -- what is kept from line to line
 abbrev pub state_in : Parts → State

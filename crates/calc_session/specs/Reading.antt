@@ -1,15 +1,10 @@
 -- How a line is read by the grammar.
-use Rattle.std.specs.Prelude.{ℕ, ◌≡◌, ◌≤◌, List, length, true, false, Option, Some, codes}
-use Rattle.calc_commands.specs.Commands.{is_command}
-use Rattle.calc_commands.specs.Parsing.{are_blanks}
-use Rattle.std.specs.Str.{bytes_eq}
+use Rattle.std.specs.{Prelude.{ℕ, ◌≡◌, ◌≤◌, List, length, true, false, Option, Some, codes}, Str.{bytes_eq}}
+use Rattle.calc_commands.specs.{Commands.{is_command}, Parsing.{are_blanks}}
 use Rattle.calc_terms.specs.Trees.{Tree}
-use Rattle.calc_tokens.specs.Limits.{line_limit}
-use Rattle.calc_tokens.specs.Placed.{Placed}
-use Rattle.name_table.specs.Storing.{IsStorable}
-use Rattle.name_table.specs.Tables.{Table, has_room_for}
-use Rattle.calc_session.specs.Arguments.{ReadsText}
-use Rattle.calc_session.specs.Replies.{Reason, reserved, names_full}
+use Rattle.calc_tokens.specs.{Limits.{line_limit}, Placed.{Placed}}
+use Rattle.name_table.specs.{Storing.{IsStorable}, Tables.{Table, has_room_for}}
+use Rattle.calc_session.specs.{Arguments.{ReadsText}, Replies.{Reason, reserved, names_full}}
 
 -- a line that is read by the grammar
 pub record IsText (line : List ℕ) : Type 0 where

@@ -1,12 +1,8 @@
 -- What a line is answered with, and what is printed.
-use Rattle.std.specs.Prelude.{ℕ, pos, List, ◌++◌, ◌==◌, if◌then◌else◌, [], Option, Some, None, codes}
-use Rattle.std.specs.Fmt.{signed_decimal}
-use Rattle.calc_terms.specs.Fits.{Operation, add_op, mul_op, pow_op}
-use Rattle.calc_terms.specs.Fractions.{Fraction}
+use Rattle.std.specs.{Prelude.{ℕ, pos, List, ◌++◌, ◌==◌, if◌then◌else◌, [], Option, Some, None, codes}, Fmt.{signed_decimal}}
+use Rattle.calc_terms.specs.{Fits.{Operation, add_op, mul_op, pow_op}, Fractions.{Fraction}, Trees.{Tree}}
 use Rattle.calc_commands.specs.Reports.{forgot_report}
-use Rattle.calc_language.specs.Texts.{text}
-use Rattle.calc_language.specs.Tokens.{times_sign}
-use Rattle.calc_terms.specs.Trees.{Tree}
+use Rattle.calc_language.specs.{Texts.{text}, Tokens.{times_sign}}
 use Rattle.node_pool.specs.declared.full.Full.{Full}
 
 -- why a line is refused

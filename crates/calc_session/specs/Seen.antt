@@ -1,7 +1,6 @@
 -- A session as its callers see it.
 use Rattle.std.specs.Prelude.{ℕ, ◌≡◌, ◌+◌, ◌-◌, ◌^◌, min, List, Option, Some, None}
-use Rattle.node_pool.specs.declared.full.Full.{Full}
-use Rattle.node_pool.specs.State.{State as PoolState}
+use Rattle.node_pool.specs.{declared.full.Full.{Full}, State.{State as PoolState}}
 use Rattle.calc_session.specs.States.{State}
 
 -- what is kept, what the pool refused, and the text of the last line

@@ -1,9 +1,7 @@
 -- The texts of solutions.
 use Rattle.std.specs.Prelude.{ℕ, zero, suc, List, [], ◌∷◌, ◌++◌, map, zip, if◌then◌else◌, codes}
-use Rattle.calc_language.specs.Faces.{face}
-use Rattle.calc_language.specs.Texts.{text}
-use Rattle.calc_terms.specs.Fractions.{Fraction, is_one_fraction, is_zero_fraction, zero_fraction}
-use Rattle.calc_terms.specs.Trees.{Tree, num, symbol, add, mult, Trees, none, more}
+use Rattle.calc_language.specs.{Faces.{face}, Texts.{text}}
+use Rattle.calc_terms.specs.{Fractions.{Fraction, is_one_fraction, is_zero_fraction, zero_fraction}, Trees.{Tree, num, symbol, add, mult, Trees, none, more}}
 use Rattle.linear_solve.specs.Forms.{Form, free, bound, Answer, never, solved}
 use Rattle.calc_session.specs.Replies.{operand_text}
 

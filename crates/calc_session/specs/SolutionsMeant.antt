@@ -1,20 +1,12 @@
 -- What the texts of solutions say.
-use Rattle.std.specs.Prelude.{ℕ, ◌≡◌, ◌≤◌, ◌↔◌, List, length, ⊤}
-use Rattle.std.specs.List.{AllZip}
-use Rattle.calc_algebra.specs.Meanings.{Assignment, Gives, IsAssignment, Means}
-use Rattle.calc_algebra.specs.Surds.{surd_of}
-use Rattle.calc_commands.specs.Commands.{IsCommandLine, solve}
+use Rattle.std.specs.{Prelude.{ℕ, ◌≡◌, ◌≤◌, ◌↔◌, List, length, ⊤}, List.{AllZip}}
+use Rattle.calc_algebra.specs.{Meanings.{Assignment, Gives, IsAssignment, Means}, Surds.{surd_of}}
+use Rattle.calc_commands.specs.{Commands.{IsCommandLine, solve}, Equations.{Sides, Splits, all_placed}}
 use Rattle.calc_language.specs.Faces.{face}
 use Rattle.calc_terms.specs.Fractions.{Fraction}
-use Rattle.linear_solve.specs.Equations.{Assigns, Equation, SolvesAll}
-use Rattle.linear_solve.specs.Forms.{ComeToOne, Form, free, bound, HoldLaterFreeNames}
+use Rattle.linear_solve.specs.{Equations.{Assigns, Equation, SolvesAll}, Forms.{ComeToOne, Form, free, bound, HoldLaterFreeNames}, RisingNames.{AreNamesOf}}
 use Rattle.name_table.specs.Filling.{values}
-use Rattle.calc_session.specs.Arguments.{bytes_before}
-use Rattle.calc_commands.specs.Equations.{Sides, Splits, all_placed}
-use Rattle.linear_solve.specs.RisingNames.{AreNamesOf}
-use Rattle.calc_session.specs.SolutionTexts.{form_tree, lines_text, multipliers_text}
-use Rattle.calc_session.specs.Solving.{Become, ReadsEquation}
-use Rattle.calc_session.specs.States.{State, free_bytes, trees}
+use Rattle.calc_session.specs.{Arguments.{bytes_before}, SolutionTexts.{form_tree, lines_text, multipliers_text}, Solving.{Become, ReadsEquation}, States.{State, free_bytes, trees}}
 
 -- In a state the line asks for the solutions of at most six equations, which become these once the stored trees are in the places of their names: all their sides find room.
 pub record AsksToSolve (old : State) (line : List ℕ) (es : List Equation) : Type 0 where

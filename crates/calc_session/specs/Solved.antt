@@ -1,27 +1,16 @@
 -- What solving comes to, as the code tells it.
 use Rattle.std.specs.Prelude.{ℕ, ◌≡◌, ◌≤◌, ◌+◌, List, length, All, None, Ok}
-use Rattle.breakers.specs.Breakers.{CalmChecks}
-use Rattle.breakers.specs.State.{State as Breaker}
+use Rattle.breakers.specs.{Breakers.{CalmChecks}, State.{State as Breaker}}
 use Rattle.calc_terms.specs.Trees.{Tree}
-use Rattle.linear_solve.specs.Equations.{Equation, nodes_of_sides}
-use Rattle.linear_solve.specs.Solutions.{answer_told}
-use Rattle.linear_solve.specs.Solving.{solving}
-use Rattle.name_table.specs.Filling.{fills, values}
-use Rattle.name_table.specs.Tables.{Table}
+use Rattle.linear_solve.specs.{Equations.{Equation, nodes_of_sides}, Solutions.{answer_told}, Solving.{solving}, declared.fault.SolveFault.{SolveFault}}
+use Rattle.name_table.specs.{Filling.{fills, values}, Tables.{Table}}
 use Rattle.node_pool.specs.State.{State as PoolState, free_of}
-use Rattle.tree_handles.specs.Expressions.{IsExpression}
-use Rattle.tree_handles.specs.Forest.{Forest}
-use Rattle.tree_handles.specs.Standing.{forest}
+use Rattle.tree_handles.specs.{Expressions.{IsExpression}, Forest.{Forest}, Standing.{forest}}
 use Rattle.dual_diff.specs.Placing.{Adds}
-use Rattle.linear_solve.specs.declared.fault.SolveFault.{SolveFault}
 use Rattle.linear_solve.specs.declared.fault.SolveFault.TheVariants as fault
-use Rattle.calc_session.specs.declared.answers.Refusal.{Refusal}
-use Rattle.calc_session.specs.declared.answers.Refusal.TheVariants.{Overflow, Interrupted}
-use Rattle.calc_session.specs.declared.solving.Solved.{Solved}
-use Rattle.calc_session.specs.Evaluations.{made}
-use Rattle.linear_solve.specs.Listed.{names_listed}
-use Rattle.linear_solve.specs.RisingNames.{AreNamesOf}
+use Rattle.calc_session.specs.{declared.answers.Refusal.{Refusal}, declared.answers.Refusal.TheVariants.{Overflow, Interrupted}, declared.solving.Solved.{Solved}, Evaluations.{made}}
 use Rattle.calc_session.specs.Solving.{first_not_linear}
+use Rattle.linear_solve.specs.{Listed.{names_listed}, RisingNames.{AreNamesOf}}
 
 -- the tree of a side was built and filled, and stands behind the others
 pub record BuildsSide (table : Table) (old new : PoolState) (t : Tree) (i : ℕ) : Type 0 where

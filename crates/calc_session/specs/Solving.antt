@@ -1,26 +1,15 @@
 -- The replies to equations that are to be solved.
-use Rattle.std.specs.Prelude.{ℕ, suc, ◌≡◌, ◌≤◌, ◌<◌, ◌+◌, List, [], ◌∷◌, length, position, Bool, not, ◌&&◌, Option, Some, None, Ok, Err}
-use Rattle.std.specs.List.{AllZip}
-use Rattle.breakers.specs.Breakers.{CalmChecks, TripsWithin}
-use Rattle.breakers.specs.State.{State as Breaker}
+use Rattle.std.specs.{Prelude.{ℕ, suc, ◌≡◌, ◌≤◌, ◌<◌, ◌+◌, List, [], ◌∷◌, length, position, Bool, not, ◌&&◌, Option, Some, None, Ok, Err}, List.{AllZip}}
+use Rattle.breakers.specs.{Breakers.{CalmChecks, TripsWithin}, State.{State as Breaker}}
 use Rattle.calc_terms.specs.Trees.{Tree}
 use Rattle.calc_tokens.specs.Placed.{Placed}
-use Rattle.linear_solve.specs.Checks.{solving_checks}
-use Rattle.linear_solve.specs.Equations.{Equation, nodes_of_sides}
-use Rattle.linear_solve.specs.Fitting.{Misfit}
-use Rattle.linear_solve.specs.Forms.{Answer, Form, solved}
-use Rattle.linear_solve.specs.Linear.{is_linear}
-use Rattle.linear_solve.specs.Solving.{solving}
+use Rattle.linear_solve.specs.{Checks.{solving_checks}, Equations.{Equation, nodes_of_sides}, Fitting.{Misfit}, Forms.{Answer, Form, solved}, Linear.{is_linear}, Solving.{solving}}
+use Rattle.linear_solve.specs.RisingNames.{AreNamesOf, HoldOverSixNames}
 use Rattle.name_table.specs.Filling.{NamedTree, fills, values}
 use Rattle.node_pool.specs.declared.full.Full.{Full}
-use Rattle.calc_session.specs.Arguments.{IsNoExpression, ReadsText}
+use Rattle.calc_session.specs.{Arguments.{IsNoExpression, ReadsText}, Evaluations.{Unmade, made}, Forms.{form_room}, Replies.{Reason, Reply, report, refused, full, overflow, interrupted, command}}
+use Rattle.calc_session.specs.{Replies.{not_linear, too_many}, SolutionTexts.{solution_text}, States.{State, free_bytes, trees}}
 use Rattle.calc_commands.specs.Equations.{Piece, Pieces, Sides, Splits, all_placed}
-use Rattle.calc_session.specs.Evaluations.{Unmade, made}
-use Rattle.calc_session.specs.Forms.{form_room}
-use Rattle.calc_session.specs.Replies.{Reason, Reply, report, refused, full, overflow, interrupted, command, not_linear, too_many}
-use Rattle.linear_solve.specs.RisingNames.{AreNamesOf, HoldOverSixNames}
-use Rattle.calc_session.specs.SolutionTexts.{solution_text}
-use Rattle.calc_session.specs.States.{State, free_bytes, trees}
 
 -- ---- the sides are read
 

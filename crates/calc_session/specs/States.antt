@@ -1,11 +1,8 @@
 -- What a session keeps from line to line.
 use Rattle.std.specs.Prelude.{ℕ, pos, ◌-◌, List, [], ◌∷◌}
-use Rattle.calc_terms.specs.Node.{Node, fresh}
-use Rattle.calc_terms.specs.Payload.{rational}
-use Rattle.calc_terms.specs.Ratio.{whole}
+use Rattle.calc_terms.specs.{Node.{Node, fresh}, Payload.{rational}, Ratio.{whole}}
 use Rattle.name_table.specs.Tables.{Table, first_table}
-use Rattle.node_pool.specs.Nodes.{used}
-use Rattle.node_pool.specs.State.{State as PoolState}
+use Rattle.node_pool.specs.{Nodes.{used}, State.{State as PoolState}}
 use Rattle.tree_handles.specs.Forest.{Forest, forest_of}
 
 -- the capacity of the pool, its nodes in the order of their bytes, and the table of the names that hold their trees

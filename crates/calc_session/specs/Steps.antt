@@ -3,20 +3,11 @@ use Rattle.std.specs.Prelude.{◌≡◌, ◌≤◌, ℕ, List, length, true, fal
 use Rattle.breakers.specs.State.{State as Breaker}
 use Rattle.calc_terms.specs.Trees.{Tree, none, more}
 use Rattle.calc_tokens.specs.Limits.{line_limit}
-use Rattle.name_table.specs.Held.{held_by}
-use Rattle.name_table.specs.Storing.{IsStorable}
-use Rattle.name_table.specs.Tables.{with_answer, without_name}
+use Rattle.name_table.specs.{Held.{held_by}, Storing.{IsStorable}, Tables.{with_answer, without_name}}
 use Rattle.node_pool.specs.Nodes.{AreDistinct, has}
-use Rattle.tree_handles.specs.Forest.{Forest, flatten, join, root_id}
-use Rattle.tree_handles.specs.Handed.{Represents}
-use Rattle.tree_handles.specs.Inside.{holds}
-use Rattle.calc_session.specs.Asking.{Asks, AsksInVain, Request, nothing, value, commanded}
-use Rattle.calc_session.specs.Calculating.{made_in}
-use Rattle.calc_session.specs.Commanding.{IsReplyToCommand}
-use Rattle.calc_session.specs.Evaluations.{IsReduction, IsReplyToMade}
-use Rattle.calc_session.specs.Reading.{IsUnstorable}
-use Rattle.calc_session.specs.Replies.{Reason, Reply, blank, shown, stored, forgot, refused}
-use Rattle.calc_session.specs.States.{State, free_bytes, trees}
+use Rattle.tree_handles.specs.{Forest.{Forest, flatten, join, root_id}, Handed.{Represents}, Inside.{holds}}
+use Rattle.calc_session.specs.{Asking.{Asks, AsksInVain, Request, nothing, value, commanded}, Calculating.{made_in}, Commanding.{IsReplyToCommand}, Evaluations.{IsReduction, IsReplyToMade}}
+use Rattle.calc_session.specs.{Reading.{IsUnstorable}, Replies.{Reason, Reply, blank, shown, stored, forgot, refused}, States.{State, free_bytes, trees}}
 
 -- the replies to a tree that was read and can be stored under the name, where there is one: it is built, filled and reduced
 abbrev pub IsReplyToTree : (room bits : Option (Tree → ℕ)) → State → (before after : List Breaker) → Option (List ℕ) → Tree → Reply → Type 0

@@ -1,13 +1,9 @@
 -- A node's bytes are read as the node.
-use Rattle.calc_terms.proofs.Shared.{◌≡◌, ◌==◌, ℕ, ◌+◌, ◌^◌, ◌<◌, List, ◌++◌, length, take, drop, refl, sym, ap, ◌∙◌, arith, append_assoc, Bool, true, false}
-use Rattle.calc_terms.proofs.Shared.{FitsSigned, unsigned_abs, ℤ, lit<, w64, w128, cast_signed, cast_unsigned, ints, to_z-of_z, length-append, take_at, drop_at, Kind, Header, code_of, kind_of}
-use Rattle.calc_terms.proofs.Shared.{size_by_form, padded, before_zero, Payload, rational, named, bare, kind_of_payload, has_short_form, size_of_payload, is_bare, IsPayload, Ratio, IsRat, ratio_at}
-use Rattle.calc_terms.proofs.Shared.{ratio_bytes, number_at, number_bytes, form_of, header_in, short_at, Node, IsNode, header_of, size_of, low_bytes, from_bytes, header_bytes, payload_bytes, encoding}
-use Rattle.calc_terms.proofs.Shared.{kind_or_undef, kind_at, payload_at, node_at}
-use Rattle.calc_terms.proofs.Codes.{kind_of-code_of}
-use Rattle.calc_terms.proofs.LowBytes.{length-low_bytes, from_bytes-low_bytes}
-use Rattle.calc_terms.proofs.Sizes.{bare_size}
-use Rattle.calc_terms.proofs.ShortForm.{IsShort, short_parts}
+use Rattle.calc_terms.proofs.Shared.{◌≡◌, ◌==◌, ℕ, ◌+◌, ◌^◌, ◌<◌, List, ◌++◌, length, take, drop, refl, sym, ap, ◌∙◌, arith, append_assoc, Bool, true, false, FitsSigned, unsigned_abs, ℤ, lit<, w64}
+use Rattle.calc_terms.proofs.Shared.{w128, cast_signed, cast_unsigned, ints, to_z-of_z, length-append, take_at, drop_at, Kind, Header, code_of, kind_of, size_by_form, padded, before_zero, Payload}
+use Rattle.calc_terms.proofs.Shared.{rational, named, bare, kind_of_payload, has_short_form, size_of_payload, is_bare, IsPayload, Ratio, IsRat, ratio_at, ratio_bytes, number_at, number_bytes, form_of}
+use Rattle.calc_terms.proofs.Shared.{header_in, short_at, Node, IsNode, header_of, size_of, low_bytes, from_bytes, header_bytes, payload_bytes, encoding, kind_or_undef, kind_at, payload_at, node_at}
+use Rattle.calc_terms.proofs.{Codes.{kind_of-code_of}, LowBytes.{length-low_bytes, from_bytes-low_bytes}, Sizes.{bare_size}, ShortForm.{IsShort, short_parts}}
 use Rattle.calc_terms.proofs.Names.{length-padded, before_zero-padded}
 use Rattle.calc_terms.specs.declared.kind.Kind.TheVariants as kind
 

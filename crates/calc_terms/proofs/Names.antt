@@ -1,8 +1,7 @@
 -- Names, their bytes and the eight bytes that hold them.
-use Rattle.calc_terms.proofs.Shared.{◌≡◌, ℕ, zero, suc, ◌-◌, ◌≤◌, ◌≢◌, List, [], ◌∷◌, ◌++◌, length, take, drop, replicate, Bool, true, false, not, eqb, refl, sym, ap}
-use Rattle.calc_terms.proofs.Shared.{◌∙◌, subst, arith, ◌&&◌, ◌||◌, nat_le, nat_eq, codes, list_all, pointwise, ne_eqb, leb-true, le-leb, length-append, take_at, drop-replicate}
-use Rattle.calc_terms.proofs.Shared.{length-replicate, append-nil, AllPass-from_list_all, list_all-from_AllPass, bytes_eq-Decides, is_name_byte, is_reserved, begins_with_letter, is_name, IsName}
-use Rattle.calc_terms.proofs.Shared.{before_zero, padded, HoldsName}
+use Rattle.calc_terms.proofs.Shared.{◌≡◌, ℕ, zero, suc, ◌-◌, ◌≤◌, ◌≢◌, List, [], ◌∷◌, ◌++◌, length, take, drop, replicate, Bool, true, false, not, eqb, refl, sym, ap, ◌∙◌, subst, arith, ◌&&◌, ◌||◌}
+use Rattle.calc_terms.proofs.Shared.{nat_le, nat_eq, codes, list_all, pointwise, ne_eqb, leb-true, le-leb, length-append, take_at, drop-replicate, length-replicate, append-nil, AllPass-from_list_all}
+use Rattle.calc_terms.proofs.Shared.{list_all-from_AllPass, bytes_eq-Decides, is_name_byte, is_reserved, begins_with_letter, is_name, IsName, before_zero, padded, HoldsName}
 
 both : (a b : Bool) → (a && b) ≡ true → (a ≡ true) × (b ≡ true)
 both true b h = (refl, h)

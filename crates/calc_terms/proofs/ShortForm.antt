@@ -1,7 +1,6 @@
 -- Which numbers have the short form.
-use Rattle.calc_terms.proofs.Shared.{◌≡◌, ℕ, ℤ, pos, neg_ℤ, nat_abs, ◌<◌, ◌≤◌, ◌^◌, Bool, true, false, refl, sym, ap, ◌∙◌, arith, FitsSigned, ◌&&◌, ◌==◌}
-use Rattle.calc_terms.proofs.Shared.{◌↔◌, IsTrue, int_le, int_lt, w64, ints, and_from, and_parts, eqb-true, ne_eqb, Fraction, Holds, is_lowest, is_one_fraction, lowest, lowest_parts, int_is_one}
-use Rattle.calc_terms.proofs.Shared.{Ratio, IsRat, is_short, is_short_int}
+use Rattle.calc_terms.proofs.Shared.{◌≡◌, ℕ, ℤ, pos, neg_ℤ, nat_abs, ◌<◌, ◌≤◌, ◌^◌, Bool, true, false, refl, sym, ap, ◌∙◌, arith, FitsSigned, ◌&&◌, ◌==◌, ◌↔◌, IsTrue, int_le, int_lt, w64, ints}
+use Rattle.calc_terms.proofs.Shared.{and_from, and_parts, eqb-true, ne_eqb, Fraction, Holds, is_lowest, is_one_fraction, lowest, lowest_parts, int_is_one, Ratio, IsRat, is_short, is_short_int}
 use Rattle.calc_terms.proofs.FractionFacts.{whole_numerator, whole_denominator}
 
 holds : (b : Bool) → b ≡ true → Holds b

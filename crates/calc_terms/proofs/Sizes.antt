@@ -1,7 +1,6 @@
 -- The bytes of a node: 8 at least, 16 or 40 for a number, and always a multiple of 8.
-use Rattle.calc_terms.proofs.Shared.{◌≡◌, ℕ, pos, ◌^◌, ◌<◌, ◌≤◌, Bool, true, false, refl, arith, ap, cond, eqb, ltb, sym, ◌∙◌, le-ltb, lt-ltb, ne_eqb, Kind, Fraction}
-use Rattle.calc_terms.proofs.Shared.{lowest, code_of, size_by_form, form_of, Payload, kind_of_payload, has_short_form, size_of_payload, is_bare, is_short, Tree, num, whole_num, size, root_size}
-use Rattle.calc_terms.proofs.Shared.{root_kind, has_short_root}
+use Rattle.calc_terms.proofs.Shared.{◌≡◌, ℕ, pos, ◌^◌, ◌<◌, ◌≤◌, Bool, true, false, refl, arith, ap, cond, eqb, ltb, sym, ◌∙◌, le-ltb, lt-ltb, ne_eqb, Kind, Fraction, lowest, code_of, size_by_form}
+use Rattle.calc_terms.proofs.Shared.{form_of, Payload, kind_of_payload, has_short_form, size_of_payload, is_bare, is_short, Tree, num, whole_num, size, root_size, root_kind, has_short_root}
 use Rattle.calc_terms.proofs.ShortForm.{whole_short}
 use Rattle.calc_terms.specs.declared.kind.Kind.TheVariants as kind
 

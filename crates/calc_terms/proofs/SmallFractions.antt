@@ -1,7 +1,6 @@
 -- The fractions 0 and 1, as values and in sums and products.
 use Rattle.calc_terms.proofs.Shared.{◌≡◌, ◌∙◌, ap, pos, Fraction, lowest, one_fraction, zero_fraction, Rat, ratio_of, value_of, Ratio, one_times, plus_comm, times_comm, zero_plus}
-use Rattle.calc_terms.specs.Fractions.{plus, times}
-use Rattle.calc_terms.specs.Ratio.{whole}
+use Rattle.calc_terms.specs.{Fractions.{plus, times}, Ratio.{whole}}
 
 pub zero_value : (r : Rat) → ratio_of r ≡ whole (pos 0) → value_of r ≡ zero_fraction
 unfolding zero_fraction

@@ -1,7 +1,6 @@
 -- Trees of the worked examples.
 use Rattle.std.specs.Prelude.{ℕ, ℤ, codes}
-use Rattle.calc_terms.specs.Fractions.{lowest}
-use Rattle.calc_terms.specs.Trees.{Tree, num, symbol, add, mult, root, div, Trees, none, more, whole_num}
+use Rattle.calc_terms.specs.{Fractions.{lowest}, Trees.{Tree, num, symbol, add, mult, root, div, Trees, none, more, whole_num}}
 
 abbrev pub x : Tree
 x = symbol (codes "x")

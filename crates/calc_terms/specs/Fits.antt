@@ -1,7 +1,6 @@
 -- Which operations fit into numbers of 128 bits, with their sign.
 use Rattle.std.specs.Prelude.{ℕ, zero, suc, ◌/◌, ◌^◌, ℤ, pos, ◌+ℤ◌, ◌*ℤ◌, nat_abs, Bool, ◌&&◌, nat_lt}
-use Rattle.calc_terms.specs.Gcd.{gcd}
-use Rattle.calc_terms.specs.Fractions.{Fraction, plus, times, one_fraction}
+use Rattle.calc_terms.specs.{Gcd.{gcd}, Fractions.{Fraction, plus, times, one_fraction}}
 
 pub data Operation : Type 0 where
   add_op mul_op pow_op : Operation

@@ -1,16 +1,11 @@
 -- Fractions: always in lowest terms, so that equal fractions are one.
-use Rattle.std.specs.Prelude.{ℕ, zero, suc, ◌*◌, ◌/◌, ◌≡◌, ◌<◌, ℤ, pos, negsuc, ◌+ℤ◌, ◌*ℤ◌, neg_ℤ, nat_abs, Bool, true, false, ◌&&◌, nat_lt, ◌==◌}
-use Rattle.std.proofs.Common.{refl, arith, sym, ap, ◌∙◌, subst}
-use Rattle.std.proofs.lemmas.Bool.{lt-ltb, eq-eqb, ltb-true, eqb-true}
-use Rattle.std.specs.Int.{IsGcd}
-use Rattle.std.specs.Ordering.{int_cmp}
+use Rattle.std.specs.{Prelude.{ℕ, zero, suc, ◌*◌, ◌/◌, ◌≡◌, ◌<◌, ℤ, pos, negsuc, ◌+ℤ◌, ◌*ℤ◌, neg_ℤ, nat_abs, Bool, true, false, ◌&&◌, nat_lt, ◌==◌}, Int.{IsGcd}, Ordering.{int_cmp}}
 use Rattle.std.specs.declared.cmp.Ordering.{Ordering}
-use Rattle.std.proofs.lemmas.Nat.Gcd.{same_from_IsGcd}
+use Rattle.std.proofs.{Common.{refl, arith, sym, ap, ◌∙◌, subst}, lemmas.Bool.{lt-ltb, eq-eqb, ltb-true, eqb-true}, lemmas.Nat.Gcd.{same_from_IsGcd}}
 use native.Mathlib.Nat.{div-mul_cancel, pos_of_dvd_of_pos, zero-mul}
 use Prim.Native.Nat.{◌∣◌}
 use mathlib.Core.HLevel.{is_prop→PathP}
-use Rattle.calc_terms.specs.Gcd.{gcd, gcd_is, divided, lowest_den}
-use Rattle.calc_terms.specs.Integers.{int_is_zero, int_is_one, parts, diffs, eq_diff, combine, cancel_pos}
+use Rattle.calc_terms.specs.{Gcd.{gcd, gcd_is, divided, lowest_den}, Integers.{int_is_zero, int_is_one, parts, diffs, eq_diff, combine, cancel_pos}}
 
 -- the test holds, as a fact with one proof
 abbrev pub Holds : Bool → Type 0

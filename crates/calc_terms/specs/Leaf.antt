@@ -1,11 +1,8 @@
 -- Names and leaves of the code as plain data.
 use Rattle.std.specs.Prelude.{ℕ, List, ◌≡◌, true}
-use Rattle.calc_terms.specs.declared.name.Name.{Name}
-use Rattle.calc_terms.specs.declared.leaf.Leaf.{Leaf}
+use Rattle.calc_terms.specs.{declared.name.Name.{Name}, declared.leaf.Leaf.{Leaf}}
 use Rattle.calc_terms.specs.declared.leaf.Leaf.TheVariants as leaf
-use Rattle.calc_terms.specs.Rat.{ratio_of}
-use Rattle.calc_terms.specs.Name.{before_zero}
-use Rattle.calc_terms.specs.Payload.{Payload, rational, named, bare, is_bare}
+use Rattle.calc_terms.specs.{Rat.{ratio_of}, Name.{before_zero}, Payload.{Payload, rational, named, bare, is_bare}}
 
 -- the bytes of a name, without the zeros
 abbrev pub name_of : Name → List ℕ

@@ -1,7 +1,6 @@
 -- Names: which bytes are one, and how eight bytes hold it.
 use Rattle.std.specs.Prelude.{ℕ, ◌-◌, ◌≡◌, ◌≢◌, ◌≤◌, List, [], ◌∷◌, ◌++◌, Bool, true, false, ◌&&◌, ◌||◌, ◌==◌, not, nat_le, nat_eq, if◌then◌else◌, length, codes, replicate, All, IsTrue}
-use Rattle.std.specs.List.{list_all}
-use Rattle.std.specs.Cmp.Lexicographic.{pointwise}
+use Rattle.std.specs.{List.{list_all}, Cmp.Lexicographic.{pointwise}}
 
 -- the ten digits of ASCII
 abbrev pub is_digit : ℕ → Bool

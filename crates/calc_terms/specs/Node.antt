@@ -1,13 +1,9 @@
 -- Nodes, and their bytes.
-use Rattle.std.specs.Prelude.{ℕ, zero, suc, ◌+◌, ◌*◌, ◌/◌, ◌%◌, ◌^◌, ◌<◌, ◌==◌, Bool, true, false, List, [], ◌∷◌, ◌++◌, take, drop, Option, Some, None}
-use Rattle.std.specs.Int.{w64, w128, cast_signed, cast_unsigned}
+use Rattle.std.specs.{Prelude.{ℕ, zero, suc, ◌+◌, ◌*◌, ◌/◌, ◌%◌, ◌^◌, ◌<◌, ◌==◌, Bool, true, false, List, [], ◌∷◌, ◌++◌, take, drop, Option, Some, None}, Int.{w64, w128, cast_signed, cast_unsigned}}
 use Rattle.calc_terms.specs.declared.kind.Kind.{Kind}
 use Rattle.calc_terms.specs.declared.kind.Kind.TheVariants as kind
-use Rattle.calc_terms.specs.declared.leaf.Header.{Header}
-use Rattle.calc_terms.specs.Kind.{code_of, kind_of, size_by_form}
-use Rattle.calc_terms.specs.Ratio.{Ratio, whole}
-use Rattle.calc_terms.specs.Name.{before_zero, padded}
-use Rattle.calc_terms.specs.Payload.{Payload, rational, named, bare, kind_of_payload, has_short_form, size_of_payload, IsPayload}
+use Rattle.calc_terms.specs.{declared.leaf.Header.{Header}, Kind.{code_of, kind_of, size_by_form}, Ratio.{Ratio, whole}, Name.{before_zero, padded}, Payload.{Payload, rational, named, bare}}
+use Rattle.calc_terms.specs.Payload.{kind_of_payload, has_short_form, size_of_payload, IsPayload}
 
 pub record Node : Type 0 where
   pub id : ℕ

@@ -2,11 +2,7 @@
 use Rattle.std.specs.Prelude.{ℕ, List, Bool, true, false, ◌≡◌}
 use Rattle.calc_terms.specs.declared.kind.Kind.{Kind}
 use Rattle.calc_terms.specs.declared.kind.Kind.TheVariants as kind
-use Rattle.calc_terms.specs.Kind.{size_by_form}
-use Rattle.calc_terms.specs.Fractions.{lowest}
-use Rattle.calc_terms.specs.Ratio.{Ratio, IsRat}
-use Rattle.calc_terms.specs.Short.{is_short}
-use Rattle.calc_terms.specs.Name.{is_name}
+use Rattle.calc_terms.specs.{Kind.{size_by_form}, Fractions.{lowest}, Ratio.{Ratio, IsRat}, Short.{is_short}, Name.{is_name}}
 
 -- a rational, a name by its bytes, or a kind alone
 pub data Payload : Type 0 where

@@ -1,8 +1,6 @@
 -- The rationals of the code, seen as fractions and as what a node holds.
 use Rattle.std.specs.Prelude.{nat_abs}
-use Rattle.calc_terms.specs.declared.rat.Rat.{Rat}
-use Rattle.calc_terms.specs.Ratio.{Ratio}
-use Rattle.calc_terms.specs.Fractions.{Fraction, lowest}
+use Rattle.calc_terms.specs.{declared.rat.Rat.{Rat}, Ratio.{Ratio}, Fractions.{Fraction, lowest}}
 
 -- its numerator and its denominator
 abbrev pub ratio_of : Rat → Ratio

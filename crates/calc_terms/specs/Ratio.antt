@@ -1,6 +1,5 @@
 -- A numerator and a denominator side by side, as a node holds them.
-use Rattle.std.specs.Prelude.{Bool, true, false, neg_ℤ, ◌*◌, ℕ, ℤ, pos, ◌≡◌, ◌≤◌, ◌<◌, ◌^◌, unsigned_abs}
-use Rattle.std.specs.Int.{IsGcd}
+use Rattle.std.specs.{Prelude.{Bool, true, false, neg_ℤ, ◌*◌, ℕ, ℤ, pos, ◌≡◌, ◌≤◌, ◌<◌, ◌^◌, unsigned_abs}, Int.{IsGcd}}
 use Rattle.calc_terms.specs.Fractions.{is_lowest}
 
 pub record Ratio : Type 0 where

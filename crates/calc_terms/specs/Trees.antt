@@ -2,9 +2,7 @@
 use Rattle.std.specs.Prelude.{ℕ, suc, ◌+◌, max, pos, List, [], ◌∷◌, ◌++◌, Bool, true, false, ◌&&◌, ◌||◌, ⊤}
 use Rattle.calc_terms.specs.declared.kind.Kind.{Kind}
 use Rattle.calc_terms.specs.declared.kind.Kind.TheVariants as kind
-use Rattle.calc_terms.specs.Kind.{code_of, size_by_form}
-use Rattle.calc_terms.specs.Fractions.{Fraction, lowest}
-use Rattle.calc_terms.specs.Short.{is_short}
+use Rattle.calc_terms.specs.{Kind.{code_of, size_by_form}, Fractions.{Fraction, lowest}, Short.{is_short}}
 
 -- a rational, a symbol by the bytes of its name, `undef`, or a node over its children
 mutual

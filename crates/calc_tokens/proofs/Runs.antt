@@ -1,6 +1,5 @@
 -- A run of bytes at the front, by its length.
-use Rattle.calc_tokens.proofs.Shared.{ℕ, suc, ◌+◌, ◌≡◌, ◌≤◌, ◌<◌, List, [], ◌∷◌, Bool, true, false, length, AllPass, refl, arith, All-nil, All-cons, is_digit}
-use Rattle.calc_tokens.proofs.Shared.{leading_run, decimals}
+use Rattle.calc_tokens.proofs.Shared.{ℕ, suc, ◌+◌, ◌≡◌, ◌≤◌, ◌<◌, List, [], ◌∷◌, Bool, true, false, length, AllPass, refl, arith, All-nil, All-cons, is_digit, leading_run, decimals}
 use Rattle.calc_language.proofs.LeadingRuns.{run_back_le}
 use Rattle.calc_language.specs.Tokens.{keep}
 

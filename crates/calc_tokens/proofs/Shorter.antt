@@ -1,7 +1,6 @@
 -- Behind a token fewer bytes are left.
-use Rattle.calc_tokens.proofs.Shared.{ℕ, ◌+◌, ◌≡◌, ◌≤◌, ◌<◌, List, [], ◌∷◌, length, Bool, true, false, ◌&&◌, ◌==◌, nat_le, nat_lt, if◌then◌else◌}
-use Rattle.calc_tokens.proofs.Shared.{Option, Some, None, refl, subst, arith, is_digit, is_name_byte, Token, leading_run, decimals, token_of_word, if_so, rest_after, or_else, token_at}
-use Rattle.calc_tokens.proofs.Runs.{run_back_lt, decimals_le}
+use Rattle.calc_tokens.proofs.Shared.{ℕ, ◌+◌, ◌≡◌, ◌≤◌, ◌<◌, List, [], ◌∷◌, length, Bool, true, false, ◌&&◌, ◌==◌, nat_le, nat_lt, if◌then◌else◌, Option, Some, None, refl, subst, arith, is_digit}
+use Rattle.calc_tokens.proofs.{Shared.{is_name_byte, Token, leading_run, decimals, token_of_word, if_so, rest_after, or_else, token_at}, Runs.{run_back_lt, decimals_le}}
 use Rattle.std.proofs.lemmas.Bool.{ltb-true}
 use Rattle.calc_terms.specs.Name.{is_letter}
 use Rattle.calc_language.specs.Tokens.{Mark, marks, literal_at, word_at, first_mark}

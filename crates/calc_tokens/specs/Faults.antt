@@ -1,8 +1,6 @@
 -- What a fault says.
 use Rattle.std.specs.Prelude.{ℕ, ◌≡◌, List, true}
-use Rattle.calc_tokens.specs.declared.tokens.TokenFault.{TokenFault}
-use Rattle.calc_tokens.specs.declared.tokens.TokenFault.TheVariants.{Character, Number}
-use Rattle.calc_tokens.specs.Scanned.{BeginsNoToken, begins_wide, IsFirstCharacter, IsFirstWide}
+use Rattle.calc_tokens.specs.{declared.tokens.TokenFault.{TokenFault}, declared.tokens.TokenFault.TheVariants.{Character, Number}, Scanned.{BeginsNoToken, begins_wide, IsFirstCharacter, IsFirstWide}}
 
 -- the fault of bytes that stand at this place
 abbrev pub IsFaultHere : List ℕ → ℕ → TokenFault → Type 0

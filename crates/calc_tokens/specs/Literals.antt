@@ -1,7 +1,6 @@
 -- The literal at the front of bytes: its parts, and whether they fit.
 use Rattle.std.specs.Prelude.{ℕ, ◌^◌, List, [], ◌∷◌, ◌++◌, length, Bool, false, ◌&&◌, ◌==◌, nat_lt, if◌then◌else◌}
-use Rattle.calc_terms.specs.Limits.{number_limit}
-use Rattle.calc_terms.specs.Name.{is_digit}
+use Rattle.calc_terms.specs.{Limits.{number_limit}, Name.{is_digit}}
 use Rattle.calc_language.specs.Tokens.{leading_run, decimals, digits_value}
 
 -- a digit in front of what is left of the digits behind it

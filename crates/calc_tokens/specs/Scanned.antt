@@ -2,8 +2,7 @@
 use Rattle.std.specs.Prelude.{ℕ, suc, ◌-◌, ◌≡◌, List, [], ◌∷◌, length, Bool, true, false, not, ◌&&◌, Some, None}
 use Rattle.calc_language.specs.Tokens.{Token, is_blank, token_at}
 use Rattle.calc_terms.specs.Name.{is_digit}
-use Rattle.calc_tokens.specs.Placed.{Placed}
-use Rattle.calc_tokens.specs.Literals.{literal_fits}
+use Rattle.calc_tokens.specs.{Placed.{Placed}, Literals.{literal_fits}}
 
 -- the place in the line of the first of the bytes that are left, counted from 1
 abbrev pub place : List ℕ → List ℕ → ℕ

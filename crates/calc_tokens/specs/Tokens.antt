@@ -1,14 +1,9 @@
 -- What a list of scanned tokens stands for.
-use Rattle.std.specs.Prelude.{ℕ, List, map}
-use Rattle.std.specs.Borrow.{Bor}
-use Rattle.calc_terms.specs.Rat.{value_of}
-use Rattle.calc_terms.specs.Leaf.{name_of}
+use Rattle.std.specs.{Prelude.{ℕ, List, map}, Borrow.{Bor}}
+use Rattle.calc_terms.specs.{Rat.{value_of}, Leaf.{name_of}}
 use Rattle.calc_language.specs.Tokens as grammar
-use Rattle.calc_tokens.specs.declared.tokens.What.{What}
-use Rattle.calc_tokens.specs.declared.tokens.What.TheVariants.{Number, Name, Plus, Minus, Times, Slash, Caret, Left, Right, Root, Undef, Arrow}
-use Rattle.calc_tokens.specs.declared.tokens.Token.{Token}
-use Rattle.calc_tokens.specs.declared.tokens.Tokens.{Tokens}
-use Rattle.calc_tokens.specs.Placed.{Placed}
+use Rattle.calc_tokens.specs.{declared.tokens.What.{What}, declared.tokens.What.TheVariants.{Number, Name, Plus, Minus, Times, Slash, Caret, Left, Right, Root, Undef, Arrow}}
+use Rattle.calc_tokens.specs.{declared.tokens.Token.{Token}, declared.tokens.Tokens.{Tokens}, Placed.{Placed}}
 
 -- the grammar's token
 abbrev pub token_of : What → grammar.Token

@@ -1,13 +1,11 @@
 -- A sum that stands last, with other children.
-use Rattle.child_lists.proofs.Shared.{AllExpressions, AllOnce, Ends, Forest, Gives, IsHanded, IsOnce, IsOwned, IsWhole, KeepsRefusals, Option, Payload, Represents, Stands, State, Tree, Trees}
-use Rattle.child_lists.proofs.Shared.{add, all-first_trees, all-join, all-rest_trees, alone, ap, arith, arity, arity-tree_nth, bare, children_of, children_of-plain, count, count-plains, empty}
-use Rattle.child_lists.proofs.Shared.{ends_as, ends_at, ends_without, expression_root, forest, free_of, given_handed, given_rest, given_root, given_same, given_told, gives, grown, inserted}
-use Rattle.child_lists.proofs.Shared.{is_add, kids, kids_of, last_put, last_rest, last_root, last_tree, more, none, nth, other_handed, plain, plain-tree_nth, plain_root, plains, put, refl}
-use Rattle.child_lists.proofs.Shared.{removed, replaced_free, represents_as, represents_handed, represents_with, rest_trees, root_id, root_tree, set_nth, size, sizes, subst, suc, sym, takes}
-use Rattle.child_lists.proofs.Shared.{tree, tree_nth, tree_of, true, whole_kids, with_nth, with_nth-without_nth, with_root_kids, without_nth, without_root, zero, ℕ, ◌<◌, ◌∙◌, ◌≡◌, ◌≤◌, IsNextAt}
-use Rattle.child_lists.proofs.Shared.{Lists, List, root_ids}
-use Rattle.child_lists.proofs.ListedChildren.{children_number, lists_with}
-use Rattle.child_lists.proofs.PutBefore.{kept_kids}
+use Rattle.child_lists.proofs.Shared.{AllExpressions, AllOnce, Ends, Forest, Gives, IsHanded, IsOnce, IsOwned, IsWhole, KeepsRefusals, Option, Payload, Represents, Stands, State, Tree, Trees, add}
+use Rattle.child_lists.proofs.Shared.{all-first_trees, all-join, all-rest_trees, alone, ap, arith, arity, arity-tree_nth, bare, children_of, children_of-plain, count, count-plains, empty, ends_as}
+use Rattle.child_lists.proofs.Shared.{ends_at, ends_without, expression_root, forest, free_of, given_handed, given_rest, given_root, given_same, given_told, gives, grown, inserted, is_add, kids}
+use Rattle.child_lists.proofs.Shared.{kids_of, last_put, last_rest, last_root, last_tree, more, none, nth, other_handed, plain, plain-tree_nth, plain_root, plains, put, refl, removed, replaced_free}
+use Rattle.child_lists.proofs.Shared.{represents_as, represents_handed, represents_with, rest_trees, root_id, root_tree, set_nth, size, sizes, subst, suc, sym, takes, tree, tree_nth, tree_of, true}
+use Rattle.child_lists.proofs.Shared.{whole_kids, with_nth, with_nth-without_nth, with_root_kids, without_nth, without_root, zero, ℕ, ◌<◌, ◌∙◌, ◌≡◌, ◌≤◌, IsNextAt, Lists, List, root_ids}
+use Rattle.child_lists.proofs.{ListedChildren.{children_number, lists_with}, PutBefore.{kept_kids}}
 use Rattle.calc_terms.specs.declared.kind.Kind.TheVariants as kind
 
 -- ---- a node with other children

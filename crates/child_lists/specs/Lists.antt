@@ -1,8 +1,6 @@
 -- The children of a node, listed.
 use Rattle.std.specs.Prelude.{ℕ, ◌≡◌, Bool, ltb, leb, List, length, Option, Some, None, insert, remove, slice_set, if◌then◌else◌}
-use Rattle.tree_handles.specs.Children.{root_ids, IsChildAt}
-use Rattle.tree_handles.specs.Forest.{Forest, arity}
-use Rattle.tree_handles.specs.Inside.{kids_of}
+use Rattle.tree_handles.specs.{Children.{root_ids, IsChildAt}, Forest.{Forest, arity}, Inside.{kids_of}}
 
 -- ---- what a list tells: the identifiers of a node's children in their order, or none where it was given up
 

@@ -1,9 +1,8 @@
 -- The nest and the load of a coefficient before a part.
 use Rattle.coefficients.proofs.Shared.{true≢false, ◌≡◌, ℕ, ◌+◌, ◌≤◌, max, Bool, true, false, if◌then◌else◌, refl, sym, ap, ◌∙◌, arith, Fraction, times, zero_fraction, is_zero_fraction}
 use Rattle.coefficients.proofs.Shared.{is_one_fraction, nest, nest_of, load, load_of_factor, load_of_factors, is_number, IsNumber, product_tree, Tree, num, add, mult, Trees, none, more, append}
-use Rattle.coefficients.proofs.Shared.{is_mult, number_test, factors_of, spliced, rational_before, with_coefficient, IsMonic, mapped, rational_times_factors, rational_times}
-use Rattle.coefficients.proofs.Shared.{rational_times_number, rational_times_term, rational_times_sum, nest-append}
-use Rattle.coefficients.proofs.Factors.{monic_no_number}
+use Rattle.coefficients.proofs.Shared.{is_mult, number_test, factors_of, spliced, rational_before, with_coefficient, IsMonic, mapped, rational_times_factors, rational_times, rational_times_number}
+use Rattle.coefficients.proofs.{Shared.{rational_times_term, rational_times_sum, nest-append}, Factors.{monic_no_number}}
 
 -- ---- nests
 

@@ -1,8 +1,7 @@
 -- The bytes of new nodes, and those that are free once children were taken out of a root.
-use Rattle.coefficients.proofs.Shared.{◌↔◌, Result, IsOk, IsErr, IsErrAnd, IfErr, ◌≡◌, ℕ, ◌≤◌, ◌==◌, true, false, if◌then◌else◌, refl, sym, ap, subst, arith, bare, size_of_payload, Tree, Trees}
-use Rattle.coefficients.proofs.Shared.{more, size, is_mult, num_one, coefficient_length, IsOver, Full, State, free_of, children_of, Stands, forest, KeepsRefusals, IsRefused, bytes_in-join}
-use Rattle.coefficients.proofs.Shared.{used_forest, sizes-plains, size-plain, bytes_as_product, bytes_of_coefficient, bytes_of_taking, IsShort, bytes_put}
-use Rattle.coefficients.proofs.Steps.{IsPairTaken}
+use Rattle.coefficients.proofs.Shared.{◌↔◌, Result, IsOk, IsErr, IsErrAnd, IfErr, ◌≡◌, ℕ, ◌≤◌, ◌==◌, true, false, if◌then◌else◌, refl, sym, ap, subst, arith, bare, size_of_payload, Tree, Trees, more}
+use Rattle.coefficients.proofs.Shared.{size, is_mult, num_one, coefficient_length, IsOver, Full, State, free_of, children_of, Stands, forest, KeepsRefusals, IsRefused, bytes_in-join, used_forest}
+use Rattle.coefficients.proofs.{Shared.{sizes-plains, size-plain, bytes_as_product, bytes_of_coefficient, bytes_of_taking, IsShort, bytes_put}, Steps.{IsPairTaken}}
 use Rattle.calc_terms.specs.declared.kind.Kind.TheVariants as kind
 
 -- ---- new nodes

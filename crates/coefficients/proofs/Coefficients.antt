@@ -1,16 +1,12 @@
 -- Laws of the coefficient of a reduced tree, of its part, and of the two put together.
-use Rattle.coefficients.proofs.Shared.{names_of-append, true≢false, ◌≡◌, ◌≢◌, ℕ, ◌⊎◌, inl, inr, ◌++◌, List, Bool, true, false, if◌then◌else◌, refl, sym, ap, ◌∙◌, subst, arith, append-nil}
-use Rattle.coefficients.proofs.Shared.{Contains, [], not_from_false, Fraction, zero_fraction, is_zero_fraction, is_one_fraction, has_coefficient, is_number, IsNumber, Split, split, split_product}
-use Rattle.coefficients.proofs.Shared.{num_one, product_tree, part_of, is_reduced, is_one_add, IsProductForm, IsSumForm, HasForm, Tree, num, add, mult, Trees, none, more, append, names, names_of}
-use Rattle.coefficients.proofs.Shared.{AllParts, is_add, is_undef, zero_is, zero_test, one_test, no_zero, number_test, keeps, coefficient_of, factors_of, spliced, rational_before}
-use Rattle.coefficients.proofs.Shared.{with_coefficient, IsMonic, rational_times_sum, Contains-append_right, one_not_zero, HasNoNewName, Reduces}
-use Rattle.coefficients.proofs.Factors.{no_split, AreFactors, factors_monic, factors_of_tree, monic_factors, monic_parts, monic_part, monic_no_number, tree_of_factors}
-use Rattle.coefficients.proofs.Forms.{one_is_one, reduced_parts, parts_reduced, parts_defined, own_form, number_parts}
-use Rattle.coefficients.proofs.Keeps.{coefficient_keeps, sum_names}
-use Rattle.coefficients.proofs.NumberMultiples.{IsFactor, not_one_is}
-use Rattle.coefficients.proofs.Splits.{IsCoefficient, Leads, in_front, IsSpread, put_together}
-use Rattle.coefficients.proofs.SumMultiples.{sum_form_multiple, parts_multiple, no_number_multiple}
-use Rattle.coefficients.proofs.TermMultiples.{factors_behind, spread_behind, irrational, rational}
+use Rattle.coefficients.proofs.Shared.{names_of-append, true≢false, ◌≡◌, ◌≢◌, ℕ, ◌⊎◌, inl, inr, ◌++◌, List, Bool, true, false, if◌then◌else◌, refl, sym, ap, ◌∙◌, subst, arith, append-nil, Contains}
+use Rattle.coefficients.proofs.Shared.{[], not_from_false, Fraction, zero_fraction, is_zero_fraction, is_one_fraction, has_coefficient, is_number, IsNumber, Split, split, split_product, num_one}
+use Rattle.coefficients.proofs.Shared.{product_tree, part_of, is_reduced, is_one_add, IsProductForm, IsSumForm, HasForm, Tree, num, add, mult, Trees, none, more, append, names, names_of, AllParts}
+use Rattle.coefficients.proofs.Shared.{is_add, is_undef, zero_is, zero_test, one_test, no_zero, number_test, keeps, coefficient_of, factors_of, spliced, rational_before, with_coefficient, IsMonic}
+use Rattle.coefficients.proofs.{Shared.{rational_times_sum, Contains-append_right, one_not_zero, HasNoNewName, Reduces}, Factors.{no_split, AreFactors, factors_monic, factors_of_tree, monic_factors}}
+use Rattle.coefficients.proofs.{Factors.{monic_parts, monic_part, monic_no_number, tree_of_factors}, Forms.{one_is_one, reduced_parts, parts_reduced, parts_defined, own_form, number_parts}}
+use Rattle.coefficients.proofs.{Keeps.{coefficient_keeps, sum_names}, NumberMultiples.{IsFactor, not_one_is}, Splits.{IsCoefficient, Leads, in_front, IsSpread, put_together}}
+use Rattle.coefficients.proofs.{SumMultiples.{sum_form_multiple, parts_multiple, no_number_multiple}, TermMultiples.{factors_behind, spread_behind, irrational, rational}}
 use Rattle.calc_algebra.proofs.NumberRewrites as lower
 
 -- the same coefficient as in the laws of meanings

@@ -1,7 +1,6 @@
 -- Facts of the bytes that are lacking where a call is refused, and the premises of these facts.
-use Rattle.coefficients.proofs.Shared.{◌≡◌, true, false, not, Result, ap, arith, IfErr, IsErrAnd, Fraction, is_zero_fraction, is_one_fraction, no_zero, Tree, add, is_add, Full, OfFull}
-use Rattle.coefficients.proofs.Shared.{children_of, NumberFault}
-use Rattle.coefficients.proofs.NumberMultiples.{IsFactor, not_one_is}
+use Rattle.coefficients.proofs.Shared.{◌≡◌, true, false, not, Result, ap, arith, IfErr, IsErrAnd, Fraction, is_zero_fraction, is_one_fraction, no_zero, Tree, add, is_add, Full, OfFull, children_of}
+use Rattle.coefficients.proofs.{Shared.{NumberFault}, NumberMultiples.{IsFactor, not_one_is}}
 use Rattle.tree_handles.specs.declared.fault.NumberFault.TheVariants as fault
 
 pub result_lacks : {A : Type 0} (r : Result A NumberFault) (P Q : Full → Type 0) → IfErr r (OfFull P) → ((g : Full) → P g → Q g) → IfErr r (OfFull Q)

@@ -1,9 +1,8 @@
 -- The rational or the sum that leads a product.
-use Rattle.coefficients.proofs.Shared.{◌≡◌, ℕ, ◌≤◌, [], ◌∷◌, true, false, refl, sym, ap, ◌∙◌, subst, arith, Fraction, times, is_one_fraction, is_number, product_tree, is_reduced, Tree, num, add}
-use Rattle.coefficients.proofs.Shared.{mult, Trees, none, more, count, root_kind, is_mult, State, tree_of, IsHanded, Ends, KeepsFront, nth, plain, children_of, IsExpression, Forest, kids}
-use Rattle.coefficients.proofs.Shared.{tree_nth, without_nth, tree_at, root_tree, without_root, put, Stands, forest, behind_first, front_same, front_at, front_put, given_rest, factors_of}
-use Rattle.coefficients.proofs.Shared.{rational_times, rational_times_factors, rational_times_number, rational_times_term, leads_sum, IsOver, over_put, over_same, IsAdded, expression, seen}
-use Rattle.coefficients.proofs.Shared.{IsTaken, taken}
+use Rattle.coefficients.proofs.Shared.{◌≡◌, ℕ, ◌≤◌, [], ◌∷◌, true, false, refl, sym, ap, ◌∙◌, subst, arith, Fraction, times, is_one_fraction, is_number, product_tree, is_reduced, Tree, num, add, mult}
+use Rattle.coefficients.proofs.Shared.{Trees, none, more, count, root_kind, is_mult, State, tree_of, IsHanded, Ends, KeepsFront, nth, plain, children_of, IsExpression, Forest, kids, tree_nth}
+use Rattle.coefficients.proofs.Shared.{without_nth, tree_at, root_tree, without_root, put, Stands, forest, behind_first, front_same, front_at, front_put, given_rest, factors_of, rational_times}
+use Rattle.coefficients.proofs.Shared.{rational_times_factors, rational_times_number, rational_times_term, leads_sum, IsOver, over_put, over_same, IsAdded, expression, seen, IsTaken, taken}
 use Rattle.coefficients.proofs.Lengths.{long}
 use Rattle.calc_terms.specs.declared.kind.Kind.TheVariants as kind
 

@@ -1,8 +1,7 @@
 -- Loops over the terms of a sum, each of which is rewritten in its place.
-use Rattle.coefficients.proofs.Shared.{◌≡◌, ℕ, zero, suc, ◌+◌, ◌≤◌, ◌<◌, refl, sym, ap, ◌∙◌, arith, true, AllPartsOf, ChangesTree, Forest, Gives, HasForm, IsHanded, KeepsRefusals, Stands, State}
-use Rattle.coefficients.proofs.Shared.{Tree, Trees, add, append, changes_after, changes_as, changes_free, changes_none, children_of, count, forest, free_of, given_told, is_add, inserted}
-use Rattle.coefficients.proofs.Shared.{is_reduced, mapped, more, mult, none, nth, plain, root_tree, set_child, set_tree, size, sizes, tree_of, removed}
-use Rattle.coefficients.proofs.Forms.{reduced_parts, parts_reduced}
+use Rattle.coefficients.proofs.Shared.{◌≡◌, ℕ, zero, suc, ◌+◌, ◌≤◌, ◌<◌, refl, sym, ap, ◌∙◌, arith, true, AllPartsOf, ChangesTree, Forest, Gives, HasForm, IsHanded, KeepsRefusals, Stands, State, Tree}
+use Rattle.coefficients.proofs.Shared.{Trees, add, append, changes_after, changes_as, changes_free, changes_none, children_of, count, forest, free_of, given_told, is_add, inserted, is_reduced, mapped}
+use Rattle.coefficients.proofs.{Shared.{more, mult, none, nth, plain, root_tree, set_child, set_tree, size, sizes, tree_of, removed}, Forms.{reduced_parts, parts_reduced}}
 
 -- ---- lists
 

@@ -1,8 +1,7 @@
 -- A rational times the terms of a Number.
 use Rattle.coefficients.proofs.Shared.{arith, ◌≡◌, ◌≢◌, ℕ, suc, ◌≤◌, [], ◌∷◌, length, Bool, true, false, if◌then◌else◌, refl, sym, ap, ◌∙◌, subst, Fraction, times, zero_fraction, one_fraction}
-use Rattle.coefficients.proofs.Shared.{is_one_fraction, IsNumber, IsTerm, AreTerms, IsBelowAll, Rises, term_of, terms_of, natural_of, product_tree, Term, Surd, term, term_scale, surd_scale, Tree}
-use Rattle.coefficients.proofs.Shared.{num, add, mult, root, Trees, none, more, one_is, product_not_zero, mapped, rational_times, rational_times_number, times_comm, one_times}
-use Rattle.coefficients.proofs.Forms.{one_is_one}
+use Rattle.coefficients.proofs.Shared.{is_one_fraction, IsNumber, IsTerm, AreTerms, IsBelowAll, Rises, term_of, terms_of, natural_of, product_tree, Term, Surd, term, term_scale, surd_scale, Tree, num}
+use Rattle.coefficients.proofs.{Shared.{add, mult, root, Trees, none, more, one_is, product_not_zero, mapped, rational_times, rational_times_number, times_comm, one_times}, Forms.{one_is_one}}
 
 -- a rational other than 0 and 1
 pub record IsFactor (q : Fraction) : Type 0 where

@@ -1,6 +1,5 @@
 -- The children of a root, and the roots that a call takes them to.
-use Rattle.coefficients.proofs.Shared.{◌≡◌, ℕ, ◌≤◌, arith, true, is_reduced, is_mult, plain, IsExpression, Forest, arity, tree_at, kids_of, children_number}
-use Rattle.coefficients.proofs.Lengths.{long}
+use Rattle.coefficients.proofs.{Shared.{◌≡◌, ℕ, ◌≤◌, arith, true, is_reduced, is_mult, plain, IsExpression, Forest, arity, tree_at, kids_of, children_number}, Lengths.{long}}
 
 -- ---- reading
 

@@ -2,9 +2,7 @@
 use Rattle.coefficients.proofs.Shared.{true≢false, ◌≡◌, ◌≢◌, ◌≤◌, ◌⊎◌, inl, inr, Bool, true, false, if◌then◌else◌, refl, sym, ap, ◌∙◌, subst, arith, Fraction, zero_fraction, one_fraction}
 use Rattle.coefficients.proofs.Shared.{has_coefficient, is_number, is_radicand, IsNumber, Split, split, split_product, num_one, product_tree, part_of, is_undistributed, is_one_add, NoneIs}
 use Rattle.coefficients.proofs.Shared.{IsFrontForm, IsProductForm, HasForm, Tree, num, add, mult, root, Trees, none, more, append, count, HasTwo, AllParts, AllPartsOf, is_num, is_add, is_mult}
-use Rattle.coefficients.proofs.Shared.{number_words, number_test, coefficient_of, factors_of, num_same}
-use Rattle.coefficients.proofs.Forms.{number_parts, AllPartsOf-append}
-use Rattle.coefficients.proofs.Factors.{spliced_split, none_leads, AreFactors}
+use Rattle.coefficients.proofs.{Shared.{number_words, number_test, coefficient_of, factors_of, num_same}, Forms.{number_parts, AllPartsOf-append}, Factors.{spliced_split, none_leads, AreFactors}}
 
 -- ---- a Number that is written in front
 

@@ -1,11 +1,10 @@
 -- Steps of calls on a root that is a product or a sum: a child is taken out, put in, and the root goes last.
 pub use Rattle.calc_terms.proofs.SmallFractions.{one_value}
-use Rattle.coefficients.proofs.Shared.{◌≡◌, ℕ, ◌≤◌, ◌∷◌, refl, sym, ap, ◌∙◌, subst, arith, true, [], pos, product_tree, is_reduced, num_one, Tree, num, mult, root, Trees, none, more, count}
-use Rattle.coefficients.proofs.Shared.{is_mult, size, State, tree_of, IsHanded, Represents, Ends, Gives, KeepsFront, plain, children_of, Forest, kids, tree_nth, without_nth, tree_at, root_tree}
-use Rattle.coefficients.proofs.Shared.{without_root, put, Stands, forest, behind_first, front_same, front_end, front_put, gives_as, given_told, given_root, ends_as, ends_at, ends_without}
-use Rattle.coefficients.proofs.Shared.{put-put, Rat, Fraction, ratio_of, value_of, whole, factors_of, coefficient_length, GivesTwo, LeavesRest, over_product, IsOver, taken, over_put, over_end}
-use Rattle.coefficients.proofs.Shared.{over_handed, over_gives, without_put, gives_put, gives_without, seen, other_plain}
-use Rattle.coefficients.proofs.Lengths.{measured, IsPairLed}
+use Rattle.coefficients.proofs.Shared.{◌≡◌, ℕ, ◌≤◌, ◌∷◌, refl, sym, ap, ◌∙◌, subst, arith, true, [], pos, product_tree, is_reduced, num_one, Tree, num, mult, root, Trees, none, more, count, is_mult}
+use Rattle.coefficients.proofs.Shared.{size, State, tree_of, IsHanded, Represents, Ends, Gives, KeepsFront, plain, children_of, Forest, kids, tree_nth, without_nth, tree_at, root_tree, without_root}
+use Rattle.coefficients.proofs.Shared.{put, Stands, forest, behind_first, front_same, front_end, front_put, gives_as, given_told, given_root, ends_as, ends_at, ends_without, put-put, Rat, Fraction}
+use Rattle.coefficients.proofs.Shared.{ratio_of, value_of, whole, factors_of, coefficient_length, GivesTwo, LeavesRest, over_product, IsOver, taken, over_put, over_end, over_handed, over_gives}
+use Rattle.coefficients.proofs.{Shared.{without_put, gives_put, gives_without, seen, other_plain}, Lengths.{measured, IsPairLed}}
 use Rattle.calc_terms.specs.declared.kind.Kind.TheVariants as kind
 
 pub product_factors : (t : Tree) → is_mult t ≡ true → t ≡ mult (factors_of t)

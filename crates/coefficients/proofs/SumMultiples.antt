@@ -1,10 +1,8 @@
 -- A rational times a reduced sum: a reduced sum of as many terms with the same parts, in the same order.
-use Rattle.coefficients.proofs.Shared.{true≢false, ◌≡◌, ◌≤◌, length, arith, ◌⊎◌, ◌∷◌, inl, inr, Bool, true, false, if◌then◌else◌, refl, sym, ap, ◌∙◌, subst, Fraction, is_number, is_term}
-use Rattle.coefficients.proofs.Shared.{IsNumber, IsTerm, AreTerms, Rises, terms_of, part_of, number_terms, other_terms, NoneIs, RisesBy, IsSumForm, HasForm, surd_scale, Tree, num, add, mult}
-use Rattle.coefficients.proofs.Shared.{root, Trees, none, more, HasTwo, AllPartsOf, is_add, term_words, number_test, number_words, mapped, rational_times_term, rational_times_sum, tree_cmp}
-use Rattle.coefficients.proofs.Forms.{term_parts, term_test, no_term, number_of_term}
-use Rattle.coefficients.proofs.NumberMultiples.{IsFactor, IsScaled, scaled, rises-scaled}
-use Rattle.coefficients.proofs.TermMultiples.{multiple}
+use Rattle.coefficients.proofs.Shared.{true≢false, ◌≡◌, ◌≤◌, length, arith, ◌⊎◌, ◌∷◌, inl, inr, Bool, true, false, if◌then◌else◌, refl, sym, ap, ◌∙◌, subst, Fraction, is_number, is_term, IsNumber}
+use Rattle.coefficients.proofs.Shared.{IsTerm, AreTerms, Rises, terms_of, part_of, number_terms, other_terms, NoneIs, RisesBy, IsSumForm, HasForm, surd_scale, Tree, num, add, mult, root, Trees, none}
+use Rattle.coefficients.proofs.Shared.{more, HasTwo, AllPartsOf, is_add, term_words, number_test, number_words, mapped, rational_times_term, rational_times_sum, tree_cmp}
+use Rattle.coefficients.proofs.{Forms.{term_parts, term_test, no_term, number_of_term}, NumberMultiples.{IsFactor, IsScaled, scaled, rises-scaled}, TermMultiples.{multiple}}
 
 -- each is a term of the Number, or a term behind it
 abbrev pub EachTerm : Trees → Type 0

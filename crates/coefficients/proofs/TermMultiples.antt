@@ -1,11 +1,9 @@
 -- A rational times a term of a reduced sum.
-use Rattle.coefficients.proofs.Shared.{true≢false, ◌≡◌, ◌≢◌, ◌≤◌, ◌⊎◌, inl, inr, Bool, true, false, not, if◌then◌else◌, refl, sym, ap, ◌∙◌, subst, arith, Fraction, times, zero_fraction}
-use Rattle.coefficients.proofs.Shared.{one_fraction, is_one_fraction, has_coefficient, is_number, IsNumber, Split, split, split_product, product_tree, part_of, is_undistributed, is_one_add}
-use Rattle.coefficients.proofs.Shared.{NoneIs, IsProductForm, HasForm, Tree, num, add, mult, root, Trees, none, more, append, count, HasTwo, AllParts, AllPartsOf, is_num, is_add, one_test}
-use Rattle.coefficients.proofs.Shared.{product_not_zero, number_test, factors_of, IsMonic, rational_times_number, rational_times_term}
-use Rattle.coefficients.proofs.Forms.{parts_reduced, parts_defined}
-use Rattle.coefficients.proofs.Factors.{no_split, AreFactors, factors_monic, monic_factors, monic_parts, monic_part, monic_no_number}
-use Rattle.coefficients.proofs.NumberMultiples.{IsFactor, number_scaled, not_one_is}
+use Rattle.coefficients.proofs.Shared.{true≢false, ◌≡◌, ◌≢◌, ◌≤◌, ◌⊎◌, inl, inr, Bool, true, false, not, if◌then◌else◌, refl, sym, ap, ◌∙◌, subst, arith, Fraction, times, zero_fraction, one_fraction}
+use Rattle.coefficients.proofs.Shared.{is_one_fraction, has_coefficient, is_number, IsNumber, Split, split, split_product, product_tree, part_of, is_undistributed, is_one_add, NoneIs, IsProductForm}
+use Rattle.coefficients.proofs.Shared.{HasForm, Tree, num, add, mult, root, Trees, none, more, append, count, HasTwo, AllParts, AllPartsOf, is_num, is_add, one_test, product_not_zero, number_test}
+use Rattle.coefficients.proofs.{Shared.{factors_of, IsMonic, rational_times_number, rational_times_term}, Forms.{parts_reduced, parts_defined}, Factors.{no_split, AreFactors, factors_monic}}
+use Rattle.coefficients.proofs.{Factors.{monic_factors, monic_parts, monic_part, monic_no_number}, NumberMultiples.{IsFactor, number_scaled, not_one_is}}
 use Rattle.coefficients.proofs.Splits.{IsCoefficient, Leads, in_front, IsSpread, put_together}
 
 -- ---- the factors behind a coefficient

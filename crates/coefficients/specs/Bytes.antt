@@ -1,12 +1,10 @@
 -- The bytes of the new nodes where a tree becomes a product, and where a coefficient is taken off.
 use Rattle.std.specs.Prelude.{ℕ, ◌==◌, ◌≡◌, if◌then◌else◌}
 use Rattle.calc_terms.specs.declared.kind.Kind.TheVariants as kind
-use Rattle.calc_terms.specs.Payload.{bare, size_of_payload}
-use Rattle.calc_terms.specs.Trees.{Tree, mult, Trees, size}
+use Rattle.calc_terms.specs.{Payload.{bare, size_of_payload}, Trees.{Tree, mult, Trees, size}}
 use Rattle.calc_algebra.specs.Reduced.{num_one}
 use Rattle.coefficients.specs.Coefficients.{coefficient_length}
-use Rattle.node_pool.specs.declared.full.Full.{Full}
-use Rattle.node_pool.specs.State.{State, free_of}
+use Rattle.node_pool.specs.{declared.full.Full.{Full}, State.{State, free_of}}
 use Rattle.tree_handles.specs.Standing.{LacksBytes, Refuses}
 
 -- a product over a tree that is none

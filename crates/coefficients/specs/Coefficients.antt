@@ -1,9 +1,8 @@
 -- The coefficient of a term, the part behind it, and the two put together.
 use Rattle.std.specs.Prelude.{ℕ, ◌-◌, ◌≡◌, true, false, if◌then◌else◌}
-use Rattle.calc_terms.specs.Fractions.{Fraction, zero_fraction, is_zero_fraction, is_one_fraction}
+use Rattle.calc_terms.specs.{Fractions.{Fraction, zero_fraction, is_zero_fraction, is_one_fraction}, Trees.{Tree, num, add, mult, Trees, none, more, append, count, is_undef}}
 use Rattle.calc_measures.specs.Loads.{has_coefficient}
 use Rattle.calc_algebra.specs.Reduced.{split_product, num_one, is_reduced}
-use Rattle.calc_terms.specs.Trees.{Tree, num, add, mult, Trees, none, more, append, count, is_undef}
 use Rattle.coefficients.specs.Multiples.{rational_times_sum}
 
 -- a term's leading Number, 1 where none is written

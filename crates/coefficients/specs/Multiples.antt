@@ -1,9 +1,7 @@
 -- A rational, neither 0 nor 1, times a term or a sum.
 use Rattle.std.specs.Prelude.{Bool, false, if◌then◌else◌}
-use Rattle.calc_terms.specs.Fractions.{Fraction, times, is_one_fraction}
-use Rattle.calc_algebra.specs.Numbers.{is_number}
-use Rattle.calc_algebra.specs.Reduced.{product_tree}
-use Rattle.calc_terms.specs.Trees.{Tree, num, add, mult, Trees, none, more}
+use Rattle.calc_terms.specs.{Fractions.{Fraction, times, is_one_fraction}, Trees.{Tree, num, add, mult, Trees, none, more}}
+use Rattle.calc_algebra.specs.{Numbers.{is_number}, Reduced.{product_tree}}
 
 -- each of the trees in another form
 abbrev pub mapped : (Tree → Tree) → Trees → Trees

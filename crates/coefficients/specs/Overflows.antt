@@ -1,11 +1,8 @@
 -- Which product does not fit where a rational is multiplied into terms.
 use Rattle.std.specs.Prelude.{◌≡◌, ◌⊎◌, true}
-use Rattle.calc_terms.specs.Fractions.{Fraction}
-use Rattle.calc_terms.specs.Rat.{value_of}
+use Rattle.calc_terms.specs.{Fractions.{Fraction}, Rat.{value_of}, Trees.{Tree, num, add, mult, Trees, none, more}}
 use Rattle.calc_algebra.specs.Numbers.{is_number}
-use Rattle.calc_terms.specs.Trees.{Tree, num, add, mult, Trees, none, more}
-use Rattle.rational128.specs.declared.overflow.Op.TheVariants.{Mul}
-use Rattle.rational128.specs.declared.overflow.Overflow.{Overflow}
+use Rattle.rational128.specs.{declared.overflow.Op.TheVariants.{Mul}, declared.overflow.Overflow.{Overflow}}
 
 -- a tree is this rational, or its first factor is
 abbrev pub Leads : Fraction → Tree → Type 0

@@ -1,9 +1,7 @@
 -- Answers of two trees, and a tree that is taken out of a product.
 use Rattle.std.specs.Prelude.{ℕ, ◌≡◌}
 use Rattle.calc_terms.specs.Trees.{Tree, Trees}
-use Rattle.tree_handles.specs.Forest.{Forest}
-use Rattle.tree_handles.specs.Handed.{Represents, Gives}
-use Rattle.tree_handles.specs.Roots.{put}
+use Rattle.tree_handles.specs.{Forest.{Forest}, Handed.{Represents, Gives}, Roots.{put}}
 
 -- two new trees stand last, the first before the second, behind the others as they were; and what each is
 pub record GivesTwo (others new : Forest) (first second : ℕ) (First Second : Tree → Type 0) : Type 0 where

@@ -1,7 +1,6 @@
 -- For how few bytes a coefficient is not put back.
 use Rattle.std.specs.Prelude.{ℕ, ◌+◌, ◌*◌, ◌^◌, ◌<◌, List, length}
-use Rattle.tree_handles.specs.Lacking.{OfFull}
-use Rattle.tree_handles.specs.declared.fault.NumberFault.{NumberFault}
+use Rattle.tree_handles.specs.{Lacking.{OfFull}, declared.fault.NumberFault.{NumberFault}}
 use Rattle.tree_room.specs.Needs.{tree_bytes}
 
 -- the bytes of a reduced part that counts c and of a Number, where m products of radicands may be chosen

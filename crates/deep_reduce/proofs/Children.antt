@@ -1,7 +1,9 @@
 -- A child of a power or of a product that is taken out, reduced and put back.
 use Rattle.std.proofs.Common.{◌≡◌, ℕ, ◌<◌, refl, sym, ap, ◌∙◌, subst, arith, true, false, [], ◌∷◌, ◌+◌, ◌*◌}
-use Rattle.deep_reduce.proofs.Shared.{Tree, power, count, set_tree, base_in, exponent_in, nth, plain, children_of, Forest, IsHanded, Gives, root_tree, gives_as, KeepsFront, without_root, behind_first, behind_new, front_same, front_without, front_after_one, given_rest, Kind, nest_of, weight, load_of_factors, mult, root_kind, is_mult, expression, seen, nest_of_rewritten, weight_below, IsNested, IsUnfinished, IsMultiplied, IsLifted, State, tree_of, IsExpression, tree_at, Stands, forest, given_told, set_child, arity, kids_of, handed_arity}
-use Rattle.deep_reduce.proofs.Measures.{of_product, of_exponent, exponents_fall, rank}
+use Rattle.deep_reduce.proofs.Shared.{Tree, power, count, set_tree, base_in, exponent_in, nth, plain, children_of, Forest, IsHanded, Gives, root_tree, gives_as, KeepsFront, without_root, behind_first}
+use Rattle.deep_reduce.proofs.Shared.{behind_new, front_same, front_without, front_after_one, given_rest, Kind, nest_of, weight, load_of_factors, mult, root_kind, is_mult, expression, seen}
+use Rattle.deep_reduce.proofs.Shared.{nest_of_rewritten, weight_below, IsNested, IsUnfinished, IsMultiplied, IsLifted, State, tree_of, IsExpression, tree_at, Stands, forest, given_told, set_child}
+use Rattle.deep_reduce.proofs.{Shared.{arity, kids_of, handed_arity}, Measures.{of_product, of_exponent, exponents_fall, rank}}
 
 -- ---- powers
 

@@ -1,13 +1,13 @@
 -- What holds of sums and products alike, and of differences and quotients.
 use Rattle.std.proofs.Common.{◌≡◌, ◌+◌, ◌*◌, ◌^◌, ◌<◌, ◌≤◌, ℕ, List, length, negsuc, true, false, refl, sym, ap, arith, ℤ, to_z, of_z}
-use Rattle.std.specs.Int.{w128}
-use Rattle.std.specs.Prelude.{nat_abs}
-use Rattle.deep_reduce.proofs.Shared.{Connective, kind_of, neutral_of, joined_by, of_sides, turned, joined_room, turned_room, number_limit, Trees, Tree, num, none, more, children_of, count, whole_fraction, IsNodeAnswer, IsNodeOverflow, takes_kind, is_reduced, SpansTree, size_of_payload, bare, size, sizes, nth, counted, Fraction, fraction_fits, has_undef, HasNodesFor, IsCalmAtZero, is_sub, is_div, simple_room, KeepsNodeRoom, node_count, HoldsNode, AreFewBits, IsFactorHeld, holds_whole, Overflow, one_fraction, zero_fraction}
-use Rattle.deep_reduce.proofs.Steps.{two, empty_sum_answer, empty_product_answer, sub_answer, sub_overflow, opposite_overflow}
-use Rattle.deep_reduce.proofs.Quotients.{div_answer, div_overflow, inverse_overflow}
-use Rattle.deep_reduce.proofs.Told.{answer_at, two_reduced}
-use Rattle.node_bounds.proofs.NodeBits.{difference_right, two_factors, two_terms}
-use Rattle.node_bounds.proofs.NodeBytes.{AreSides, no_factors, difference_sides, quotient_sides, difference_keeps, quotient_keeps, difference_fits, quotient_fits, inverse_lacks, opposite_lacks, right_inverse_lacks, right_opposite_lacks, sum_node_lacks, product_node_lacks}
+use Rattle.std.specs.{Int.{w128}, Prelude.{nat_abs}}
+use Rattle.deep_reduce.proofs.Shared.{Connective, kind_of, neutral_of, joined_by, of_sides, turned, joined_room, turned_room, number_limit, Trees, Tree, num, none, more, children_of, count}
+use Rattle.deep_reduce.proofs.Shared.{whole_fraction, IsNodeAnswer, IsNodeOverflow, takes_kind, is_reduced, SpansTree, size_of_payload, bare, size, sizes, nth, counted, Fraction, fraction_fits}
+use Rattle.deep_reduce.proofs.Shared.{has_undef, HasNodesFor, IsCalmAtZero, is_sub, is_div, simple_room, KeepsNodeRoom, node_count, HoldsNode, AreFewBits, IsFactorHeld, holds_whole, Overflow}
+use Rattle.deep_reduce.proofs.{Shared.{one_fraction, zero_fraction}, Steps.{two, empty_sum_answer, empty_product_answer, sub_answer, sub_overflow, opposite_overflow}}
+use Rattle.deep_reduce.proofs.{Quotients.{div_answer, div_overflow, inverse_overflow}, Told.{answer_at, two_reduced}}
+use Rattle.node_bounds.proofs.{NodeBits.{difference_right, two_factors, two_terms}, NodeBytes.{AreSides, no_factors, difference_sides, quotient_sides, difference_keeps, quotient_keeps}}
+use Rattle.node_bounds.proofs.NodeBytes.{difference_fits, quotient_fits, inverse_lacks, opposite_lacks, right_inverse_lacks, right_opposite_lacks, sum_node_lacks, product_node_lacks}
 use Rattle.deep_reduce.specs.declared.connective.Connective.TheVariants as connective
 
 -- ---- sums and products

@@ -1,13 +1,8 @@
 -- The measure falls at each call.
 use Rattle.std.proofs.Common.{◌≡◌, ℕ, ◌≤◌, ◌<◌, true, ap, arith}
-use Rattle.deep_reduce.proofs.Shared.{nest, weight, load_of_factors, Tree, add, power, Trees, is_mult, nest_over, nest_of_joint, IsLess, IsSummed, are_reduced, base_in, exponent_in, IsGathered, IsPairAt, nth, children_of}
-use Rattle.deep_reduce.proofs.Finished.{IsReadyProduct, IsReadyPower}
-use Rattle.deep_reduce.proofs.Measures.{of_product, of_pairs, of_two, of_power, of_joint, of_powers, of_exponent, of_rewritten, rank_second}
-use Rattle.deep_reduce.proofs.Heavy.{over_power}
-use Rattle.deep_reduce.proofs.Opened.{IsOpened}
-use Rattle.deep_reduce.proofs.Rows.{IsPowerOf}
-use Rattle.deep_reduce.proofs.Joined.{pair_loaded}
-use Rattle.deep_reduce.proofs.Settled.{IsPairJoined, joint_less}
+use Rattle.deep_reduce.proofs.Shared.{nest, weight, load_of_factors, Tree, add, power, Trees, is_mult, nest_over, nest_of_joint, IsLess, IsSummed, are_reduced, base_in, exponent_in, IsGathered}
+use Rattle.deep_reduce.proofs.{Shared.{IsPairAt, nth, children_of}, Finished.{IsReadyProduct, IsReadyPower}, Measures.{of_product, of_pairs, of_two, of_power, of_joint, of_powers, of_exponent}}
+use Rattle.deep_reduce.proofs.{Measures.{of_rewritten, rank_second}, Heavy.{over_power}, Opened.{IsOpened}, Rows.{IsPowerOf}, Joined.{pair_loaded}, Settled.{IsPairJoined, joint_less}}
 
 pub joint_falls : (t u : Tree) (at : ℕ) → IsPairJoined at (children_of t) u → of_joint at u < of_two t
 joint_falls t u at j = let h = joint_less at (children_of t) u j in rank_second _ _ _ _ h.nests (omega (arith, h.weighs))

@@ -1,29 +1,23 @@
 -- What nodes over rationals reduce to, where their values fit.
-use Rattle.std.proofs.Common.{◌≡◌, ◌≢◌, ◌<◌, ◌↔◌, Bool, Option, Some, None, Result, ◌+◌, ◌≤◌, ◌++◌, ℕ, ℤ, negsuc, true, false, not, refl, sym, ap, ◌∙◌, subst, arith}
-use Rattle.std.specs.Prelude.{IfOk, IfSome, IsErr, Ok, Err}
-use Rattle.std.proofs.lemmas.Nat.{mul-le}
-use Rattle.std.specs.Result.{result_ok}
+use Rattle.std.proofs.{Common.{◌≡◌, ◌≢◌, ◌<◌, ◌↔◌, Bool, Option, Some, None, Result, ◌+◌, ◌≤◌, ◌++◌, ℕ, ℤ, negsuc, true, false, not, refl, sym, ap, ◌∙◌, subst, arith}, lemmas.Nat.{mul-le}}
+use Rattle.std.specs.{Prelude.{IfOk, IfSome, IsErr, Ok, Err}, Result.{result_ok}}
 use Rattle.calc_terms.specs.declared.kind.Kind.TheVariants as kind
-use Rattle.rational128.proofs.LowestTerms.{ratio_parts}
-use Rattle.rational128.proofs.Products.{parts_fit}
+use Rattle.rational128.proofs.{LowestTerms.{ratio_parts}, Products.{parts_fit}}
 use Rattle.calc_terms.specs.declared.rat.Rat.{Rat}
-use Rattle.deep_reduce.proofs.Shared.{Fraction, HasNodesFor, simple_room, Overflow, ratio_of, children_of, root_kind, count, nth, value_of, Tree, num, add, mult, power, neg, sub, div, Trees, none, more, value, Surd, negative, inverse, minus_one_fraction, one_fraction, zero_fraction, whole_fraction, is_zero_fraction, fraction_fits, add_op, mul_op, calculated, exactly, plain_value, powered, PlainValue, IsPlainAnswer, IsNodeAnswer, Reduces, keeps, number_reduced, lacks_power, HoldsNode, HoldsPower, AreFactorsHeld, is_half_num, whole_no_half, whole_is, holds_whole, holds_half, holds_kept, IsFactorHeld, raised_high, raised_low, whole_numerator, whole_denominator, is_number}
+use Rattle.deep_reduce.proofs.Shared.{Fraction, HasNodesFor, simple_room, Overflow, ratio_of, children_of, root_kind, count, nth, value_of, Tree, num, add, mult, power, neg, sub, div, Trees, none}
+use Rattle.deep_reduce.proofs.Shared.{more, value, Surd, negative, inverse, minus_one_fraction, one_fraction, zero_fraction, whole_fraction, is_zero_fraction, fraction_fits, add_op, mul_op}
+use Rattle.deep_reduce.proofs.Shared.{calculated, exactly, plain_value, powered, PlainValue, IsPlainAnswer, IsNodeAnswer, Reduces, keeps, number_reduced, lacks_power, HoldsNode, HoldsPower}
+use Rattle.deep_reduce.proofs.Shared.{AreFactorsHeld, is_half_num, whole_no_half, whole_is, holds_whole, holds_half, holds_kept, IsFactorHeld, raised_high, raised_low, whole_numerator}
+use Rattle.deep_reduce.proofs.Shared.{whole_denominator, is_number}
 use Rattle.calc_algebra.proofs.MeaningRewrites as rewrites
 use Rattle.calc_algebra.proofs.NumberRewrites.{sum_of_numbers, product_of_rationals, negative_power_of_rational}
 use Rattle.calc_algebra.specs.Surds.{surd_times}
 use Rattle.calc_terms.proofs.FractionFacts.{no_zero}
 use Rattle.calc_measures.proofs.Inverses.{inverse_value, times_minus_one}
-use Rattle.calc_terms.specs.Fits.{Operation, operation_fits, result_of, sum_fits}
-use Rattle.calc_terms.specs.FractionLaws.{one_times, times_comm}
-use Rattle.calc_terms.specs.Fractions.{plus, times}
-use Rattle.deep_reduce.proofs.Quotients.{div_answer}
-use Rattle.deep_reduce.proofs.Steps.{two, no_names, neg_answer, product_value, sub_answer}
-use Rattle.node_bounds.proofs.Clashes.{contrary, rational_number}
-use Rattle.node_bounds.proofs.HeldFactors.{factor_wider}
-use Rattle.node_bounds.proofs.NodeRooms.{number_room}
-use Rattle.number_forms.proofs.Shared.{IsHeld, held_times, no_larger}
-use Rattle.number_forms.proofs.RationalBits.{product_parts, sum_parts}
-use Rattle.number_forms.proofs.RationalCalls.{plain_answer, rational_over, rational_product, rational_sum, num_same}
+use Rattle.calc_terms.specs.{Fits.{Operation, operation_fits, result_of, sum_fits}, FractionLaws.{one_times, times_comm}, Fractions.{plus, times}}
+use Rattle.deep_reduce.proofs.{Quotients.{div_answer}, Steps.{two, no_names, neg_answer, product_value, sub_answer}}
+use Rattle.node_bounds.proofs.{Clashes.{contrary, rational_number}, HeldFactors.{factor_wider}, NodeRooms.{number_room}}
+use Rattle.number_forms.proofs.{Shared.{IsHeld, held_times, no_larger}, RationalBits.{product_parts, sum_parts}, RationalCalls.{plain_answer, rational_over, rational_product, rational_sum, num_same}}
 use Rattle.number_forms.specs.Answers.{IsNumberOver}
 use Rattle.power_reduce.proofs.HeldPowers.{number_power_held, rational_power_held}
 use Rattle.product_reduce.proofs.HeldNumbers.{alone_held, number_as_factor, value_held}

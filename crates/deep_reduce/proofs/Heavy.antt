@@ -1,8 +1,7 @@
 -- How much reduced trees weigh at least, and how Numbers and powers nest.
 use Rattle.std.proofs.Common.{◌≡◌, ◌≤◌, Bool, true, false, refl, arith, ◌<◌, ◌&&◌, max}
 use Rattle.deep_reduce.proofs.Shared.{weight, is_number, is_reduced, base_of, Tree, power, none, more, load_number, and_parts, nest, nest_of, load_of_factors, are_numbers, Trees, nest_over}
-use Rattle.calc_measures.proofs.Nests.{nest_number}
-use Rattle.calc_measures.proofs.Weights.{heavy, numbers_nest, to_number, to_other, exponent_nest}
+use Rattle.calc_measures.proofs.{Nests.{nest_number}, Weights.{heavy, numbers_nest, to_number, to_other, exponent_nest}}
 use Rattle.node_bounds.proofs.Clashes.{base_reduced}
 pub use Rattle.power_reduce.proofs.Weights.{factor_load}
 

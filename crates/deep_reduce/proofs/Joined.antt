@@ -1,11 +1,11 @@
 -- Factors of reduced trees before and after a joining: their loads and nests.
 use Rattle.std.proofs.Common.{◌≡◌, ℕ, zero, suc, ◌+◌, ◌≤◌, true, false, refl, ◌∙◌, arith, inl, inr, subst}
-use Rattle.deep_reduce.proofs.Shared.{and_parts, nest_of, weight, load_of_factor, load_of_factors, is_number, are_numbers, base_of, are_reduced, Tree, mult, Trees, none, more, append, is_mult, number_test, number_words, factors_of, nest_of_joint, opened, others_in, is_partner, IsPairAt, joined_pair, not-true, one_base, Contains-append_left, Contains-append_right, Contains-append_cases, names, names_of, Rewrites, KeepsMeanings-product_more, keeps, kept, Rewrites-refl, joint, joined, partners_of_pair}
-use Rattle.deep_reduce.proofs.Heavy.{heavy_base}
-use Rattle.deep_reduce.proofs.Joints.{transparent_exponent, joint_load, joint_nest, joint_below}
+use Rattle.deep_reduce.proofs.Shared.{and_parts, nest_of, weight, load_of_factor, load_of_factors, is_number, are_numbers, base_of, are_reduced, Tree, mult, Trees, none, more, append, is_mult}
+use Rattle.deep_reduce.proofs.Shared.{number_test, number_words, factors_of, nest_of_joint, opened, others_in, is_partner, IsPairAt, joined_pair, not-true, one_base, Contains-append_left}
+use Rattle.deep_reduce.proofs.Shared.{Contains-append_right, Contains-append_cases, names, names_of, Rewrites, KeepsMeanings-product_more, keeps, kept, Rewrites-refl, joint, joined, partners_of_pair}
+use Rattle.deep_reduce.proofs.{Heavy.{heavy_base}, Joints.{transparent_exponent, joint_load, joint_nest, joint_below}}
 use Rattle.calc_algebra.proofs.Names.{no_new_name}
-use Rattle.product_reduce.proofs.Joined.{joined_keeps}
-use Rattle.product_reduce.proofs.NoNewNames.{names_joined}
+use Rattle.product_reduce.proofs.{Joined.{joined_keeps}, NoNewNames.{names_joined}}
 
 -- ---- factors opened, without their Numbers
 

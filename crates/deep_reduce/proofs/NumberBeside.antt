@@ -2,11 +2,8 @@
 use Rattle.calc_room.proofs.NumberBytes.{num_bytes}
 use Rattle.coefficients.proofs.Free.{number_refused}
 use Rattle.deep_reduce.proofs.Sides.{apart_second}
-use Rattle.tree_handles.proofs.FreeBytes.{refused_below}
-use Rattle.tree_handles.proofs.Fronts.{behind_first, behind_new, front_after, front_after_two, front_end, front_same}
-use Rattle.tree_handles.proofs.Given.{given_apart, given_handed, given_told}
-use Rattle.tree_handles.proofs.Outcomes.{passed_on}
-use Rattle.tree_handles.proofs.Room.{given_free}
+use Rattle.tree_handles.proofs.{FreeBytes.{refused_below}, Fronts.{behind_first, behind_new, front_after, front_after_two, front_end, front_same}, Given.{given_apart, given_handed, given_told}}
+use Rattle.tree_handles.proofs.{Outcomes.{passed_on}, Room.{given_free}}
 
 pub ruleset number_beside = (
   front_after,

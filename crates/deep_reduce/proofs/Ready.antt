@@ -1,16 +1,13 @@
 -- A node over the answers of its children, from the tree as it was.
 use Rattle.std.proofs.Common.{◌≡◌, ℕ, true, Ok, Err, Result, refl, sym, arith, IfErr, List, length, ◌^◌, ◌+◌, false, ◌<◌, Bool, if◌then◌else◌, ap, inl, inr, nat_le}
-use Rattle.deep_reduce.proofs.Shared.{eqb-true, is_reduced, are_reduced, is_half_num, Tree, num, symbol, undef, Trees, none, more, count, nodes, nodes_of, root_size, sizes, has_undef, AreFewBits, HoldsNode, HasNodesFor, SpansNode, IsNodeAnswer, IsNodeOverflow, IsReducedFrom, MayLack, MayOverflow, IsCalmAtZero, SpansRootOf, LacksBelow, OfFull, base_in, exponent_in, Overflow, IsNext, is_leaf, nth, children_of, IfOverflow, NumberFault, simple_room, all_written_bytes, and_from, leb-true, leb-false, all_simple, high, low, bits, most_bits, unbounded_bits, append, cases_Bool, bits_limit}
-use Rattle.deep_reduce.proofs.ChildRooms.{all_small, child_room, node_lacks}
-use Rattle.deep_reduce.proofs.NodeAnswers.{node_answered}
+use Rattle.deep_reduce.proofs.Shared.{eqb-true, is_reduced, are_reduced, is_half_num, Tree, num, symbol, undef, Trees, none, more, count, nodes, nodes_of, root_size, sizes, has_undef, AreFewBits}
+use Rattle.deep_reduce.proofs.Shared.{HoldsNode, HasNodesFor, SpansNode, IsNodeAnswer, IsNodeOverflow, IsReducedFrom, MayLack, MayOverflow, IsCalmAtZero, SpansRootOf, LacksBelow, OfFull, base_in}
+use Rattle.deep_reduce.proofs.Shared.{exponent_in, Overflow, IsNext, is_leaf, nth, children_of, IfOverflow, NumberFault, simple_room, all_written_bytes, and_from, leb-true, leb-false, all_simple}
+use Rattle.deep_reduce.proofs.{Shared.{high, low, bits, most_bits, unbounded_bits, append, cases_Bool, bits_limit}, ChildRooms.{all_small, child_room, node_lacks}, NodeAnswers.{node_answered}}
 use Rattle.deep_reduce.proofs.NodeRewrites.{AreReducedFrom, IsOver, over_number, over_symbol, over_undef, over_sum, over_product, over_power, over_root, over_neg, over_sub, over_div}
-use Rattle.deep_reduce.proofs.Overflowing.{first_overflow, last_overflow}
-use Rattle.deep_reduce.proofs.PlainNodes.{child_overflow, overflowed_plain}
-use Rattle.deep_reduce.proofs.Steps.{number_answer, symbol_answer, undef_answer}
-use Rattle.reduce_walk.proofs.Bytes.{root_over}
+use Rattle.deep_reduce.proofs.{Overflowing.{first_overflow, last_overflow}, PlainNodes.{child_overflow, overflowed_plain}, Steps.{number_answer, symbol_answer, undef_answer}, TreeBits.{holds_over}}
+use Rattle.reduce_walk.proofs.{Bytes.{root_over}, Bits.{child_bits, own_bits}}
 use Rattle.reduce_walk.specs.Answers.{IsOver as IsOverAnswers}
-use Rattle.deep_reduce.proofs.TreeBits.{holds_over}
-use Rattle.reduce_walk.proofs.Bits.{child_bits, own_bits}
 use Rattle.tree_handles.specs.declared.fault.NumberFault.TheVariants as number
 
 -- ---- leaves

@@ -1,6 +1,7 @@
 -- What calls on numbers return, in other words.
 use Rattle.std.proofs.Common.{arith, ◌≡◌, ℕ, List, Result, Ok, Err, refl, sym, subst, IfOk, IfErr, IsErr, IsErrAnd}
-use Rattle.deep_reduce.proofs.Shared.{PlainValue, SpansTree, Tree, gives_itself, State, IfOverflow, OfOverflow, Overflow, IsPlainAnswer, IsPlainOverflow, gives_as, last_tree, Forest, tree_of, Gives, forest, NumberFault}
+use Rattle.deep_reduce.proofs.Shared.{PlainValue, SpansTree, Tree, gives_itself, State, IfOverflow, OfOverflow, Overflow, IsPlainAnswer, IsPlainOverflow, gives_as, last_tree, Forest, tree_of, Gives}
+use Rattle.deep_reduce.proofs.Shared.{forest, NumberFault}
 use Rattle.number_forms.specs.Answers.{AnswersRationals}
 
 -- an answer, with what is said of it where the operands are rationals

@@ -1,14 +1,15 @@
 -- A product whose joint is reduced in its place.
 use Rattle.std.proofs.Common.{◌≡◌, ℕ, zero, suc, ◌+◌, ◌≤◌, ◌<◌, inl, inr, true, false, refl, sym, ap, ◌∙◌, subst, arith, add-one, Option, MatchOption, IfSome}
-use Rattle.deep_reduce.proofs.Shared.{and_parts, Contains-append_left, Contains-append_right, Contains-append_cases, nest, nest_of, weight, load_of_factor, load_of_factors, is_reduced, is_opaque_exponent, base_of, are_reduced, Tree, add, mult, power, Trees, none, more, count, is_mult, names, KeepsMeanings-refl, KeepsMeanings-power, IsReducedProduct, IsReducedPower, nest_of_joint, set_tree, Joins, joins_gathered, joins_pair, joins_then, HandsOn, IsLess, IsSummed, IsSettled, removed, base_in, exponent_in, AreJoinable, IsFinished, IsGathered, exponent_of, have_partners, IsJointAt, IsNextPair, IsPairAt, NoPairBetween, joined_pair, joint_there, neighbours_joint, Rewrites, keeps, kept, Rewrites-refl, Rewrites-trans, rewrites_of, reduces_after, IsSumAnswer, nth, children_of, load_product, base_is_reduced, exponent_is_reduced, KeepsSumBounds, KeepsProductBounds}
-use Rattle.node_bounds.proofs.Clashes.{contrary, undef_words}
-use Rattle.deep_reduce.proofs.Heavy.{factor_load, over_power}
-use Rattle.calc_measures.proofs.Weights.{some_weight}
-use Rattle.deep_reduce.proofs.Joined.{JointsBelow, IsLessLoaded, pair_loaded, numbers_opened, factors_rewritten, pair_rewritten}
-use Rattle.node_bounds.proofs.JointRooms.{settled_hands_on, hands_on_next, keeps_next, finished_keeps}
-use Rattle.node_bounds.proofs.HeldJoints.{first_reduced, settled_held}
+use Rattle.deep_reduce.proofs.Shared.{and_parts, Contains-append_left, Contains-append_right, Contains-append_cases, nest, nest_of, weight, load_of_factor, load_of_factors, is_reduced}
+use Rattle.deep_reduce.proofs.Shared.{is_opaque_exponent, base_of, are_reduced, Tree, add, mult, power, Trees, none, more, count, is_mult, names, KeepsMeanings-refl, KeepsMeanings-power}
+use Rattle.deep_reduce.proofs.Shared.{IsReducedProduct, IsReducedPower, nest_of_joint, set_tree, Joins, joins_gathered, joins_pair, joins_then, HandsOn, IsLess, IsSummed, IsSettled, removed, base_in}
+use Rattle.deep_reduce.proofs.Shared.{exponent_in, AreJoinable, IsFinished, IsGathered, exponent_of, have_partners, IsJointAt, IsNextPair, IsPairAt, NoPairBetween, joined_pair, joint_there}
+use Rattle.deep_reduce.proofs.Shared.{neighbours_joint, Rewrites, keeps, kept, Rewrites-refl, Rewrites-trans, rewrites_of, reduces_after, IsSumAnswer, nth, children_of, load_product, base_is_reduced}
+use Rattle.deep_reduce.proofs.{Shared.{exponent_is_reduced, KeepsSumBounds, KeepsProductBounds}, Heavy.{factor_load, over_power}, Joined.{JointsBelow, IsLessLoaded, pair_loaded, numbers_opened}}
+use Rattle.deep_reduce.proofs.{Joined.{factors_rewritten, pair_rewritten}, Joints.{transparent_exponent, joint_load, reduced_joint}}
+use Rattle.node_bounds.proofs.{Clashes.{contrary, undef_words}, JointRooms.{settled_hands_on, hands_on_next, keeps_next, finished_keeps}, HeldJoints.{first_reduced, settled_held}}
 use Rattle.node_bounds.proofs.ProductCounts.{product_counts, product_joins_none}
-use Rattle.deep_reduce.proofs.Joints.{transparent_exponent, joint_load, reduced_joint}
+use Rattle.calc_measures.proofs.Weights.{some_weight}
 use Rattle.product_reduce.specs.Joining.{joint as joint_of}
 
 -- ---- rewritings inside a tree

@@ -1,6 +1,8 @@
 -- Two trees taken from a node, or made, and put under a new one.
 use Rattle.std.proofs.Common.{rules, ◌≡◌, ℕ, eqb, false, [], ◌∷◌, ap, ◌∙◌, ◌+◌, arith}
-use Rattle.deep_reduce.proofs.Shared.{Tree, Trees, Kind, GivesSides, behind_first, behind_later, behind_new, front_same, front_at, front_end, front_without, front_after_one, front_after_two, given_handed, given_told, given_rest, given_same, given_apart, given_without, handed_at, eqb-sym, nth, plain, compound, Forest, IsHanded, Gives, KeepsFront, root_tree, without_root, size, bytes_in, bytes_in-join, size-plain, last_tree, State, Stands, forest, KeepsRefusals, free_of, tree_of, used_forest, handed_bytes}
+use Rattle.deep_reduce.proofs.Shared.{Tree, Trees, Kind, GivesSides, behind_first, behind_later, behind_new, front_same, front_at, front_end, front_without, front_after_one, front_after_two}
+use Rattle.deep_reduce.proofs.Shared.{given_handed, given_told, given_rest, given_same, given_apart, given_without, handed_at, eqb-sym, nth, plain, compound, Forest, IsHanded, Gives, KeepsFront}
+use Rattle.deep_reduce.proofs.Shared.{root_tree, without_root, size, bytes_in, bytes_in-join, size-plain, last_tree, State, Stands, forest, KeepsRefusals, free_of, tree_of, used_forest, handed_bytes}
 use Rattle.deep_reduce.proofs.Steps.{two}
 
 -- ---- a new tree and one that was handed

@@ -1,13 +1,10 @@
 -- Sums and products as one thing, and differences and quotients as sums and products of two.
 use Rattle.std.specs.Prelude.{ℕ, ℤ, pos, ◌+◌}
-use Rattle.calc_terms.specs.Fractions.{minus_one_fraction}
-use Rattle.calc_terms.specs.Trees.{Tree, num, power, neg, sub, div, Trees}
-use Rattle.calc_terms.specs.declared.kind.Kind.{Kind}
+use Rattle.calc_terms.specs.{Fractions.{minus_one_fraction}, Trees.{Tree, num, power, neg, sub, div, Trees}, declared.kind.Kind.{Kind}}
 use Rattle.deep_reduce.specs.declared.connective.Connective.{Connective}
 use Rattle.node_bounds.specs.NodeRooms.{factors_room}
 use Rattle.tree_handles.specs.Expressions.{compound}
-use Rattle.tree_room.specs.Handed.{sum_count}
-use Rattle.tree_room.specs.Needs.{sum_room, product_room, product_power_room}
+use Rattle.tree_room.specs.{Handed.{sum_count}, Needs.{sum_room, product_room, product_power_room}}
 use Rattle.calc_terms.specs.declared.kind.Kind.TheVariants as kind
 use Rattle.deep_reduce.specs.declared.connective.Connective.TheVariants as connective
 

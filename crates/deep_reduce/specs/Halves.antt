@@ -2,8 +2,7 @@
 use Rattle.std.specs.Prelude.{ℕ, List, ◌≡◌, false}
 use Rattle.calc_algebra.specs.Numbers.{value}
 use Rattle.calc_room.specs.Spans.{SpansTree}
-use Rattle.calc_terms.specs.Integers.{int_is_negative}
-use Rattle.calc_terms.specs.Trees.{Tree, power}
+use Rattle.calc_terms.specs.{Integers.{int_is_negative}, Trees.{Tree, power}}
 use Rattle.power_reduce.specs.PowerAnswers.{base_in, exponent_in}
 use Rattle.surd_bits.specs.Rooted.{IsNoLargerThanRoot}
 use Rattle.radical_forms.specs.RootAnswers.{argument_of, IfRational, IsRootAnswer}

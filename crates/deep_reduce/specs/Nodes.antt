@@ -1,21 +1,14 @@
 -- What a node over reduced children reduces to.
 use Rattle.std.specs.Prelude.{ℕ, ◌≡◌, Bool, true, false, ◌&&◌, ◌||◌}
-use Rattle.calc_terms.specs.Fractions.{minus_one_fraction}
-use Rattle.calc_algebra.specs.Numbers.{is_number, are_numbers}
-use Rattle.calc_measures.specs.PlainValues.{plain_value}
-use Rattle.calc_terms.specs.Trees.{Tree, num, undef, add, mult, power, root, neg, sub, div, is_num, is_undef, has_undef, are_rationals}
-use Rattle.calc_algebra.specs.Reduced.{is_half_num}
-use Rattle.node_bounds.specs.Answers.{lacks_power, is_number_power}
+use Rattle.calc_terms.specs.{Fractions.{minus_one_fraction}, Trees.{Tree, num, undef, add, mult, power, root, neg, sub, div, is_num, is_undef, has_undef, are_rationals}}
+use Rattle.calc_algebra.specs.{Numbers.{is_number, are_numbers}, Reduced.{is_half_num}, Rewritings.{Reduces}}
+use Rattle.calc_measures.specs.{PlainValues.{plain_value}, PlainTrees.{IsPlainAnswer, IsPlainOverflow}}
+use Rattle.node_bounds.specs.{Answers.{lacks_power, is_number_power}, NodeBits.{HoldsNode}, NodeRooms.{KeepsNodeRoom, node_count}, Rooms.{KeepsRootRoom}}
 use Rattle.reduce_walk.specs.Leaves.{is_leaf}
-use Rattle.node_bounds.specs.NodeBits.{HoldsNode}
 use Rattle.product_reduce.specs.Bits.{IsFactorHeld}
-use Rattle.node_bounds.specs.NodeRooms.{KeepsNodeRoom, node_count}
-use Rattle.node_bounds.specs.Rooms.{KeepsRootRoom}
 use Rattle.power_reduce.specs.PowerAnswers.{base_in, exponent_in}
 use Rattle.radical_forms.specs.RootAnswers.{has_no_root}
 use Rattle.rational128.specs.declared.overflow.Overflow.{Overflow}
-use Rattle.calc_measures.specs.PlainTrees.{IsPlainAnswer, IsPlainOverflow}
-use Rattle.calc_algebra.specs.Rewritings.{Reduces}
 use Rattle.tree_handles.specs.Expressions.{children_of}
 
 abbrev pub is_neg : Tree → Bool

@@ -1,9 +1,7 @@
 -- The two sides of a node.
 use Rattle.std.specs.Prelude.{ℕ, ◌≡◌}
 use Rattle.calc_terms.specs.Trees.{Trees}
-use Rattle.tree_handles.specs.Expressions.{nth}
-use Rattle.tree_handles.specs.Forest.{Forest}
-use Rattle.tree_handles.specs.Handed.{Gives}
+use Rattle.tree_handles.specs.{Expressions.{nth}, Forest.{Forest}, Handed.{Gives}}
 
 -- two trees stand last behind the others, the first of these and the second
 pub record GivesSides (ts : Trees) (others new : Forest) (left right : ℕ) : Type 0 where

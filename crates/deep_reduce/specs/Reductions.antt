@@ -1,21 +1,15 @@
 -- What is answered for a whole tree, and where its reduction may end without an answer.
 use Rattle.std.specs.Prelude.{ℕ, ◌≡◌, ◌≤◌, ◌<◌, true, false, List, length, Contains}
-use Rattle.calc_algebra.specs.BadAndEasy.{IsEasy}
-use Rattle.calc_algebra.specs.Meanings.{IsAssignment}
-use Rattle.calc_measures.specs.Measures.{all_simple, bits, high, low, room, roots}
-use Rattle.calc_room.specs.Counts.{counted}
-use Rattle.calc_room.specs.Spans.{SpansTree}
-use Rattle.calc_measures.specs.PlainOverflows.{is_overflow, nodes_to_overflow}
-use Rattle.calc_measures.specs.PlainValues.{plain_value}
-use Rattle.calc_terms.specs.Limits.{bits_limit}
-use Rattle.calc_terms.specs.Trees.{Tree, undef, is_undef, names, nodes}
+use Rattle.calc_algebra.specs.{BadAndEasy.{IsEasy}, Meanings.{IsAssignment}, Rewritings.{Reduces}}
+use Rattle.calc_measures.specs.{Measures.{all_simple, bits, high, low, room, roots}, PlainOverflows.{is_overflow, nodes_to_overflow}, PlainValues.{plain_value}}
+use Rattle.calc_measures.specs.PlainTrees.{IsPlainAnswer, IsPlainOverflow}
+use Rattle.calc_room.specs.{Counts.{counted}, Spans.{SpansTree}}
+use Rattle.calc_terms.specs.{Limits.{bits_limit}, Trees.{Tree, undef, is_undef, names, nodes}}
 use Rattle.reduce_walk.specs.Leaves.{is_leaf}
 use Rattle.rational128.specs.declared.overflow.Overflow.{Overflow}
 use Rattle.product_reduce.specs.Bits.{IsFactorHeld}
 use Rattle.tree_room.specs.Exponents.{IsCalm, zeros}
 use Rattle.reduce_port.specs.EasyTrees.{Evaluates, HasEasyBadPart}
-use Rattle.calc_measures.specs.PlainTrees.{IsPlainAnswer, IsPlainOverflow}
-use Rattle.calc_algebra.specs.Rewritings.{Reduces}
 
 -- the answer counts at most the nodes of the tree, is spanned by as many radicands as that has roots, and is calm where its names are 0
 pub record IsWithinTree (t answer : Tree) : Type 0 where

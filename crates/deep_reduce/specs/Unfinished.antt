@@ -1,23 +1,13 @@
 -- Trees after one rewriting, some of whose powers are still to be reduced, and bounds on what comes of them.
 use Rattle.std.specs.Prelude.{ℕ, ℤ, suc, ◌+◌, ◌≡◌, ◌≤◌, ◌<◌, max, true, false}
 use Rattle.calc_measures.specs.Loads.{nest, nest_of, load, load_of_factors, weight}
-use Rattle.calc_algebra.specs.Reduced.{is_reduced, is_opaque_exponent, are_reduced, base_of}
-use Rattle.calc_terms.specs.Fractions.{whole_fraction}
-use Rattle.calc_terms.specs.Trees.{Tree, num, add, mult, power, Trees, none, more, count}
-use Rattle.node_bounds.specs.HandedOn.{HandsOn}
-use Rattle.node_bounds.specs.Answers.{IsReducedPower}
-use Rattle.power_reduce.specs.Bits.{IsHeldAsPowerOf}
-use Rattle.node_bounds.specs.Rooms.{KeepsRoom, IsRewritten, power_count}
-use Rattle.power_reduce.specs.PowerAnswers.{base_in, exponent_in}
-use Rattle.product_reduce.specs.Answers.{IsFinished}
-use Rattle.product_reduce.specs.Gathering.{IsGathered}
-use Rattle.product_reduce.specs.Joining.{exponent_of}
-use Rattle.product_reduce.specs.Neighbours.{IsPairAt, joined_pair}
-use Rattle.calc_algebra.specs.Rewritings.{Rewrites, Reduces}
-use Rattle.sum_reduce.specs.Bounds.{KeepsSumBounds}
-use Rattle.sum_reduce.specs.SumAnswers.{IsSumAnswer}
-use Rattle.tree_handles.specs.Expressions.{nth, children_of}
-use Rattle.tree_handles.specs.Holes.{set_tree}
+use Rattle.calc_algebra.specs.{Reduced.{is_reduced, is_opaque_exponent, are_reduced, base_of}, Rewritings.{Rewrites, Reduces}}
+use Rattle.calc_terms.specs.{Fractions.{whole_fraction}, Trees.{Tree, num, add, mult, power, Trees, none, more, count}}
+use Rattle.node_bounds.specs.{HandedOn.{HandsOn}, Answers.{IsReducedPower}, Rooms.{KeepsRoom, IsRewritten, power_count}}
+use Rattle.power_reduce.specs.{Bits.{IsHeldAsPowerOf}, PowerAnswers.{base_in, exponent_in}}
+use Rattle.product_reduce.specs.{Answers.{IsFinished}, Gathering.{IsGathered}, Joining.{exponent_of}, Neighbours.{IsPairAt, joined_pair}}
+use Rattle.sum_reduce.specs.{Bounds.{KeepsSumBounds}, SumAnswers.{IsSumAnswer}}
+use Rattle.tree_handles.specs.{Expressions.{nth, children_of}, Holes.{set_tree}}
 
 -- ---- bounds
 

@@ -1,8 +1,7 @@
 -- The form of a tree by the kind of its root, and its children.
-use Rattle.dual_diff.proofs.Shared.{◌≡◌, ℕ, zero, suc, ◌+◌, ◌<◌, ◌≤◌, refl, sym, ap, ◌∙◌, arith, Tree, undef, root, div, Trees, none, more, append, count}
-use Rattle.dual_diff.proofs.Shared.{root_kind, nodes, nodes_of, size, sizes, nth, children_of, behind, first}
+use Rattle.dual_diff.proofs.Shared.{◌≡◌, ℕ, zero, suc, ◌+◌, ◌<◌, ◌≤◌, refl, sym, ap, ◌∙◌, arith, Tree, undef, root, div, Trees, none, more, append, count, root_kind, nodes, nodes_of, size, sizes, nth}
+use Rattle.dual_diff.proofs.Shared.{children_of, behind, first, ◌==◌, true, Kind, bare, compound, size_of_payload, takes_kind}
 pub use Rattle.dual_diff.specs.WritingLaws.{sizes_append}
-use Rattle.dual_diff.proofs.Shared.{◌==◌, true, Kind, bare, compound, size_of_payload, takes_kind}
 use Rattle.std.proofs.lemmas.Bool.{eqb-true}
 use Rattle.calc_terms.specs.declared.kind.Kind.TheVariants as kind
 

@@ -1,8 +1,7 @@
 -- Whole numbers that are placed.
-use Rattle.dual_diff.proofs.Shared.{◌≡◌, ◌<◌, ◌≤◌, ℕ, List, ℤ, true, false, sym, ap, ◌∙◌, subst, arith, FitsSigned, Some, nat_abs, whole_literal, Rat, lowest}
-use Rattle.dual_diff.proofs.Shared.{whole_fraction, rational, size_of_payload, ratio_of, value_of, Tree, num, root_kind, size, whole_num, mult, more, two, power, told, children_of}
-use Rattle.dual_diff.proofs.Shared.{nth, derivative, exponent_limit}
-use Rattle.dual_diff.proofs.{Shared.{lowered, power_rule, occurs, fits_signed_from_abs, w128}, Rules.power_by_rule}
+use Rattle.dual_diff.proofs.Shared.{◌≡◌, ◌<◌, ◌≤◌, ℕ, List, ℤ, true, false, sym, ap, ◌∙◌, subst, arith, FitsSigned, Some, nat_abs, whole_literal, Rat, lowest, whole_fraction, rational}
+use Rattle.dual_diff.proofs.Shared.{size_of_payload, ratio_of, value_of, Tree, num, root_kind, size, whole_num, mult, more, two, power, told, children_of, nth, derivative, exponent_limit, lowered}
+use Rattle.dual_diff.proofs.{Shared.{power_rule, occurs, fits_signed_from_abs, w128}, Rules.power_by_rule}
 use Rattle.std.proofs.Common.{◌^◌, pos, ◌-ℤ◌, nat_eq, of_z, to_z}
 use Rattle.calc_terms.specs.{Integers.{int_is_one, int_is_zero}, Ratio.{Ratio, whole}}
 use Rattle.calc_terms.specs.declared.kind.Kind.TheVariants as kind

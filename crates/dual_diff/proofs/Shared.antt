@@ -1,27 +1,25 @@
 -- The names that the proofs share.
 pub use Rattle.calc_algebra.proofs.{InverseLaws.{Inverts-Same, Inverts-surd_of, Inverts-surd_times, Inverts-sym}, MeaningLaws.{Means-Same, Same-sym}, SquareClassLaws.{Same-Agree, Same-trans}}
-pub use Rattle.calc_algebra.proofs.SurdLaws.{Agree, Agree-Same, Agree-append, Agree-eq, Agree-refl, Agree-surd_scale, Agree-surd_times, Agree-surd_times_right, Agree-sym, Agree-trans}
-pub use Rattle.calc_algebra.proofs.SurdLaws.{append_comm, surd_times-append, surd_times-nil, surd_times-one, surd_times-surd_of, surd_times-surd_one, surd_times_assoc, surd_times_comm}
-pub use Rattle.calc_algebra.proofs.{SurdLaws.{surd_times_exchange, surd_times_left_comm}, TermLaws.{Agree-zero_term, Same-eq, Same-refl}}
-pub use Rattle.calc_algebra.specs.{Meanings.{Assignment, IsRoot, IsRootOf, IsWholePower, Means, MeansProduct, MeansSum}, SquareClasses.{Inverts, Same}}
-pub use Rattle.calc_algebra.specs.Surds.{Surd, surd_of, surd_one, surd_power, surd_scale, surd_times}
+pub use Rattle.calc_algebra.proofs.SurdLaws.{Agree, Agree-Same, Agree-append, Agree-eq, Agree-refl, Agree-surd_scale, Agree-surd_times, Agree-surd_times_right, Agree-sym, Agree-trans, append_comm}
+pub use Rattle.calc_algebra.proofs.SurdLaws.{surd_times-append, surd_times-nil, surd_times-one, surd_times-surd_of, surd_times-surd_one, surd_times_assoc, surd_times_comm, surd_times_exchange}
+pub use Rattle.calc_algebra.proofs.{SurdLaws.{surd_times_left_comm}, TermLaws.{Agree-zero_term, Same-eq, Same-refl}}
+pub use Rattle.calc_algebra.specs.{Meanings.{Assignment, IsRoot, IsRootOf, IsWholePower, Means, MeansProduct, MeansSum}, SquareClasses.{Inverts, Same}, Surds.{Surd, surd_of, surd_one, surd_power}}
+pub use Rattle.calc_algebra.specs.Surds.{surd_scale, surd_times}
 pub use Rattle.calc_measures.specs.Literals.{opposite, whole_literal, whole_value}
-pub use Rattle.calc_terms.specs.{Fractions.{Fraction, lowest, minus_one_fraction, negative, quotient, same_lowest, times, times_lowest, whole_fraction}, Leaf.name_of}
-pub use Rattle.calc_terms.specs.{Payload.{bare, is_bare, rational, size_of_payload}, Rat.{ratio_of, value_of}, Trees.{AllParts, AllPartsOf, Tree, Trees, add, append, count, div, more, mult}}
-pub use Rattle.calc_terms.specs.{Trees.{names, names_of, neg, nodes, nodes_of, none, num, power, root, root_kind, root_size, size, sizes, sub, symbol, undef, whole_num}, declared.kind.Kind.Kind}
-pub use Rattle.calc_terms.specs.declared.rat.Rat.{Rat}
-pub use Rattle.dual_diff.specs.Derivatives.{HasDerivative, IsDerivable, IsDerivableExponent, derivative, derivatives, exponent_limit, is_linear, literal_power_rule, lowered, power_rule}
-pub use Rattle.dual_diff.specs.{Derivatives.{products, quotient_rule, root_rule, sum_of_products, two, where_occurs, with_derivative}, Lists.{behind, first}, Occurring.{occurs, occurs_in}}
-pub use Rattle.dual_diff.specs.{Pairs.{HasPair, HasPairProduct, HasPairSum, IsPowerSlope, IsRootPair, IsStill, Pair, SamePair, pair_over}, Placing.{Adds, AddsAll, capped}}
-pub use Rattle.dual_diff.specs.Writing.{CanCopy, CanDerive, CanGather, Counts, Holds, IsLast, IsWriting, KeepsTrees, Places, one, tree_of}
+pub use Rattle.calc_terms.specs.{Leaf.name_of, declared.kind.Kind.Kind, Fractions.{Fraction, lowest, minus_one_fraction, negative, quotient, same_lowest, times, times_lowest, whole_fraction}}
+pub use Rattle.calc_terms.specs.{Payload.{bare, is_bare, rational, size_of_payload}, Rat.{ratio_of, value_of}, Trees.{AllParts, AllPartsOf, Tree, Trees, add, append, count, div, more, mult, names}}
+pub use Rattle.calc_terms.specs.{Trees.{names_of, neg, nodes, nodes_of, none, num, power, root, root_kind, root_size, size, sizes, sub, symbol, undef, whole_num}, declared.rat.Rat.{Rat}}
+pub use Rattle.dual_diff.specs.Derivatives.{HasDerivative, IsDerivable, IsDerivableExponent, derivative, derivatives, exponent_limit, is_linear, literal_power_rule, lowered, power_rule, products}
+pub use Rattle.dual_diff.specs.{Derivatives.{quotient_rule, root_rule, sum_of_products, two, where_occurs, with_derivative}, Lists.{behind, first}, Occurring.{occurs, occurs_in}, Pairs.{HasPair}}
+pub use Rattle.dual_diff.specs.{Pairs.{HasPairProduct, HasPairSum, IsPowerSlope, IsRootPair, IsStill, Pair, SamePair, pair_over}, Placing.{Adds, AddsAll, capped}, Writing.{CanCopy, CanDerive}}
+pub use Rattle.dual_diff.specs.Writing.{CanGather, Counts, Holds, IsLast, IsWriting, KeepsTrees, Places, one, tree_of}
 pub use Rattle.node_pool.specs.State.{State, free_of}
 pub use Rattle.rational128.proofs.{LowestTerms.ratio_parts, Signed.told}
-pub use Rattle.std.proofs.Common.{Bool, List, [], ap, append-nil, arith, false, inl, inr, length, refl, rules, subst, suc, sym, true, zero, ℕ, ℤ, ◌*◌, ◌++◌, ◌+◌, ◌-◌}
-pub use Rattle.std.proofs.{Common.{◌<◌, ◌∙◌, ◌∷◌, ◌≡◌, ◌≤◌}, lemmas.Bool.eq-eqb, lemmas.Int.{fits_signed_from_abs, ints, to_z-of_z}, lemmas.List.length-append}
-pub use Rattle.std.specs.{Int.w128, Prelude.{Contains, FitsSigned, IsTrue, None, Option, Some, if◌then◌else◌, nat_abs, neg_ℤ, pos, ◌==◌, ◌||◌, ◌↔◌}, Str.bytes_eq}
+pub use Rattle.std.proofs.Common.{Bool, List, [], ap, append-nil, arith, false, inl, inr, length, refl, rules, subst, suc, sym, true, zero, ℕ, ℤ, ◌*◌, ◌++◌, ◌+◌, ◌-◌, ◌<◌, ◌∙◌, ◌∷◌, ◌≡◌, ◌≤◌}
+pub use Rattle.std.proofs.{lemmas.Bool.eq-eqb, lemmas.List.length-append, lemmas.Int.{fits_signed_from_abs, ints, to_z-of_z}}
+pub use Rattle.std.specs.{Int.w128, Str.bytes_eq, Prelude.{Contains, FitsSigned, IsTrue, None, Option, Some, if◌then◌else◌, nat_abs, neg_ℤ, pos, ◌==◌, ◌||◌, ◌↔◌}}
 pub use Rattle.tree_handles.proofs.{Given.{append-none, given_handed, given_rest, gives, gives_as, represents_join, represents_node, represents_none}, Lasts.{ends_as, expression_root}}
 pub use Rattle.tree_handles.proofs.{NextChildren.{last_child, next_child}, Plains.{alone, count-plains, size-plain, sizes-plains}}
-pub use Rattle.tree_handles.specs.{Children.root_ids, Expressions.{AllExpressions, IsExpression, children_of, compound, nth, plain, plains, takes_kind}}
-pub use Rattle.tree_handles.specs.{Forest.{Forest, arity, before_last, bytes_in, empty, join, last_trees, one_tree, rest_trees, tree}, Inside.{holds, kids_of, tree_at}}
-pub use Rattle.tree_handles.specs.Standing.{KeepsRefusals, Stands, forest}
+pub use Rattle.tree_handles.specs.{Children.root_ids, Expressions.{AllExpressions, IsExpression, children_of, compound, nth, plain, plains, takes_kind}, Forest.{Forest, arity, before_last, bytes_in}}
+pub use Rattle.tree_handles.specs.{Forest.{empty, join, last_trees, one_tree, rest_trees, tree}, Inside.{holds, kids_of, tree_at}, Standing.{KeepsRefusals, Stands, forest}}
 unfoldable pub use Rattle.calc_terms.specs.Fractions.{one_fraction, zero_fraction}

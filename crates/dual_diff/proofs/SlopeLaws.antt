@@ -1,9 +1,8 @@
 -- Slopes of products, quotients, powers and roots, up to equality at every number.
-use Rattle.dual_diff.proofs.Shared.{◌≡◌, [], ◌++◌, refl, ◌∙◌, arith, append-nil, pos, Fraction, times, minus_one_fraction, quotient, whole_fraction, times_lowest, same_lowest}
-use Rattle.dual_diff.proofs.Shared.{Surd, surd_of, surd_one, surd_scale, surd_times, Inverts, Inverts-sym, Inverts-surd_of, Inverts-surd_times, Same-Agree, Agree, Agree-refl, Agree-sym}
-use Rattle.dual_diff.proofs.Shared.{Agree-trans, Agree-eq, Agree-append, Agree-surd_scale, Agree-surd_times, Agree-surd_times_right, append_comm, surd_times-append, surd_times-nil}
-use Rattle.dual_diff.proofs.Shared.{surd_times-one, surd_times_assoc, surd_times_comm, surd_times_left_comm, surd_times_exchange, surd_times-surd_of, Agree-zero_term, zero_fraction}
-use Rattle.dual_diff.proofs.Shared.{one_fraction}
+use Rattle.dual_diff.proofs.Shared.{◌≡◌, [], ◌++◌, refl, ◌∙◌, arith, append-nil, pos, Fraction, times, minus_one_fraction, quotient, whole_fraction, times_lowest, same_lowest, Surd, surd_of, surd_one}
+use Rattle.dual_diff.proofs.Shared.{surd_scale, surd_times, Inverts, Inverts-sym, Inverts-surd_of, Inverts-surd_times, Same-Agree, Agree, Agree-refl, Agree-sym, Agree-trans, Agree-eq, Agree-append}
+use Rattle.dual_diff.proofs.Shared.{Agree-surd_scale, Agree-surd_times, Agree-surd_times_right, append_comm, surd_times-append, surd_times-nil, surd_times-one, surd_times_assoc, surd_times_comm}
+use Rattle.dual_diff.proofs.Shared.{surd_times_left_comm, surd_times_exchange, surd_times-surd_of, Agree-zero_term, zero_fraction, one_fraction}
 
 -- ---- zero
 

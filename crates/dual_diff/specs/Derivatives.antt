@@ -1,14 +1,11 @@
 -- The derivative of a tree with respect to a name, as a tree.
-use Rattle.std.specs.Prelude.{ℕ, zero, suc, ◌+◌, ◌≡◌, ◌≤◌, ℤ, pos, ◌-ℤ◌, nat_abs, List, Bool, true, false, ◌||◌, if◌then◌else◌, Option, Some, None, ⊤}
-use Rattle.std.specs.Str.{bytes_eq}
+use Rattle.std.specs.{Prelude.{ℕ, zero, suc, ◌+◌, ◌≡◌, ◌≤◌, ℤ, pos, ◌-ℤ◌, nat_abs, List, Bool, true, false, ◌||◌, if◌then◌else◌, Option, Some, None, ⊤}, Str.{bytes_eq}}
 use Rattle.calc_terms.specs.declared.kind.Kind.{Kind}
 use Rattle.calc_terms.specs.declared.kind.Kind.TheVariants as kind
-use Rattle.calc_terms.specs.Fractions.{whole_fraction}
-use Rattle.calc_terms.specs.Trees.{Tree, num, symbol, undef, add, mult, power, root, neg, sub, div, Trees, none, more, append, whole_num, AllParts}
+use Rattle.calc_terms.specs.{Fractions.{whole_fraction}, Trees.{Tree, num, symbol, undef, add, mult, power, root, neg, sub, div, Trees, none, more, append, whole_num, AllParts}}
 use Rattle.calc_measures.specs.Literals.{whole_literal}
 use Rattle.tree_handles.specs.Expressions.{nth}
-use Rattle.dual_diff.specs.Lists.{behind, first}
-use Rattle.dual_diff.specs.Occurring.{occurs, occurs_in}
+use Rattle.dual_diff.specs.{Lists.{behind, first}, Occurring.{occurs, occurs_in}}
 
 abbrev pub two : Tree → Tree → Trees
 two a b = more a (more b none)

@@ -1,6 +1,5 @@
 -- Whether a name is one of a tree's.
-use Rattle.std.specs.Prelude.{ℕ, List, Bool, false, ◌||◌}
-use Rattle.std.specs.Str.{bytes_eq}
+use Rattle.std.specs.{Prelude.{ℕ, List, Bool, false, ◌||◌}, Str.{bytes_eq}}
 use Rattle.calc_terms.specs.Trees.{Tree, num, symbol, undef, add, mult, power, root, neg, sub, div, Trees, none, more}
 
 abbrev mutual

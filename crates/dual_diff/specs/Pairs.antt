@@ -1,11 +1,7 @@
 -- A value and its slope with respect to one name. In mathematics such a pair is a dual number, value + slope·ε, where ε² is 0.
-use Rattle.std.specs.Prelude.{ℕ, zero, suc, ◌≡◌, ◌⊎◌, ℤ, pos, negsuc, List, [], ◌++◌, true, false, if◌then◌else◌, Some}
-use Rattle.std.specs.Str.{bytes_eq}
-use Rattle.calc_terms.specs.Fractions.{Fraction, quotient, whole_fraction, minus_one_fraction}
-use Rattle.calc_terms.specs.Trees.{Tree, num, symbol, undef, add, mult, power, root, neg, sub, div, Trees, none, more}
-use Rattle.calc_algebra.specs.Surds.{Surd, surd_one, surd_scale, surd_times, surd_power}
-use Rattle.calc_algebra.specs.SquareClasses.{Same, Inverts}
-use Rattle.calc_algebra.specs.Meanings.{Assignment, IsWholePower, IsRoot, Means}
+use Rattle.std.specs.{Prelude.{ℕ, zero, suc, ◌≡◌, ◌⊎◌, ℤ, pos, negsuc, List, [], ◌++◌, true, false, if◌then◌else◌, Some}, Str.{bytes_eq}}
+use Rattle.calc_terms.specs.{Fractions.{Fraction, quotient, whole_fraction, minus_one_fraction}, Trees.{Tree, num, symbol, undef, add, mult, power, root, neg, sub, div, Trees, none, more}}
+use Rattle.calc_algebra.specs.{Surds.{Surd, surd_one, surd_scale, surd_times, surd_power}, SquareClasses.{Same, Inverts}, Meanings.{Assignment, IsWholePower, IsRoot, Means}}
 use Rattle.calc_measures.specs.Literals.{whole_literal}
 use Rattle.dual_diff.specs.Occurring.{occurs}
 

@@ -2,9 +2,7 @@
 use Rattle.std.specs.Prelude.{ℕ, ◌≡◌, ◌-◌, ◌^◌, min}
 use Rattle.calc_terms.specs.Trees.{Tree, Trees}
 use Rattle.node_pool.specs.State.{State}
-use Rattle.tree_handles.specs.Forest.{Forest, join}
-use Rattle.tree_handles.specs.Handed.{Gives, Represents}
-use Rattle.tree_handles.specs.Standing.{Stands, forest, KeepsRefusals}
+use Rattle.tree_handles.specs.{Forest.{Forest, join}, Handed.{Gives, Represents}, Standing.{Stands, forest, KeepsRefusals}}
 
 -- one tree stands behind the others, which are as before
 pub record Adds (old new : State) (t : Tree) (id : ℕ) : Type 0 where

@@ -1,16 +1,9 @@
 -- Trees that are written one behind another: their bytes counted, or placed behind all others.
 use Rattle.std.specs.Prelude.{ℕ, ◌+◌, ◌≡◌, ◌≤◌, List, Option, Some, true}
-use Rattle.calc_terms.specs.declared.kind.Kind.{Kind}
-use Rattle.calc_terms.specs.Payload.{bare, size_of_payload}
-use Rattle.calc_terms.specs.Trees.{Tree, Trees, none, more, append, count, root_kind, size, sizes}
-use Rattle.dual_diff.specs.Derivatives.{HasDerivative}
-use Rattle.dual_diff.specs.Occurring.{occurs}
-use Rattle.dual_diff.specs.Placing.{Adds, AddsAll, capped}
-use Rattle.node_pool.specs.Nodes.{used}
-use Rattle.node_pool.specs.State.{State}
-use Rattle.tree_handles.specs.Expressions.{IsExpression, plain, takes_kind}
-use Rattle.tree_handles.specs.Inside.{tree_at}
-use Rattle.tree_handles.specs.Standing.{Stands, forest}
+use Rattle.calc_terms.specs.{declared.kind.Kind.{Kind}, Payload.{bare, size_of_payload}, Trees.{Tree, Trees, none, more, append, count, root_kind, size, sizes}}
+use Rattle.dual_diff.specs.{Derivatives.{HasDerivative}, Occurring.{occurs}, Placing.{Adds, AddsAll, capped}}
+use Rattle.node_pool.specs.{Nodes.{used}, State.{State}}
+use Rattle.tree_handles.specs.{Expressions.{IsExpression, plain, takes_kind}, Inside.{tree_at}, Standing.{Stands, forest}}
 
 -- the tree of a node
 abbrev pub tree_of : ℕ → State → Tree

@@ -3,14 +3,10 @@ use Rattle.expand_forms.proofs.Shared.{◌≡◌, ◌≤◌, ℕ, ◌+◌, true,
 use Rattle.expand_forms.proofs.Shared.{Kind, represents_count, AddsTrees, AreFactors, BeginsWith, HasMonomial, factors_in, first_place, Monomial, State, free_of, last_with, lists_with, root_ids}
 use Rattle.expand_forms.proofs.Shared.{IsExpression, children_of, compound, plain, takes_kind, Forest, Label, arity, bytes_in, empty, join, kids, one_tree, tree, with_nth, Ends, Gives, kids_of}
 use Rattle.expand_forms.proofs.Shared.{tree_at, adopted, behind_root, has_root, put, root_tree, without_root, KeepsRefusals, Stands, forest, bytes_in-join, join-empty, join_assoc, given_handed}
-use Rattle.expand_forms.proofs.Shared.{given_rest, given_told, gives, gives_as, represents_join, represents_node, represents_none, holds-left, kids_of-join_left, tree_at-join_left, ends_as}
-use Rattle.expand_forms.proofs.Shared.{ends_at, last_rest, last_root, last_tree, alone, sizes-plains, root-left}
-use Rattle.tree_handles.proofs.Over.{over_product, added_as, moved}
-use Rattle.expand_forms.specs.declared.factors.Factor.{Factor as Read}
-use Rattle.expand_forms.specs.declared.factors.Factors.{Factors}
-use Rattle.expand_forms.proofs.TermReadings.{IsBeside}
-use Rattle.tree_handles.proofs.Adopting.{adopted_all, behind_there}
-use Rattle.tree_handles.proofs.Places.{used_forest}
+use Rattle.expand_forms.proofs.Shared.{given_rest, given_told, gives, gives_as, represents_join, represents_node, represents_none, holds-left, kids_of-join_left, tree_at-join_left, ends_as, ends_at}
+use Rattle.expand_forms.proofs.{Shared.{last_rest, last_root, last_tree, alone, sizes-plains, root-left}, TermReadings.{IsBeside}}
+use Rattle.tree_handles.proofs.{Over.{over_product, added_as, moved}, Adopting.{adopted_all, behind_there}, Places.{used_forest}}
+use Rattle.expand_forms.specs.{declared.factors.Factor.{Factor as Read}, declared.factors.Factors.{Factors}}
 
 pub adds_none : (f : Forest) → AddsTrees none f f
 adds_none f = record { trees = empty; whole = sym (join-empty f); represents = represents_none }

@@ -2,13 +2,9 @@
 use Rattle.expand_forms.proofs.Shared.{◌≡◌, ◌≢◌, ℕ, zero, suc, [], true, refl, sym, ap, ◌∙◌, subst, arith, negsuc, not, and_parts, eqb-true, Kind, no_zero, zero_test, factor_not_zero}
 use Rattle.expand_forms.proofs.Shared.{product_not_zero, negative_lowest, Fraction, inverse, is_zero_fraction, lowest, minus_one_fraction, negative, one_fraction, times, zero_fraction, Payload}
 use Rattle.expand_forms.proofs.Shared.{rational, named, bare, Tree, num, symbol, power, neg, sub, div, Trees, none, more, count, expanded, Polynomial, constant, raised, scaled, are_polynomials}
-use Rattle.expand_forms.proofs.Shared.{divisor_of, exponent_of, has_polynomial_root, is_divisor, is_exponent, is_polynomial, polynomial_of, product_of, sum_of, AreSame, IsExpanded}
-use Rattle.expand_forms.proofs.Shared.{IsExpandedFrom, compound, grown, nth, takes, takes_kind, AreAnswers, EachTree}
-use Rattle.expand_forms.proofs.Expansions.{constant_expanded, is_expanded, same_polynomial}
-use Rattle.expand_forms.proofs.Numbers.{opposite_whole}
-use Rattle.expand_forms.proofs.SameCoefficients.{product_both, same_append, same_refl, scaled_same}
-use Rattle.expand_forms.proofs.TreeMeanings.{minus_one_times}
-use Rattle.expand_forms.proofs.TreeMonomials.{tree_monomials}
+use Rattle.expand_forms.proofs.Shared.{divisor_of, exponent_of, has_polynomial_root, is_divisor, is_exponent, is_polynomial, polynomial_of, product_of, sum_of, AreSame, IsExpanded, IsExpandedFrom}
+use Rattle.expand_forms.proofs.{Shared.{compound, grown, nth, takes, takes_kind, AreAnswers, EachTree}, Expansions.{constant_expanded, is_expanded, same_polynomial}, Numbers.{opposite_whole}}
+use Rattle.expand_forms.proofs.{SameCoefficients.{product_both, same_append, same_refl, scaled_same}, TreeMeanings.{minus_one_times}, TreeMonomials.{tree_monomials}}
 use Rattle.calc_terms.specs.declared.kind.Kind.TheVariants as kind
 
 -- the polynomial of a node over such children has the coefficients of another one

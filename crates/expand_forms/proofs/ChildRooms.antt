@@ -1,11 +1,9 @@
 -- The room of an expansion, from that of a child's.
-use Rattle.expand_forms.proofs.Shared.{◌≡◌, ◌⊎◌, inl, inr, ℕ, suc, ◌+◌, ◌*◌, ◌≤◌, ◌<◌, List, [], ◌++◌, Bool, true, refl, sym, ap, ◌∙◌, subst, arith, ◌&&◌, le-max_left, le-max_right, max-le}
-use Rattle.expand_forms.proofs.Shared.{and_parts, mul-le, Within, names_of-append, within_both, within_eq, within_left, within_none, within_right, within_same, within_trans, root_most, Tree, num}
-use Rattle.expand_forms.proofs.Shared.{symbol, undef, add, mult, power, root, neg, sub, div, Trees, none, more, append, names, names_of, nodes, nodes_of, size, sizes, count_distinct, expanded}
-use Rattle.expand_forms.proofs.Shared.{expansion_room, most_terms, most_terms_of, node_bytes, sum_bytes, are_polynomials, is_polynomial, polynomial_of, AreExpandedFrom, IsOver, nodes_append}
-use Rattle.expand_forms.proofs.Shared.{nodes_by_children, children_of, AreReadyFrom, IsReadyFrom, is_power_of_sum}
-use Rattle.expand_forms.proofs.TermCounts.{answer_most, most_of_all, some_nodes, some_terms}
-use Rattle.expand_forms.proofs.Widths.{names_rise}
+use Rattle.expand_forms.proofs.Shared.{◌≡◌, ◌⊎◌, inl, inr, ℕ, suc, ◌+◌, ◌*◌, ◌≤◌, ◌<◌, List, [], ◌++◌, Bool, true, refl, sym, ap, ◌∙◌, subst, arith, ◌&&◌, le-max_left, le-max_right, max-le, and_parts}
+use Rattle.expand_forms.proofs.Shared.{mul-le, Within, names_of-append, within_both, within_eq, within_left, within_none, within_right, within_same, within_trans, root_most, Tree, num, symbol, undef}
+use Rattle.expand_forms.proofs.Shared.{add, mult, power, root, neg, sub, div, Trees, none, more, append, names, names_of, nodes, nodes_of, size, sizes, count_distinct, expanded, expansion_room}
+use Rattle.expand_forms.proofs.Shared.{most_terms, most_terms_of, node_bytes, sum_bytes, are_polynomials, is_polynomial, polynomial_of, AreExpandedFrom, IsOver, nodes_append, nodes_by_children}
+use Rattle.expand_forms.proofs.{Shared.{children_of, AreReadyFrom, IsReadyFrom, is_power_of_sum}, TermCounts.{answer_most, most_of_all, some_nodes, some_terms}, Widths.{names_rise}}
 
 -- ---- trees
 

@@ -1,11 +1,9 @@
 -- The exponents of each term of a list are those of its names.
 use Rattle.expand_forms.proofs.Shared.{◌≡◌, ℕ, zero, suc, ◌<◌, ◌^◌, List, [], ◌∷◌, length, get_or, Bool, true, false, refl, sym, ap, ◌∙◌, subst, arith, ◌==◌, if◌then◌else◌, and_from, and_parts}
 use Rattle.expand_forms.proofs.Shared.{by_test, eq-eqb, eqb-true, false_from_ne_true, no_zero, not_from_false, plus, value_of, zero_fraction, HaveNames, IsListOf, IsOfNames, one_unpacked}
-use Rattle.expand_forms.proofs.Shared.{same_coefficient, monomial_of, Term}
-use Rattle.expand_forms.proofs.Arithmetic.{plus_zero}
+use Rattle.expand_forms.proofs.{Shared.{same_coefficient, monomial_of, Term}, Arithmetic.{plus_zero}}
 use Rattle.expand_forms.specs.Polynomials.{Polynomial as Named}
-use Rattle.polynomials.specs.Polynomials.{Monomial, Polynomial, coefficient_at, is_same_monomial}
-use Rattle.polynomials.specs.Terms.{IsBelowAll, IsNormal, polynomial_of}
+use Rattle.polynomials.specs.{Polynomials.{Monomial, Polynomial, coefficient_at, is_same_monomial}, Terms.{IsBelowAll, IsNormal, polynomial_of}}
 
 -- each monomial has 64 bits
 abbrev pub ArePacked : List Term → Type 0

@@ -1,19 +1,15 @@
 -- What a polynomial is worth is a meaning of its expanded tree.
-use Rattle.expand_forms.proofs.Shared.{◌≡◌, ◌≤◌, ℕ, zero, suc, ◌+◌, pos, [], ◌∷◌, Bool, true, false, refl, sym, ap, ◌∙◌, subst, arith, ◌==◌, if◌then◌else◌, eqb-true, Ordering, Less, Equal}
-use Rattle.expand_forms.proofs.Shared.{Greater, nat_cmp, slice_cmp, Assignment, IsAssignment, IsWholePower, Means, MeansProduct, MeansSum, product_tree, Surd, surd_of, surd_one, Means-Same}
-use Rattle.expand_forms.proofs.Shared.{Same-sym, rational_power, power_whole, Same-trans, Same-eq, Same-refl, joined_radicand, surd_times-terms, zero_term, one_is, zero_is, fraction_power}
-use Rattle.expand_forms.proofs.Shared.{one_times, zero_plus, zero_times, Fraction, is_one_fraction, is_zero_fraction, minus_one_fraction, plus, plus_assoc, times, zero_fraction, inverse, Tree}
-use Rattle.expand_forms.proofs.Shared.{num, symbol, undef, add, mult, power, root, neg, sub, div, Trees, none, more, whole_num, Factor, Monomial, Polynomial, Summand, factor, monomial_times}
-use Rattle.expand_forms.proofs.Shared.{scaled, summand, with_factor, divisor_of, exponent_of, is_polynomial, polynomial_of, product_of, sum_of, expanded, factor_tree, factor_trees, joined}
-use Rattle.expand_forms.proofs.Shared.{monomial_cmp, monomial_tree, normal, sum_tree, term_tree, term_trees, with_summand, without_zeros, factor_value, given, monomial_value, polynomial_value}
-use Rattle.expand_forms.proofs.Shared.{summand_value}
+use Rattle.expand_forms.proofs.Shared.{◌≡◌, ◌≤◌, ℕ, zero, suc, ◌+◌, pos, [], ◌∷◌, Bool, true, false, refl, sym, ap, ◌∙◌, subst, arith, ◌==◌, if◌then◌else◌, eqb-true, Ordering, Less, Equal, Greater}
+use Rattle.expand_forms.proofs.Shared.{nat_cmp, slice_cmp, Assignment, IsAssignment, IsWholePower, Means, MeansProduct, MeansSum, product_tree, Surd, surd_of, surd_one, Means-Same, Same-sym}
+use Rattle.expand_forms.proofs.Shared.{rational_power, power_whole, Same-trans, Same-eq, Same-refl, joined_radicand, surd_times-terms, zero_term, one_is, zero_is, fraction_power, one_times, zero_plus}
+use Rattle.expand_forms.proofs.Shared.{zero_times, Fraction, is_one_fraction, is_zero_fraction, minus_one_fraction, plus, plus_assoc, times, zero_fraction, inverse, Tree, num, symbol, undef, add}
+use Rattle.expand_forms.proofs.Shared.{mult, power, root, neg, sub, div, Trees, none, more, whole_num, Factor, Monomial, Polynomial, Summand, factor, monomial_times, scaled, summand, with_factor}
+use Rattle.expand_forms.proofs.Shared.{divisor_of, exponent_of, is_polynomial, polynomial_of, product_of, sum_of, expanded, factor_tree, factor_trees, joined, monomial_cmp, monomial_tree, normal}
+use Rattle.expand_forms.proofs.{Shared.{sum_tree, term_tree, term_trees, with_summand, without_zeros, factor_value, given, monomial_value, polynomial_value, summand_value}, AllMonomials.{AllHave}}
+use Rattle.expand_forms.proofs.{AllMonomials.{IsClosed, append_all, normal_all, product_all, raised_all, scaled_all}, Arithmetic.{plus_left_comm, plus_times, times_one}, MonomialTrees.{equal_is}}
+use Rattle.expand_forms.proofs.{TreeMeanings.{tree_worth}, ValueLaws.{given_is}}
 use Rattle.calc_algebra.specs.Meanings.{Gives}
 use Rattle.calc_algebra.proofs.MeaningRewrites.{none_product, none_sum, one_product, one_sum, product_more, product_none, sum_more, sum_none}
-use Rattle.expand_forms.proofs.AllMonomials.{AllHave, IsClosed, append_all, normal_all, product_all, raised_all, scaled_all}
-use Rattle.expand_forms.proofs.Arithmetic.{plus_left_comm, plus_times, times_one}
-use Rattle.expand_forms.proofs.MonomialTrees.{equal_is}
-use Rattle.expand_forms.proofs.TreeMeanings.{tree_worth}
-use Rattle.expand_forms.proofs.ValueLaws.{given_is}
 
 -- ---- the value of the normal polynomial
 

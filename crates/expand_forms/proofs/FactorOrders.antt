@@ -1,12 +1,11 @@
 -- The order of factors and of monomials, by the kinds of their trees first.
-use Rattle.expand_forms.proofs.Shared.{◌≡◌, ◌+◌, ℕ, ℤ, pos, ◌*ℤ◌, List, [], ◌∷◌, Bool, true, false, refl, sym, ap, ◌∙◌, arith, to_z, of_z, not, int_cmp, fraction_cmp, name_of, before_zero}
-use Rattle.expand_forms.proofs.Shared.{padded, IsRat, Name, told, trees_cmp, root_code, ordering_then, is_mult, monomial_in, count, children_of, nth, first_place, ints, w128, bytes_eq}
-use Rattle.expand_forms.proofs.Shared.{bytes_eq-Decides, tree_cmp_same, ratio_of, ratio_parts, Fraction, Less, Equal, Greater, nat_cmp, slice_cmp, tree_cmp, tree_cmp_refl, whole_numerator}
-use Rattle.expand_forms.proofs.Shared.{whole_denominator, lowest, one_fraction, Tree, num, symbol, mult, root_kind, factor_tree, factor_trees, monomial_cmp, monomial_tree, Factor, Monomial}
-use Rattle.expand_forms.proofs.Shared.{IsRead}
+use Rattle.expand_forms.proofs.Shared.{◌≡◌, ◌+◌, ℕ, ℤ, pos, ◌*ℤ◌, List, [], ◌∷◌, Bool, true, false, refl, sym, ap, ◌∙◌, arith, to_z, of_z, not, int_cmp, fraction_cmp, name_of, before_zero, padded}
+use Rattle.expand_forms.proofs.Shared.{IsRat, Name, told, trees_cmp, root_code, ordering_then, is_mult, monomial_in, count, children_of, nth, first_place, ints, w128, bytes_eq, bytes_eq-Decides}
+use Rattle.expand_forms.proofs.Shared.{tree_cmp_same, ratio_of, ratio_parts, Fraction, Less, Equal, Greater, nat_cmp, slice_cmp, tree_cmp, tree_cmp_refl, whole_numerator, whole_denominator, lowest}
+use Rattle.expand_forms.proofs.Shared.{one_fraction, Tree, num, symbol, mult, root_kind, factor_tree, factor_trees, monomial_cmp, monomial_tree, Factor, Monomial, IsRead}
+use Rattle.expand_forms.proofs.FactorTrees.{on_factor, on_monomial}
 use Rattle.node_order.proofs.Orderings.{then-equal}
 use Rattle.expand_forms.specs.declared.factors.Factor.{Factor as Read}
-use Rattle.expand_forms.proofs.FactorTrees.{on_factor, on_monomial}
 use Rattle.calc_terms.specs.declared.kind.Kind.TheVariants as kind
 
 -- ---- kinds

@@ -1,11 +1,10 @@
 -- Walks over the nodes of a monomial's factors.
-use Rattle.expand_forms.proofs.Shared.{◌≡◌, ◌≤◌, ◌<◌, ℕ, pos, List, length, [], ◌∷◌, ◌++◌, map, drop, Some, true, refl, sym, ap, ◌∙◌, subst, arith, kind_of_payload, AreAhead, BeginsWith}
-use Rattle.expand_forms.proofs.Shared.{value_of, lowest, one_fraction, alone, Payload, State, Stands, IsExpression, children_of, first_place, forest, kids_of, rest_trees, root_kind, Fraction}
-use Rattle.expand_forms.proofs.Shared.{Tree, is_mult, num, symbol, power, Trees, none, more, whole_num, factor_tree, factor_trees, Factor, IsMonomial, Monomial, HasMonomial, factors_in, grown}
-use Rattle.expand_forms.proofs.Shared.{nth, plain, takes, arity, empty, tree, join, Forest, holds, tree_at, AllExpressions, name_of, all-rest_trees, one_at, children_of-plain, whole_kids, found}
-use Rattle.expand_forms.proofs.Shared.{found-kids, found-rest_trees, visit_here, visits_left, IsWhole, plains, flatten, node_of, visit_of, visits_of, AreFound, Visit}
+use Rattle.expand_forms.proofs.Shared.{◌≡◌, ◌≤◌, ◌<◌, ℕ, pos, List, length, [], ◌∷◌, ◌++◌, map, drop, Some, true, refl, sym, ap, ◌∙◌, subst, arith, kind_of_payload, AreAhead, BeginsWith, value_of}
+use Rattle.expand_forms.proofs.Shared.{lowest, one_fraction, alone, Payload, State, Stands, IsExpression, children_of, first_place, forest, kids_of, rest_trees, root_kind, Fraction, Tree, is_mult}
+use Rattle.expand_forms.proofs.Shared.{num, symbol, power, Trees, none, more, whole_num, factor_tree, factor_trees, Factor, IsMonomial, Monomial, HasMonomial, factors_in, grown, nth, plain, takes}
+use Rattle.expand_forms.proofs.Shared.{arity, empty, tree, join, Forest, holds, tree_at, AllExpressions, name_of, all-rest_trees, one_at, children_of-plain, whole_kids, found, found-kids}
+use Rattle.expand_forms.proofs.{Shared.{found-rest_trees, visit_here, visits_left, IsWhole, plains, flatten, node_of, visit_of, visits_of, AreFound, Visit}, FactorOrders.{symbol_is}}
 use Rattle.expand_forms.specs.declared.factors.Factor.{Factor as Read}
-use Rattle.expand_forms.proofs.FactorOrders.{symbol_is}
 use Rattle.node_order.proofs.KeyLaws.{behind-plains}
 use Rattle.node_order.specs.Keys.{trees_behind}
 use Rattle.calc_terms.specs.declared.kind.Kind.TheVariants as kind

@@ -1,15 +1,9 @@
 -- Polynomials with few terms: their sums and products, and the trees of them.
 use Rattle.expand_forms.proofs.Shared.{◌≡◌, ℕ, ◌+◌, ◌*◌, ◌≤◌, List, [], ◌∷◌, ◌++◌, length, sym, ap, subst, arith, length-append, mul-le, within_of, HasNoNewName, Tree, add, names, none, size}
 use Rattle.expand_forms.proofs.Shared.{expanded, normal, sum_tree, term_trees, AreNamed, HasFewTerms, IsNamed, sum_bytes, AreMonomials, IsMonomial, Polynomial, product, polynomial_of, IsExpanded}
-use Rattle.expand_forms.proofs.Shared.{IsSum}
-use Rattle.expand_forms.proofs.AllMonomials.{AllHave, append_all, normal_all, product_all}
-use Rattle.expand_forms.proofs.Gathered.{gathered_few, gathered_normal}
-use Rattle.expand_forms.proofs.Joins.{sum_polynomial_is}
-use Rattle.expand_forms.proofs.Names.{all_named, are_named, named_closed, tree_named}
-use Rattle.expand_forms.proofs.TermBytes.{IsNamedMonomial, expanded_most, terms_most, terms_rise}
-use Rattle.expand_forms.proofs.TermCounts.{product_length}
-use Rattle.expand_forms.proofs.TermPolynomials.{terms_polynomial, term_polynomial, tree_normal}
-use Rattle.expand_forms.proofs.TreeMonomials.{all_monomials}
+use Rattle.expand_forms.proofs.{Shared.{IsSum}, AllMonomials.{AllHave, append_all, normal_all, product_all}, Gathered.{gathered_few, gathered_normal}, Joins.{sum_polynomial_is}}
+use Rattle.expand_forms.proofs.{Names.{all_named, are_named, named_closed, tree_named}, TermBytes.{IsNamedMonomial, expanded_most, terms_most, terms_rise}, TermCounts.{product_length}}
+use Rattle.expand_forms.proofs.{TermPolynomials.{terms_polynomial, term_polynomial, tree_normal}, TreeMonomials.{all_monomials}}
 
 -- ---- arithmetic
 

@@ -1,14 +1,9 @@
 -- Polynomials with some summands added up, and in another order: they have the same coefficients, and are no larger.
 use Rattle.expand_forms.proofs.Shared.{◌≡◌, ℕ, ◌≤◌, ◌<◌, List, [], ◌∷◌, ◌++◌, length, sym, ◌∙◌, subst, arith, append_assoc, length-append, Tree, normal, AreWhole, HaveExponents, IsHeld, mass}
-use Rattle.expand_forms.proofs.Shared.{AreNamed, HasFewTerms, IsNamed, Polynomial, product, polynomial_of, AreSame, IsExpanded, IsSumOf}
-use Rattle.expand_forms.proofs.AllMonomials.{append_all, normal_all}
-use Rattle.expand_forms.proofs.Joins.{sum_polynomial_is}
-use Rattle.expand_forms.proofs.Masses.{exponents_append, exponents_left, exponents_normal, exponents_right, mass_append, normal_mass, normal_whole, whole_append, whole_left, whole_right}
-use Rattle.expand_forms.proofs.Names.{all_named, are_named}
-use Rattle.expand_forms.proofs.NormalForms.{normal_coefficient, normal_is, one_normal}
-use Rattle.expand_forms.proofs.SameCoefficients.{product_both, product_nil, same_append, same_normal, same_refl, same_turned}
-use Rattle.expand_forms.proofs.Splits.{normal_or_none}
-use Rattle.expand_forms.proofs.TermBytes.{normal_length}
+use Rattle.expand_forms.proofs.{Shared.{AreNamed, HasFewTerms, IsNamed, Polynomial, product, polynomial_of, AreSame, IsExpanded, IsSumOf}, AllMonomials.{append_all, normal_all}}
+use Rattle.expand_forms.proofs.{Joins.{sum_polynomial_is}, Masses.{exponents_append, exponents_left, exponents_normal, exponents_right, mass_append, normal_mass, normal_whole, whole_append}}
+use Rattle.expand_forms.proofs.{Masses.{whole_left, whole_right}, Names.{all_named, are_named}, NormalForms.{normal_coefficient, normal_is, one_normal}, SameCoefficients.{product_both, product_nil}}
+use Rattle.expand_forms.proofs.{SameCoefficients.{same_append, same_normal, same_refl, same_turned}, Splits.{normal_or_none}, TermBytes.{normal_length}}
 
 pub record IsGathered (v w : Polynomial) : Type 0 where
   pub same : AreSame w v

@@ -1,14 +1,10 @@
 -- Polynomials that are held by bits: their sums, products and powers, and their normal forms.
 use Rattle.expand_forms.proofs.Shared.{◌≡◌, ℕ, zero, suc, ◌+◌, ◌*◌, ◌^◌, ◌≤◌, ◌<◌, pos, negsuc, [], ◌∷◌, sym, subst, arith, one-dvd, pow-le-pow_right, mul-le, pow-add, dvd_trans, magnitude_over}
 use Rattle.expand_forms.proofs.Shared.{den_divides, magnitude_lowest, lowest, minus_one_fraction, mul_pos, one_fraction, zero_fraction, Tree, expanded, normal, sum_tree, term_trees, IsHeld, mass}
-use Rattle.expand_forms.proofs.Shared.{AreMonomials, IsMonomial, Polynomial, constant, product, raised, scaled, polynomial_of, ◌∣◌}
+use Rattle.expand_forms.proofs.{Shared.{AreMonomials, IsMonomial, Polynomial, constant, product, raised, scaled, polynomial_of, ◌∣◌}, AllMonomials.{AllHave, normal_all}}
+use Rattle.expand_forms.proofs.{Gathered.{gathered_held, gathered_normal}, Masses.{mass_product, more_exponents, product_exponents, whole_product}, SameCoefficients.{constant_product}}
+use Rattle.expand_forms.proofs.{TermPolynomials.{terms_polynomial, term_polynomial}, TreeMonomials.{all_monomials}}
 use Rattle.calc_bits.proofs.Held.{two_powers}
-use Rattle.expand_forms.proofs.AllMonomials.{AllHave, normal_all}
-use Rattle.expand_forms.proofs.Gathered.{gathered_held, gathered_normal}
-use Rattle.expand_forms.proofs.Masses.{mass_product, more_exponents, product_exponents, whole_product}
-use Rattle.expand_forms.proofs.SameCoefficients.{constant_product}
-use Rattle.expand_forms.proofs.TermPolynomials.{terms_polynomial, term_polynomial}
-use Rattle.expand_forms.proofs.TreeMonomials.{all_monomials}
 
 -- ---- more bits
 

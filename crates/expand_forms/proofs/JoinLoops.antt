@@ -1,16 +1,10 @@
 -- Loops that join products of terms to a sum.
 use Rattle.expand_forms.proofs.Shared.{◌≡◌, ◌<◌, ℕ, ◌+◌, List, [], ◌∷◌, ◌++◌, true, refl, sym, ap, ◌∙◌, subst, arith, append_assoc, Tree, count, size, normal, term_trees, IsHeld, HasFewTerms}
-use Rattle.expand_forms.proofs.Shared.{Polynomial, polynomial_of, IsExpanded, IsSum, IsSumOf, IsTerm, terms_in, State, free_of, replaced_free, gives_itself, kept_after, kept_same, IsExpression}
-use Rattle.expand_forms.proofs.Shared.{nth, plain, Forest, Gives, IsHanded, KeepsFront, tree_of, holds, tree_at, without_root, KeepsRefusals, Stands, forest, behind_first, front_after_one}
-use Rattle.expand_forms.proofs.Shared.{front_same, given_rest, given_told, gives_as}
-use Rattle.expand_forms.proofs.Gathered.{IsGathered, few_behind, gathered_append, gathered_few, gathered_held, gathered_is, gathered_refl, gathered_second, gathered_sum, gathered_trans}
-use Rattle.expand_forms.proofs.Joins.{IsNextSummand, next_summand, sum_polynomial_is}
-use Rattle.expand_forms.proofs.NormalForms.{normal_is}
-use Rattle.expand_forms.proofs.SameCoefficients.{same_is, same_trans}
-use Rattle.expand_forms.proofs.Splits.{held_behind}
-use Rattle.expand_forms.proofs.TermPolynomials.{expanded_terms, tree_normal}
-use Rattle.expand_forms.proofs.TermReadings.{beside}
-use Rattle.expand_forms.proofs.Within.{within}
+use Rattle.expand_forms.proofs.Shared.{Polynomial, polynomial_of, IsExpanded, IsSum, IsSumOf, IsTerm, terms_in, State, free_of, replaced_free, gives_itself, kept_after, kept_same, IsExpression, nth}
+use Rattle.expand_forms.proofs.Shared.{plain, Forest, Gives, IsHanded, KeepsFront, tree_of, holds, tree_at, without_root, KeepsRefusals, Stands, forest, behind_first, front_after_one, front_same}
+use Rattle.expand_forms.proofs.{Shared.{given_rest, given_told, gives_as}, Gathered.{IsGathered, few_behind, gathered_append, gathered_few, gathered_held, gathered_is, gathered_refl, gathered_second}}
+use Rattle.expand_forms.proofs.{Gathered.{gathered_sum, gathered_trans}, Joins.{IsNextSummand, next_summand, sum_polynomial_is}, NormalForms.{normal_is}, SameCoefficients.{same_is, same_trans}}
+use Rattle.expand_forms.proofs.{Splits.{held_behind}, TermPolynomials.{expanded_terms, tree_normal}, TermReadings.{beside}, Within.{within}}
 
 -- ---- a sum under way
 

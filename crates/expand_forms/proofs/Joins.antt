@@ -3,12 +3,9 @@ use Rattle.expand_forms.proofs.Shared.{◌≡◌, ◌≢◌, ◌≤◌, ◌<◌,
 use Rattle.expand_forms.proofs.Shared.{not_from_false, Fraction, is_zero_fraction, plus, zero_fraction, Tree, Trees, add, mult, none, more, count, factor_trees, term_tree, term_trees, IsMonomial}
 use Rattle.expand_forms.proofs.Shared.{Monomial, Polynomial, Summand, monomial_times, summand, polynomial_of, IsPlace, IsSum, IsSumOf, with_term, HasMonomial, IsTerm, coefficient_in, term_cmp}
 use Rattle.expand_forms.proofs.Shared.{removed, Forest, tree_at, State, IsExpression, children_of, inserted, nth, plain, Gives, root_tree, without_root, Stands, forest, given_handed, given_other}
-use Rattle.expand_forms.proofs.Shared.{given_rest, given_root, given_same, given_told, gives_as, seen}
-use Rattle.expand_forms.proofs.MonomialTrees.{equal_is}
-use Rattle.expand_forms.proofs.SameCoefficients.{same_is, same_trans}
-use Rattle.expand_forms.proofs.SumPlaces.{IsAt, IsFound, drop_at, drop_monomials, drop_normal, drop_trees, found, put_at, put_monomials, put_normal, put_same, put_trees, set_at, set_monomials, set_normal, term_order}
-use Rattle.expand_forms.proofs.TermPolynomials.{term_coefficient, term_factors, term_polynomial, terms_polynomial}
-use Rattle.expand_forms.proofs.TermReadings.{beside, sum_children}
+use Rattle.expand_forms.proofs.{Shared.{given_rest, given_root, given_same, given_told, gives_as, seen}, MonomialTrees.{equal_is}, SameCoefficients.{same_is, same_trans}, SumPlaces.{IsAt, IsFound}}
+use Rattle.expand_forms.proofs.SumPlaces.{drop_at, drop_monomials, drop_normal, drop_trees, found, put_at, put_monomials, put_normal, put_same, put_trees, set_at, set_monomials, set_normal}
+use Rattle.expand_forms.proofs.{SumPlaces.{term_order}, TermPolynomials.{term_coefficient, term_factors, term_polynomial, terms_polynomial}, TermReadings.{beside, sum_children}}
 
 -- ---- polynomials of sums and of terms
 

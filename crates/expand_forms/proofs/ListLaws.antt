@@ -1,11 +1,10 @@
 -- Lists of terms are those of the sums, multiples, products and powers of the polynomials whose lists they were made from.
 use Rattle.expand_forms.proofs.Shared.{ℕ, ◌≤◌, List, [], ◌++◌, length, refl, Fraction, AreSame, Polynomial, product, raised, scaled, AreNames, IsListOf, IsWithin, AreTermsOf, Term}
-use Rattle.expand_forms.proofs.ChildExpansions.{raised_same}
-use Rattle.expand_forms.proofs.NamedPolynomials.{named_append, named_product, named_raised, named_same, named_scaled, names_append, names_product, names_raised, names_scaled, terms_wide}
-use Rattle.expand_forms.proofs.SameCoefficients.{product_both, same_append, same_is, same_refl, same_trans, scaled_same}
-use Rattle.polynomials.proofs.Worth.{product_both as product_values, raised_same as raised_values, same_append as append_values, same_is as values_is, same_trans as values_trans, scaled_same as scaled_values}
-use Rattle.polynomials.specs.Polynomials.{Polynomial as Packed, AreSame as AreSameValues, product as packed_product, raised as packed_raised, scaled as packed_scaled}
-use Rattle.polynomials.specs.Terms.{polynomial_of}
+use Rattle.expand_forms.proofs.{ChildExpansions.{raised_same}, NamedPolynomials.{named_append, named_product, named_raised, named_same, named_scaled, names_append, names_product, names_raised}}
+use Rattle.expand_forms.proofs.{NamedPolynomials.{names_scaled, terms_wide}, SameCoefficients.{product_both, same_append, same_is, same_refl, same_trans, scaled_same}}
+use Rattle.polynomials.proofs.Worth.{product_both as product_values, raised_same as raised_values, same_append as append_values, same_is as values_is, same_trans as values_trans}
+use Rattle.polynomials.proofs.Worth.{scaled_same as scaled_values}
+use Rattle.polynomials.specs.{Polynomials.{Polynomial as Packed, AreSame as AreSameValues, product as packed_product, raised as packed_raised, scaled as packed_scaled}, Terms.{polynomial_of}}
 
 -- ---- the exponents of the names
 

@@ -1,11 +1,9 @@
 -- How large sums and products of polynomials are, and normal polynomials.
 use Rattle.expand_forms.proofs.Shared.{◌≡◌, ℕ, ◌+◌, ◌*◌, ◌≤◌, ◌<◌, ℤ, ◌+ℤ◌, List, [], ◌∷◌, ◌++◌, map, Bool, true, false, refl, sym, ap, ◌∙◌, subst, arith, nat_abs, if◌then◌else◌, ints, dvd_trans}
 use Rattle.expand_forms.proofs.Shared.{dvd-mul_left, Ordering, Less, Equal, Greater, nat_cmp, ordering_reverse, nat_list_cmp_total, slice_cmp, magnitude_over, den_divides, magnitude_lowest}
-use Rattle.expand_forms.proofs.Shared.{magnitude_scale, magnitude_times, over_multiple, plus_den, plus_over, times_den, whole_over, whole_over-abs, Fraction, is_zero_fraction, lowest, plus}
-use Rattle.expand_forms.proofs.Shared.{joined, monomial_cmp, normal, with_summand, without_zeros, AreWhole, HasExponents, HaveExponents, mass, Factor, IsBelowAll, IsMonomial, Monomial}
-use Rattle.expand_forms.proofs.Shared.{Polynomial, Summand, factor, monomial_times, product, summand, summand_times, with_factor, ◌∣◌}
-use Rattle.expand_forms.proofs.AllMonomials.{AllHave, normal_all}
-use Rattle.expand_forms.proofs.ValueLaws.{names_equal}
+use Rattle.expand_forms.proofs.Shared.{magnitude_scale, magnitude_times, over_multiple, plus_den, plus_over, times_den, whole_over, whole_over-abs, Fraction, is_zero_fraction, lowest, plus, joined}
+use Rattle.expand_forms.proofs.Shared.{monomial_cmp, normal, with_summand, without_zeros, AreWhole, HasExponents, HaveExponents, mass, Factor, IsBelowAll, IsMonomial, Monomial, Polynomial, Summand}
+use Rattle.expand_forms.proofs.{Shared.{factor, monomial_times, product, summand, summand_times, with_factor, ◌∣◌}, AllMonomials.{AllHave, normal_all}, ValueLaws.{names_equal}}
 
 -- ---- sums
 

@@ -1,9 +1,7 @@
 -- The factors of two terms, merged into new trees.
 use Rattle.expand_forms.proofs.Shared.{◌≡◌, ◌≤◌, ◌<◌, ◌^◌, ℕ, ◌+◌, [], ◌∷◌, ◌++◌, length, drop, refl, sym, ap, ◌∙◌, subst, arith, append_assoc, append-nil, Option, Some, length-append, Trees}
-use Rattle.expand_forms.proofs.Shared.{represents_count, factor_tree, factor_trees, AddsTrees, GoesOn, IsNext, Next, Monomial, monomial_times, State, Forest, arity, Gives, Stands, forest}
-use Rattle.expand_forms.proofs.Shared.{arity-join}
-use Rattle.expand_forms.proofs.AddedTrees.{adds_more, adds_none}
-use Rattle.expand_forms.proofs.TermReadings.{count_factors, drop_length, drop_more, factors_append}
+use Rattle.expand_forms.proofs.Shared.{represents_count, factor_tree, factor_trees, AddsTrees, GoesOn, IsNext, Next, Monomial, monomial_times, State, Forest, arity, Gives, Stands, forest, arity-join}
+use Rattle.expand_forms.proofs.{AddedTrees.{adds_more, adds_none}, TermReadings.{count_factors, drop_length, drop_more, factors_append}}
 use Rattle.tree_handles.proofs.Releases.{arity_le, few_nodes}
 
 -- so many factors of each are placed, and the product goes on with that of the others

@@ -1,7 +1,6 @@
 -- Products of monomials and of polynomials: their order and their brackets.
 use Rattle.expand_forms.proofs.Shared.{◌≡◌, ℕ, suc, ◌+◌, List, [], ◌∷◌, refl, sym, ap, ◌∙◌, arith, subst, Ordering, Less, Equal, Greater, nat_cmp, ordering_reverse, nat_list_cmp_total, slice_cmp}
-use Rattle.expand_forms.proofs.Shared.{tree_cmp_same, symbol, Factor, IsBelowAll, IsMonomial, Monomial, factor, monomial_times, with_factor}
-use Rattle.expand_forms.proofs.TreeMonomials.{below_more, below_with, names_turned}
+use Rattle.expand_forms.proofs.{Shared.{tree_cmp_same, symbol, Factor, IsBelowAll, IsMonomial, Monomial, factor, monomial_times, with_factor}, TreeMonomials.{below_more, below_with, names_turned}}
 use Rattle.expand_forms.proofs.ValueLaws.{names_equal}
 
 -- ---- the order of names

@@ -1,10 +1,8 @@
 -- Lists of rising names.
-use Rattle.expand_forms.proofs.Shared.{◌≡◌, ◌⊎◌, ◌≤◌, ◌<◌, ℕ, zero, suc, List, [], ◌∷◌, ◌++◌, length, get_or, take, drop, inl, inr, Bool, true, false, refl, sym, ap, ◌∙◌, subst, arith, Contains}
-use Rattle.expand_forms.proofs.Shared.{◌==◌, insert, not, name_of, before_zero, Name, bytes_eq, bytes_eq-Decides, Ordering, Less, Equal, Greater, ordering_index, nat_cmp, nat_list_cmp_total}
-use Rattle.expand_forms.proofs.Shared.{slice_cmp, symbol, tree_cmp_same, IsBelowAll, IsNamed, Monomial, AreNames, AreNamesBelow, IsBelowNames, StartNamesFrom, HasName}
-use Rattle.expand_forms.proofs.FactorOrders.{one_name}
-use Rattle.expand_forms.proofs.TreeMonomials.{names_turned}
-use Rattle.expand_forms.proofs.ValueLaws.{names_equal}
+use Rattle.expand_forms.proofs.Shared.{◌≡◌, ◌⊎◌, ◌≤◌, ◌<◌, ℕ, zero, suc, List, [], ◌∷◌, ◌++◌, length, get_or, take, drop, inl, inr, Bool, true, false, refl, sym, ap, ◌∙◌, subst, arith, Contains, ◌==◌}
+use Rattle.expand_forms.proofs.Shared.{insert, not, name_of, before_zero, Name, bytes_eq, bytes_eq-Decides, Ordering, Less, Equal, Greater, ordering_index, nat_cmp, nat_list_cmp_total, slice_cmp}
+use Rattle.expand_forms.proofs.{Shared.{symbol, tree_cmp_same, IsBelowAll, IsNamed, Monomial, AreNames, AreNamesBelow, IsBelowNames, StartNamesFrom, HasName}, FactorOrders.{one_name}}
+use Rattle.expand_forms.proofs.{TreeMonomials.{names_turned}, ValueLaws.{names_equal}}
 use Rattle.expand_forms.specs.Named.{names_of}
 
 -- ---- lists

@@ -1,7 +1,6 @@
 -- Monomials of names, from packed ones: products, and which are one.
-use Rattle.expand_forms.proofs.Shared.{◌≡◌, ℕ, zero, suc, ◌+◌, List, [], ◌∷◌, ◌++◌, length, replicate, refl, sym, ap, ◌∙◌, subst, arith, reverse, length-reverse, reverse-append, symbol}
-use Rattle.expand_forms.proofs.Shared.{tree_cmp_same, IsBelowAll, IsMonomial, Monomial, factor, monomial_times, AreNames, AreOf, AreZero, IsBelowNames, IsOfNames, factors_of, led, monomial_of}
-use Rattle.expand_forms.proofs.Shared.{one_monomial}
+use Rattle.expand_forms.proofs.Shared.{◌≡◌, ℕ, zero, suc, ◌+◌, List, [], ◌∷◌, ◌++◌, length, replicate, refl, sym, ap, ◌∙◌, subst, arith, reverse, length-reverse, reverse-append, symbol, tree_cmp_same}
+use Rattle.expand_forms.proofs.Shared.{IsBelowAll, IsMonomial, Monomial, factor, monomial_times, AreNames, AreOf, AreZero, IsBelowNames, IsOfNames, factors_of, led, monomial_of, one_monomial}
 use Rattle.expand_forms.proofs.MonomialProducts.{below_times, both_first, put_first, right_first}
 use Rattle.expand_forms.specs.Named.{named}
 use Rattle.polynomials.specs.Polynomials.{Monomial as Exponents, monomial_times as exponents_times}

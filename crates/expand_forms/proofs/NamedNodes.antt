@@ -1,11 +1,9 @@
 -- The names of a tree, node by node, and how many there are.
-use Rattle.expand_forms.proofs.Shared.{◌≡◌, ◌⊎◌, ◌<◌, ℕ, suc, List, [], ◌∷◌, ◌++◌, length, inl, inr, Bool, true, false, refl, sym, ap, ◌∙◌, subst, arith, append-nil, append_assoc, ◌==◌}
-use Rattle.expand_forms.proofs.Shared.{if◌then◌else◌, Payload, kind_of_payload, rational, named, bare, Kind, Within, Less, Equal, tree_cmp_same, false_from_ne_true, count_distinct, is_among}
-use Rattle.expand_forms.proofs.Shared.{names, names_of, Trees, more, none, count, symbol, is_symbol, nth, grown, compound, plain, takes, takes_kind, IsExpression, AllExpressions, alone, Forest}
-use Rattle.expand_forms.proofs.Shared.{empty, tree, join, holds, tree_at, arity, AreNames, HasName, IsUnlistedBy, Unlisted, Names, Exponents, Terms, one_at, count-plains, found-join, no_visit}
-use Rattle.expand_forms.proofs.Shared.{visit_here, visits_left, plains, visits_of, AreFound, Visit}
-use Rattle.expand_forms.proofs.NameLists.{below_has, contained_has, has_contained}
-use Rattle.expand_forms.proofs.Widths.{among_contained, names_rise}
+use Rattle.expand_forms.proofs.Shared.{◌≡◌, ◌⊎◌, ◌<◌, ℕ, suc, List, [], ◌∷◌, ◌++◌, length, inl, inr, Bool, true, false, refl, sym, ap, ◌∙◌, subst, arith, append-nil, append_assoc, ◌==◌, if◌then◌else◌}
+use Rattle.expand_forms.proofs.Shared.{Payload, kind_of_payload, rational, named, bare, Kind, Within, Less, Equal, tree_cmp_same, false_from_ne_true, count_distinct, is_among, names, names_of, Trees}
+use Rattle.expand_forms.proofs.Shared.{more, none, count, symbol, is_symbol, nth, grown, compound, plain, takes, takes_kind, IsExpression, AllExpressions, alone, Forest, empty, tree, join, holds}
+use Rattle.expand_forms.proofs.Shared.{tree_at, arity, AreNames, HasName, IsUnlistedBy, Unlisted, Names, Exponents, Terms, one_at, count-plains, found-join, no_visit, visit_here, visits_left, plains}
+use Rattle.expand_forms.proofs.{Shared.{visits_of, AreFound, Visit}, NameLists.{below_has, contained_has, has_contained}, Widths.{among_contained, names_rise}}
 use Rattle.tree_handles.proofs.Visiting.{seen}
 use Rattle.calc_terms.specs.declared.kind.Kind.TheVariants as kind
 

@@ -1,11 +1,11 @@
 -- Polynomials of names, from packed ones: the same coefficients, sums, multiples, products and powers.
 use Rattle.expand_forms.proofs.Shared.{◌≡◌, ℕ, zero, suc, List, [], ◌∷◌, ◌++◌, length, map, Bool, true, false, refl, sym, ap, ◌∙◌, if◌then◌else◌, Fraction, times_comm, times, zero_fraction}
 use Rattle.expand_forms.proofs.Shared.{one_fraction, one_times, plus, zero_plus, zero_times, AreSame, Monomial, Polynomial, coefficient_at, is_same_monomial, product, raised, scaled, summand}
-use Rattle.expand_forms.proofs.Shared.{summand_times, AreNames, HaveNames, IsOfNames, named_polynomial, worth, Term}
-use Rattle.expand_forms.proofs.NamedMonomials.{named_one, named_times, names_one, names_times, packed_length, times_length}
+use Rattle.expand_forms.proofs.{Shared.{summand_times, AreNames, HaveNames, IsOfNames, named_polynomial, worth, Term}, NamedMonomials.{named_one, named_times, names_one, names_times, packed_length}}
+use Rattle.expand_forms.proofs.NamedMonomials.{times_length}
 use Rattle.expand_forms.specs.Named.{named}
-use Rattle.polynomials.specs.Polynomials.{Monomial as Exponents, Polynomial as Packed, Summand as PackedSummand, AreSame as AreSameValues, product as packed_product, raised as packed_raised, row as packed_row, scaled as packed_scaled}
-use Rattle.polynomials.specs.Terms.{polynomial_of}
+use Rattle.polynomials.specs.Polynomials.{Monomial as Exponents, Polynomial as Packed, Summand as PackedSummand, AreSame as AreSameValues, product as packed_product, raised as packed_raised}
+use Rattle.polynomials.specs.{Polynomials.{row as packed_row, scaled as packed_scaled}, Terms.{polynomial_of}}
 
 -- ---- coefficients
 

@@ -1,10 +1,9 @@
 -- The names of polynomials, and of expanded trees.
-use Rattle.expand_forms.proofs.Shared.{ℕ, ◌+◌, List, [], ◌∷◌, Bool, true, false, arith, Contains, if◌then◌else◌, Ordering, Less, Equal, Greater, nat_cmp, slice_cmp, Within, no_new_name}
-use Rattle.expand_forms.proofs.Shared.{within_both, within_left, within_none, within_right, within_same, within_trans, product_tree, HasNoNewName, inverse, is_one_fraction, minus_one_fraction}
-use Rattle.expand_forms.proofs.Shared.{Tree, num, symbol, undef, add, mult, power, root, neg, sub, div, Trees, none, more, names, names_of, expanded, factor_tree, factor_trees, monomial_tree}
-use Rattle.expand_forms.proofs.Shared.{normal, sum_tree, term_tree, term_trees, AreNamed, IsNamed, Factor, Monomial, Polynomial, Summand, factor, monomial_times, scaled, with_factor, divisor_of}
-use Rattle.expand_forms.proofs.Shared.{exponent_of, polynomial_of, product_of, sum_of, Contains-push}
-use Rattle.expand_forms.proofs.AllMonomials.{AllHave, IsClosed, append_all, normal_all, product_all, raised_all, scaled_all}
+use Rattle.expand_forms.proofs.Shared.{ℕ, ◌+◌, List, [], ◌∷◌, Bool, true, false, arith, Contains, if◌then◌else◌, Ordering, Less, Equal, Greater, nat_cmp, slice_cmp, Within, no_new_name, within_both}
+use Rattle.expand_forms.proofs.Shared.{within_left, within_none, within_right, within_same, within_trans, product_tree, HasNoNewName, inverse, is_one_fraction, minus_one_fraction, Tree, num, symbol}
+use Rattle.expand_forms.proofs.Shared.{undef, add, mult, power, root, neg, sub, div, Trees, none, more, names, names_of, expanded, factor_tree, factor_trees, monomial_tree, normal, sum_tree}
+use Rattle.expand_forms.proofs.Shared.{term_tree, term_trees, AreNamed, IsNamed, Factor, Monomial, Polynomial, Summand, factor, monomial_times, scaled, with_factor, divisor_of, exponent_of}
+use Rattle.expand_forms.proofs.{Shared.{polynomial_of, product_of, sum_of, Contains-push}, AllMonomials.{AllHave, IsClosed, append_all, normal_all, product_all, raised_all, scaled_all}}
 
 -- ---- monomials
 

@@ -2,11 +2,8 @@
 use Rattle.expand_forms.proofs.Shared.{◌≡◌, ◌<◌, ◌≤◌, ◌+◌, ◌*◌, ℕ, zero, suc, Result, true, sym, ap, ◌∙◌, subst, arith, IfErr, and_parts, bits, bits_of, high, low, most_bits, Fraction, inverse}
 use Rattle.expand_forms.proofs.Shared.{minus_one_fraction, Payload, Tree, add, power, sub, div, Trees, none, more, count, root_kind, AreHeldTogether, IsHeld, IsNoOverflow, scaled, divisor_of}
 use Rattle.expand_forms.proofs.Shared.{exponent_of, is_divisor, is_exponent, is_polynomial, polynomial_of, product_of, AreExpandedFrom, IsOver, children_of, grown, nth, OfOverflow, NumberFault}
-use Rattle.expand_forms.proofs.ChildExpansions.{divisor_same, exponent_same}
-use Rattle.expand_forms.proofs.Held.{held_more, held_opposite, held_product, one_held}
-use Rattle.expand_forms.proofs.Nodes.{from}
-use Rattle.expand_forms.proofs.TreeBits.{answers_held, difference_held, expanded_held, held_together, power_within, quotient_held, sum_held}
-use Rattle.expand_forms.proofs.TreeMonomials.{tree_monomials}
+use Rattle.expand_forms.proofs.{ChildExpansions.{divisor_same, exponent_same}, Held.{held_more, held_opposite, held_product, one_held}, Nodes.{from}, TreeBits.{answers_held, difference_held}}
+use Rattle.expand_forms.proofs.{TreeBits.{expanded_held, held_together, power_within, quotient_held, sum_held}, TreeMonomials.{tree_monomials}}
 use Rattle.calc_terms.specs.declared.kind.Kind.TheVariants as kind
 
 -- ---- few bits, or more

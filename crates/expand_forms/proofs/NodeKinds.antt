@@ -1,8 +1,7 @@
 -- What the kind of a node over expanded children tells of it.
-use Rattle.expand_forms.proofs.Shared.{◌≡◌, ◌≢◌, ◌≤◌, ℕ, ℤ, suc, pos, Bool, true, false, of_z, to_z, ap, ◌∙◌, arith, FitsSigned, Some, None, if◌then◌else◌, w128, to_z-of_z, Rat, Fraction}
-use Rattle.expand_forms.proofs.Shared.{ratio_of, value_of, Tree, num, power, div, count, is_num, root_kind, expanded, exponent_of, has_polynomial_root, is_divisor, is_exponent, is_small}
-use Rattle.expand_forms.proofs.Shared.{natural_of, polynomial_of, AreExpanded, IsExpanded, ratio_parts, children_of, nth, has_factors, has_parts}
-use Rattle.expand_forms.proofs.Expansions.{constant_expanded, name_expanded}
+use Rattle.expand_forms.proofs.Shared.{◌≡◌, ◌≢◌, ◌≤◌, ℕ, ℤ, suc, pos, Bool, true, false, of_z, to_z, ap, ◌∙◌, arith, FitsSigned, Some, None, if◌then◌else◌, w128, to_z-of_z, Rat, Fraction, ratio_of}
+use Rattle.expand_forms.proofs.Shared.{value_of, Tree, num, power, div, count, is_num, root_kind, expanded, exponent_of, has_polynomial_root, is_divisor, is_exponent, is_small, natural_of}
+use Rattle.expand_forms.proofs.{Shared.{polynomial_of, AreExpanded, IsExpanded, ratio_parts, children_of, nth, has_factors, has_parts}, Expansions.{constant_expanded, name_expanded}}
 use Rattle.expand_forms.proofs.NodeChildren.{expanded_nth}
 use Rattle.calc_terms.specs.declared.kind.Kind.TheVariants as kind
 

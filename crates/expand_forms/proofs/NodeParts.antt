@@ -1,19 +1,13 @@
 -- The parts and the factors of a node over expanded children.
-use Rattle.expand_forms.proofs.Shared.{◌≡◌, ◌≢◌, ◌<◌, ◌≤◌, ◌+◌, ◌*◌, ℕ, zero, suc, negsuc, Bool, List, [], ◌∷◌, ◌++◌, true, false, drop, take, length, append_assoc, refl, sym, ap, ◌∙◌, subst}
-use Rattle.expand_forms.proofs.Shared.{arith, append-nil, if◌then◌else◌, AreExpanded, AreExpandedFrom, AreHeldTogether, Fraction, HasFewTerms, HasNoNewName, IsExpanded, IsHeld, IsTerm}
-use Rattle.expand_forms.proofs.Shared.{Polynomial, Tree, Trees, Within, add, bits_of, children_of, count, div, divisor_of, exponent_of, high, inverse, inverse_times_itself, is_divisor, is_num}
-use Rattle.expand_forms.proofs.Shared.{is_one_fraction, is_polynomial, is_zero_fraction, low, minus_one_fraction, more, mult, names, names_of, neg, no_new_name, no_zero, none, nth, num}
-use Rattle.expand_forms.proofs.Shared.{one_fraction, polynomial_of, power, product, product_of, raised, root_kind, scaled, sub, sum_of, times, whole_numerator, within_both, within_left}
-use Rattle.expand_forms.proofs.Shared.{within_none, within_of, within_same, within_trans, zero_fraction, zero_times, one_not_zero, int_is_zero, normal, Part, each_once, has_factors, has_parts}
-use Rattle.expand_forms.proofs.Shared.{multiplied, part, part_factor, parts_of, repeated, total, constant, summand, row}
-use Rattle.expand_forms.proofs.Expansions.{constant_is_expanded}
-use Rattle.expand_forms.proofs.FewTerms.{few_names}
-use Rattle.expand_forms.proofs.Gathered.{IsGathered, gathered_is, gathered_products, gathered_trans}
-use Rattle.expand_forms.proofs.Names.{are_named, product_named}
-use Rattle.expand_forms.proofs.NodeBits.{difference_over, few_bits, opposite_over, power_over, product_over, quotient_over, sum_over}
-use Rattle.expand_forms.proofs.NodeRooms.{names_from, nth_names}
-use Rattle.expand_forms.proofs.Nodes.{from}
-use Rattle.expand_forms.proofs.Rows.{is_nonzero}
+use Rattle.expand_forms.proofs.Shared.{◌≡◌, ◌≢◌, ◌<◌, ◌≤◌, ◌+◌, ◌*◌, ℕ, zero, suc, negsuc, Bool, List, [], ◌∷◌, ◌++◌, true, false, drop, take, length, append_assoc, refl, sym, ap, ◌∙◌, subst, arith}
+use Rattle.expand_forms.proofs.Shared.{append-nil, if◌then◌else◌, AreExpanded, AreExpandedFrom, AreHeldTogether, Fraction, HasFewTerms, HasNoNewName, IsExpanded, IsHeld, IsTerm, Polynomial, Tree}
+use Rattle.expand_forms.proofs.Shared.{Trees, Within, add, bits_of, children_of, count, div, divisor_of, exponent_of, high, inverse, inverse_times_itself, is_divisor, is_num, is_one_fraction}
+use Rattle.expand_forms.proofs.Shared.{is_polynomial, is_zero_fraction, low, minus_one_fraction, more, mult, names, names_of, neg, no_new_name, no_zero, none, nth, num, one_fraction, polynomial_of}
+use Rattle.expand_forms.proofs.Shared.{power, product, product_of, raised, root_kind, scaled, sub, sum_of, times, whole_numerator, within_both, within_left, within_none, within_of, within_same}
+use Rattle.expand_forms.proofs.Shared.{within_trans, zero_fraction, zero_times, one_not_zero, int_is_zero, normal, Part, each_once, has_factors, has_parts, multiplied, part, part_factor, parts_of}
+use Rattle.expand_forms.proofs.{Shared.{repeated, total, constant, summand, row}, Expansions.{constant_is_expanded}, FewTerms.{few_names}}
+use Rattle.expand_forms.proofs.{Gathered.{IsGathered, gathered_is, gathered_products, gathered_trans}, Names.{are_named, product_named}, NodeBits.{difference_over, few_bits, opposite_over}}
+use Rattle.expand_forms.proofs.{NodeBits.{power_over, product_over, quotient_over, sum_over}, NodeRooms.{names_from, nth_names}, Nodes.{from}, Rows.{is_nonzero}}
 use Rattle.expand_forms.proofs.SameCoefficients.{constant_product, scaled_one}
 use Rattle.calc_terms.specs.declared.kind.Kind.TheVariants as kind
 

@@ -1,15 +1,10 @@
 -- A node over the answers of its children has no more terms and no other names than the node that was handed.
 use Rattle.expand_forms.proofs.Shared.{◌≡◌, ℕ, zero, suc, ◌^◌, ◌≤◌, ◌<◌, [], ◌++◌, length, true, false, sym, ap, subst, arith, le-max_right, pow-le-pow_left, and_parts, eqb-true, length-append}
-use Rattle.expand_forms.proofs.Shared.{mul-le, Within, no_new_name, within_beside, within_left, within_none, within_of, within_same, within_trans, HasNoNewName, inverse, minus_one_fraction}
-use Rattle.expand_forms.proofs.Shared.{Payload, rational, named, bare, Kind, Tree, symbol, neg, Trees, none, more, count, is_symbol, names, names_of, product_of_terms, sum_of_terms, terms}
-use Rattle.expand_forms.proofs.Shared.{are_polynomials, divisor_of, exponent_of, is_divisor, is_exponent, is_polynomial, polynomial_of, product_of, sum_of, AreExpandedFrom, IsExpandedFrom}
-use Rattle.expand_forms.proofs.Shared.{children_of, compound, grown, nth, takes, takes_kind}
-use Rattle.expand_forms.proofs.ChildExpansions.{exponent_same}
-use Rattle.expand_forms.proofs.ChildRooms.{child_names}
-use Rattle.expand_forms.proofs.FewTerms.{expanded_few, few_names}
-use Rattle.expand_forms.proofs.Names.{expanded_no_new_name}
-use Rattle.expand_forms.proofs.TermCounts.{few_terms, product_length, raised_length, scaled_length, some_terms}
-use Rattle.expand_forms.proofs.TermPolynomials.{tree_normal}
+use Rattle.expand_forms.proofs.Shared.{mul-le, Within, no_new_name, within_beside, within_left, within_none, within_of, within_same, within_trans, HasNoNewName, inverse, minus_one_fraction, Payload}
+use Rattle.expand_forms.proofs.Shared.{rational, named, bare, Kind, Tree, symbol, neg, Trees, none, more, count, is_symbol, names, names_of, product_of_terms, sum_of_terms, terms, are_polynomials}
+use Rattle.expand_forms.proofs.Shared.{divisor_of, exponent_of, is_divisor, is_exponent, is_polynomial, polynomial_of, product_of, sum_of, AreExpandedFrom, IsExpandedFrom, children_of, compound}
+use Rattle.expand_forms.proofs.{Shared.{grown, nth, takes, takes_kind}, ChildExpansions.{exponent_same}, ChildRooms.{child_names}, FewTerms.{expanded_few, few_names}, Names.{expanded_no_new_name}}
+use Rattle.expand_forms.proofs.{TermCounts.{few_terms, product_length, raised_length, scaled_length, some_terms}, TermPolynomials.{tree_normal}}
 use Rattle.calc_terms.specs.declared.kind.Kind.TheVariants as kind
 
 -- ---- answers

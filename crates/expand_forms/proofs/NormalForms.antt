@@ -1,9 +1,8 @@
 -- The normal polynomial keeps coefficients, and is the only one with them.
 use Rattle.expand_forms.proofs.Shared.{arith, ◌≡◌, [], ◌∷◌, Bool, true, false, refl, sym, ap, ◌∙◌, subst, if◌then◌else◌, Ordering, Less, Equal, Greater, zero_is, no_zero, zero_plus, Fraction}
 use Rattle.expand_forms.proofs.Shared.{is_zero_fraction, plus, plus_assoc, zero_fraction, not_from_false, Monomial, Polynomial, Summand, coefficient_at, is_same_monomial, summand, IsBeforeAll}
-use Rattle.expand_forms.proofs.Shared.{IsNormal, joined, monomial_cmp, normal, with_summand, without_zeros}
-use Rattle.expand_forms.proofs.Arithmetic.{plus_left_comm, plus_zero}
-use Rattle.expand_forms.proofs.MonomialTrees.{chained, equal_is, less_apart, not_same, same_is, same_itself, turned}
+use Rattle.expand_forms.proofs.{Shared.{IsNormal, joined, monomial_cmp, normal, with_summand, without_zeros}, Arithmetic.{plus_left_comm, plus_zero}, MonomialTrees.{chained, equal_is, less_apart}}
+use Rattle.expand_forms.proofs.MonomialTrees.{not_same, same_is, same_itself, turned}
 
 -- ---- coefficients
 

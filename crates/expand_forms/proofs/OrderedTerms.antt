@@ -1,14 +1,12 @@
 -- Lists of terms in the order of their trees.
-use Rattle.expand_forms.proofs.Shared.{◌≡◌, ℕ, suc, ◌+◌, ◌<◌, ◌≤◌, ◌^◌, List, [], ◌∷◌, length, get_or, Bool, true, false, inl, inr, refl, sym, ap, ◌∙◌, subst, arith, sum_by, IsPermutation, ◌==◌}
-use Rattle.expand_forms.proofs.Shared.{cond, IsSorted, reverse, if◌then◌else◌, AllByRecursion, reverse-reverse, All-from_recursion, recursion_from_All, is_lt, All-permutation}
-use Rattle.expand_forms.proofs.Shared.{sum_by-IsPermutation, by_test, eq-eqb, ne_eqb, not_from_false, ordering_reverse, Ordering, Less, Equal, Greater, Fraction, is_zero_fraction, no_zero, plus}
-use Rattle.expand_forms.proofs.Shared.{zero_fraction, zero_plus, value_of, IsNormal, monomial_cmp, normal, Monomial, Polynomial, Summand, AreMonomials, coefficient_at, is_same_monomial, summand}
-use Rattle.expand_forms.proofs.Shared.{one_unpacked, AreNames, AreOf, HaveNames, IsListOf, named_polynomial, packed_cmp, packed_term_cmp, monomial_of, Term}
+use Rattle.expand_forms.proofs.Shared.{◌≡◌, ℕ, suc, ◌+◌, ◌<◌, ◌≤◌, ◌^◌, List, [], ◌∷◌, length, get_or, Bool, true, false, inl, inr, refl, sym, ap, ◌∙◌, subst, arith, sum_by, IsPermutation, ◌==◌, cond}
+use Rattle.expand_forms.proofs.Shared.{IsSorted, reverse, if◌then◌else◌, AllByRecursion, reverse-reverse, All-from_recursion, recursion_from_All, is_lt, All-permutation, sum_by-IsPermutation, by_test}
+use Rattle.expand_forms.proofs.Shared.{eq-eqb, ne_eqb, not_from_false, ordering_reverse, Ordering, Less, Equal, Greater, Fraction, is_zero_fraction, no_zero, plus, zero_fraction, zero_plus, value_of}
+use Rattle.expand_forms.proofs.Shared.{IsNormal, monomial_cmp, normal, Monomial, Polynomial, Summand, AreMonomials, coefficient_at, is_same_monomial, summand, one_unpacked, AreNames, AreOf, HaveNames}
+use Rattle.expand_forms.proofs.{Shared.{IsListOf, named_polynomial, packed_cmp, packed_term_cmp, monomial_of, Term}, NamedMonomials.{named_monomial}}
+use Rattle.expand_forms.proofs.{NormalForms.{before_more, normal_coefficient, normal_is, one_normal}, Totals.{total, total_moved}, PackedOrders.{order_equal, packed_length, packed_named}}
+use Rattle.expand_forms.proofs.PackedOrders.{packed_order, packed_total, which}
 use Rattle.std.proofs.lemmas.List.Sums.{sum_by-cons}
-use Rattle.expand_forms.proofs.NamedMonomials.{named_monomial}
-use Rattle.expand_forms.proofs.NormalForms.{before_more, normal_coefficient, normal_is, one_normal}
-use Rattle.expand_forms.proofs.Totals.{total, total_moved}
-use Rattle.expand_forms.proofs.PackedOrders.{order_equal, packed_length, packed_named, packed_order, packed_total, which}
 use Rattle.expand_forms.specs.Named.{named}
 use Rattle.polynomials.specs.Terms.{IsBelowAll as IsBelowTerms, IsNormal as AreSorted, polynomial_of}
 

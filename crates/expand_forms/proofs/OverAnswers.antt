@@ -1,12 +1,8 @@
 -- A node over the expanded trees of its children, from the tree as it was.
 use Rattle.expand_forms.proofs.Shared.{◌≡◌, ℕ, ◌≤◌, ◌<◌, length, true, Result, sym, ap, ◌∙◌, subst, arith, IfErr, and_parts, AreSame, HasNoNewName, IsExpanded, Tree, Trees, none, more, names}
-use Rattle.expand_forms.proofs.Shared.{expanded, most_terms, node_bytes, are_polynomials, has_polynomial_root, is_polynomial, polynomial_of, AreExpanded, IsExpandedFrom, IsOver, IsPolynomial}
-use Rattle.expand_forms.proofs.Shared.{OfFull, children_of, grown, NumberFault, EachTree}
-use Rattle.expand_forms.proofs.ChildExpansions.{IsOver as IsOverSame, child_expanded, child_same, divisor_same, exponent_same, over_payload}
-use Rattle.expand_forms.proofs.Expansions.{constant_expanded, expanded_same, name_expanded}
-use Rattle.expand_forms.proofs.SameCoefficients.{same_is, same_trans}
-use Rattle.expand_forms.proofs.NodeTerms.{over_names, over_terms}
-use Rattle.expand_forms.proofs.TermCounts.{most_of_all}
+use Rattle.expand_forms.proofs.Shared.{expanded, most_terms, node_bytes, are_polynomials, has_polynomial_root, is_polynomial, polynomial_of, AreExpanded, IsExpandedFrom, IsOver, IsPolynomial, OfFull}
+use Rattle.expand_forms.proofs.{Shared.{children_of, grown, NumberFault, EachTree}, ChildExpansions.{IsOver as IsOverSame, child_expanded, child_same, divisor_same, exponent_same, over_payload}}
+use Rattle.expand_forms.proofs.{Expansions.{constant_expanded, expanded_same, name_expanded}, SameCoefficients.{same_is, same_trans}, NodeTerms.{over_names, over_terms}, TermCounts.{most_of_all}}
 use Rattle.reduce_walk.specs.Leaves.{is_leaf}
 
 -- ---- children

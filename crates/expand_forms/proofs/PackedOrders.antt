@@ -1,12 +1,11 @@
 -- The order of packed monomials is that of their trees, with any names.
 use Rattle.expand_forms.proofs.Shared.{◌≡◌, ℕ, zero, suc, ◌+◌, ◌/◌, ◌%◌, ◌<◌, List, [], ◌∷◌, length, get_or, drop, Bool, true, false, inl, inr, refl, sym, ap, ◌∙◌, arith, div-div-eq-div-mul}
-use Rattle.expand_forms.proofs.Shared.{bytes_high_first, ◌==◌, not, reverse, ◌⊎◌, length-reverse, tree_cmp_total, trees_cmp_turned, code_of, monomial_of, unpacked, by_test, eq-eqb, eqb-true}
-use Rattle.expand_forms.proofs.Shared.{Ordering, Less, Equal, Greater, nat_cmp, slice_cmp, ordering_index, ordering_then, ordering_reverse, nat_list_cmp_total, tree_cmp, trees_cmp, tree_cmp_refl}
-use Rattle.expand_forms.proofs.Shared.{tree_cmp_same, root_code, root_kind, Trees, more, symbol, factor_tree, factor_trees, monomial_cmp, monomial_tree, Monomial, factor, AreNames, AreOf}
-use Rattle.expand_forms.proofs.Shared.{AreZero, IsBelowNames, factors_of, behind_cmp, eight_names, exponents_cmp, first_exponent, kind_with, packed_cmp, packed_term_cmp, Term}
+use Rattle.expand_forms.proofs.Shared.{bytes_high_first, ◌==◌, not, reverse, ◌⊎◌, length-reverse, tree_cmp_total, trees_cmp_turned, code_of, monomial_of, unpacked, by_test, eq-eqb, eqb-true, Ordering}
+use Rattle.expand_forms.proofs.Shared.{Less, Equal, Greater, nat_cmp, slice_cmp, ordering_index, ordering_then, ordering_reverse, nat_list_cmp_total, tree_cmp, trees_cmp, tree_cmp_refl, tree_cmp_same}
+use Rattle.expand_forms.proofs.Shared.{root_code, root_kind, Trees, more, symbol, factor_tree, factor_trees, monomial_cmp, monomial_tree, Monomial, factor, AreNames, AreOf, AreZero, IsBelowNames}
+use Rattle.expand_forms.proofs.{Shared.{factors_of, behind_cmp, eight_names, exponents_cmp, first_exponent, kind_with, packed_cmp, packed_term_cmp, Term}, FactorOrders.{factors_cmp, monomials_cmp}}
 use Rattle.std.proofs.Math.Seq.{drop-cons}
 use Rattle.std.specs.Cmp.{IsTotalOrder, on_total}
-use Rattle.expand_forms.proofs.FactorOrders.{factors_cmp, monomials_cmp}
 use Rattle.expand_forms.specs.Named.{named}
 use Rattle.calc_terms.specs.declared.kind.Kind.TheVariants as kind
 

@@ -1,10 +1,8 @@
 -- Listed factors, placed one by one.
 use Rattle.expand_forms.proofs.Shared.{◌≡◌, ℕ, zero, suc, ◌+◌, ◌<◌, ◌≤◌, List, [], ◌∷◌, ◌++◌, length, get_or, take, refl, sym, ap, ◌∙◌, subst, arith, Bool, true, false, if◌then◌else◌, num_most}
-use Rattle.expand_forms.proofs.Shared.{Fraction, is_one_fraction, Tree, Trees, num, none, more, append, count, sizes, State, factor_tree, factor_trees, term_tree, AddsTrees, Factor, Monomial}
-use Rattle.expand_forms.proofs.Shared.{summand, IsRead, led_by, Forest, join, Gives, KeepsFront, KeepsRefusals, Stands, forest, join_assoc, front_same, kept_same, represents_join, AreRead}
-use Rattle.expand_forms.proofs.AddedTrees.{adds_more, adds_none}
-use Rattle.expand_forms.proofs.FactorLists.{read_length}
-use Rattle.expand_forms.proofs.TermReadings.{count_factors, factors_append, led_term}
+use Rattle.expand_forms.proofs.Shared.{Fraction, is_one_fraction, Tree, Trees, num, none, more, append, count, sizes, State, factor_tree, factor_trees, term_tree, AddsTrees, Factor, Monomial, summand}
+use Rattle.expand_forms.proofs.Shared.{IsRead, led_by, Forest, join, Gives, KeepsFront, KeepsRefusals, Stands, forest, join_assoc, front_same, kept_same, represents_join, AreRead}
+use Rattle.expand_forms.proofs.{AddedTrees.{adds_more, adds_none}, FactorLists.{read_length}, TermReadings.{count_factors, factors_append, led_term}}
 use Rattle.expand_forms.specs.declared.factors.Factor.{Factor as Read}
 
 -- the factor at a place

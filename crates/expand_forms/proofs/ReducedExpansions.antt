@@ -1,13 +1,10 @@
 -- The expanded tree of a polynomial is reduced.
 use Rattle.expand_forms.proofs.Shared.{arith, ◌≡◌, ◌≢◌, inl, inr, [], ◌∷◌, true, refl, sym, ap, ◌∙◌, subst, if◌then◌else◌, not_from_false, Less, is_number, HasForm, IsSumForm, NoneIs, RisesBy}
-use Rattle.expand_forms.proofs.Shared.{is_reduced, number_terms, other_terms, part_of, tree_cmp, one_is, zero_test, Fraction, zero_fraction, AllParts, AllPartsOf, HasTwo, Tree, num, Trees, none}
-use Rattle.expand_forms.proofs.Shared.{more, is_add, IsBeforeAll, IsNormal, expanded, monomial_cmp, monomial_tree, normal, sum_tree, term_tree, term_trees, Factor, IsMonomial, Monomial}
-use Rattle.expand_forms.proofs.Shared.{Polynomial, Summand, polynomial_of}
+use Rattle.expand_forms.proofs.Shared.{is_reduced, number_terms, other_terms, part_of, tree_cmp, one_is, zero_test, Fraction, zero_fraction, AllParts, AllPartsOf, HasTwo, Tree, num, Trees, none, more}
+use Rattle.expand_forms.proofs.Shared.{is_add, IsBeforeAll, IsNormal, expanded, monomial_cmp, monomial_tree, normal, sum_tree, term_tree, term_trees, Factor, IsMonomial, Monomial, Polynomial, Summand}
+use Rattle.expand_forms.proofs.{Shared.{polynomial_of}, AllMonomials.{AllHave, normal_all}, FactorTrees.{not_before_one, term_no_add, term_no_number, term_no_term, term_part, term_parts}}
+use Rattle.expand_forms.proofs.{NormalForms.{normal_is}, TreeMonomials.{tree_monomials}}
 use Rattle.calc_algebra.proofs.ReducedLaws.{reduced_test}
-use Rattle.expand_forms.proofs.AllMonomials.{AllHave, normal_all}
-use Rattle.expand_forms.proofs.FactorTrees.{not_before_one, term_no_add, term_no_number, term_no_term, term_part, term_parts}
-use Rattle.expand_forms.proofs.NormalForms.{normal_is}
-use Rattle.expand_forms.proofs.TreeMonomials.{tree_monomials}
 
 -- ---- terms with names
 

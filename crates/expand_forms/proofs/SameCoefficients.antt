@@ -1,10 +1,8 @@
 -- Polynomials with the same coefficients, in sums and products.
-use Rattle.expand_forms.proofs.Shared.{◌≡◌, [], ◌∷◌, ◌++◌, map, Bool, true, false, refl, sym, ap, ◌∙◌, append-nil, append_assoc, if◌then◌else◌, Ordering, Less, Equal, Greater, times_zero}
-use Rattle.expand_forms.proofs.Shared.{zero_is, one_times, times_comm, times_plus, zero_plus, zero_times, Fraction, is_zero_fraction, one_fraction, plus, plus_assoc, plus_comm, times}
-use Rattle.expand_forms.proofs.Shared.{zero_fraction, joined, monomial_cmp, normal, with_summand, without_zeros, Monomial, Polynomial, Summand, coefficient_at, constant, is_same_monomial}
-use Rattle.expand_forms.proofs.Shared.{monomial_times, product, scaled, summand, summand_times, AreSame}
-use Rattle.expand_forms.proofs.Arithmetic.{plus_both, plus_left_comm, plus_times}
-use Rattle.expand_forms.proofs.MonomialTrees.{equal_is}
+use Rattle.expand_forms.proofs.Shared.{◌≡◌, [], ◌∷◌, ◌++◌, map, Bool, true, false, refl, sym, ap, ◌∙◌, append-nil, append_assoc, if◌then◌else◌, Ordering, Less, Equal, Greater, times_zero, zero_is}
+use Rattle.expand_forms.proofs.Shared.{one_times, times_comm, times_plus, zero_plus, zero_times, Fraction, is_zero_fraction, one_fraction, plus, plus_assoc, plus_comm, times, zero_fraction, joined}
+use Rattle.expand_forms.proofs.Shared.{monomial_cmp, normal, with_summand, without_zeros, Monomial, Polynomial, Summand, coefficient_at, constant, is_same_monomial, monomial_times, product, scaled}
+use Rattle.expand_forms.proofs.{Shared.{summand, summand_times, AreSame}, Arithmetic.{plus_both, plus_left_comm, plus_times}, MonomialTrees.{equal_is}}
 use Rattle.expand_forms.proofs.NormalForms.{normal_coefficient, one_normal_form}
 
 -- ---- the relation

@@ -1,12 +1,9 @@
 -- Polynomials in two parts, one of which is joined to a sum: both are held as the whole is.
 use Rattle.expand_forms.proofs.Shared.{◌≡◌, ◌⊎◌, inl, inr, ℕ, zero, suc, ◌+◌, ◌^◌, ◌≤◌, ◌<◌, [], ◌∷◌, ◌++◌, pos, Bool, true, false, refl, sym, ap, ◌∙◌, subst, arith, mul-le, pow-add, pow_below}
-use Rattle.expand_forms.proofs.Shared.{magnitude_over, den_divides, magnitude_lowest, fraction_fits, sum_fits, Fraction, lowest, Tree, Trees, count, normal, sum_tree, term_trees, AreWhole}
-use Rattle.expand_forms.proofs.Shared.{IsHeld, mass, AreMonomials, Polynomial, Summand, polynomial_of, IsExpanded, IsSum, coefficient_in, children_of, nth, ◌∣◌}
+use Rattle.expand_forms.proofs.Shared.{magnitude_over, den_divides, magnitude_lowest, fraction_fits, sum_fits, Fraction, lowest, Tree, Trees, count, normal, sum_tree, term_trees, AreWhole, IsHeld}
+use Rattle.expand_forms.proofs.{Shared.{mass, AreMonomials, Polynomial, Summand, polynomial_of, IsExpanded, IsSum, coefficient_in, children_of, nth, ◌∣◌}, Joins.{sum_polynomial_is}}
+use Rattle.expand_forms.proofs.{Masses.{exponents_right, mass_append, whole_right}, TermPolynomials.{terms_polynomial, term_coefficient, term_polynomial, tree_normal}, TermReadings.{sum_children}}
 use Rattle.calc_bits.proofs.Fitting.{multiple_fits, sum_fits_over}
-use Rattle.expand_forms.proofs.Joins.{sum_polynomial_is}
-use Rattle.expand_forms.proofs.Masses.{exponents_right, mass_append, whole_right}
-use Rattle.expand_forms.proofs.TermPolynomials.{terms_polynomial, term_coefficient, term_polynomial, tree_normal}
-use Rattle.expand_forms.proofs.TermReadings.{sum_children}
 
 -- the part that stands behind
 pub held_behind : (v w : Polynomial) {h l : ℕ} → IsHeld (v ++ w) h l → IsHeld w h l

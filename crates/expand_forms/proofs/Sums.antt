@@ -1,8 +1,6 @@
 -- A sum that stands last, with other terms.
 use Rattle.expand_forms.proofs.Shared.{refl, Forest, Gives, without_root, gives_as, ◌≡◌, ℕ, ◌<◌, ◌≤◌, sym, ap, ◌∙◌, subst, Less, term_cmp, Tree, Trees, add, count, IsSum, children_of, nth, true}
-use Rattle.expand_forms.proofs.Shared.{is_add}
-use Rattle.expand_forms.proofs.SumPlaces.{below_up_to}
-use Rattle.expand_forms.proofs.TermReadings.{sum_children}
+use Rattle.expand_forms.proofs.{Shared.{is_add}, SumPlaces.{below_up_to}, TermReadings.{sum_children}}
 
 pub sum_is : {t : Tree} → IsSum t → t ≡ add (children_of t)
 sum_is s = s.tree ∙ sym (ap (λ (u : Tree). add (children_of u)) s.tree)

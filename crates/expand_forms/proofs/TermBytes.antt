@@ -1,10 +1,8 @@
 -- How many bytes terms and sums of them have.
 use Rattle.expand_forms.proofs.Shared.{ℕ, suc, ◌+◌, ◌*◌, ◌≤◌, List, [], ◌∷◌, length, Bool, true, false, arith, if◌then◌else◌, Ordering, Less, Equal, Greater, mul-le, product_tree, num_most}
-use Rattle.expand_forms.proofs.Shared.{is_one_fraction, is_zero_fraction, one_fraction, plus, num, more, size, sizes, expanded, factor_tree, factor_trees, joined, monomial_cmp, monomial_tree}
-use Rattle.expand_forms.proofs.Shared.{normal, sum_tree, term_tree, term_trees, with_summand, without_zeros, IsNamed, count_distinct, term_bytes, terms_bytes, sum_bytes, Factor, IsMonomial}
-use Rattle.expand_forms.proofs.Shared.{Monomial, Polynomial, Summand, summand}
-use Rattle.expand_forms.proofs.AllMonomials.{AllHave, normal_all}
-use Rattle.expand_forms.proofs.Widths.{few_factors}
+use Rattle.expand_forms.proofs.Shared.{is_one_fraction, is_zero_fraction, one_fraction, plus, num, more, size, sizes, expanded, factor_tree, factor_trees, joined, monomial_cmp, monomial_tree, normal}
+use Rattle.expand_forms.proofs.Shared.{sum_tree, term_tree, term_trees, with_summand, without_zeros, IsNamed, count_distinct, term_bytes, terms_bytes, sum_bytes, Factor, IsMonomial, Monomial}
+use Rattle.expand_forms.proofs.{Shared.{Polynomial, Summand, summand}, AllMonomials.{AllHave, normal_all}, Widths.{few_factors}}
 
 -- ---- terms
 

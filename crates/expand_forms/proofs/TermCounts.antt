@@ -1,13 +1,10 @@
 -- How many summands the polynomial of a tree has, and the room of an expansion.
 use Rattle.expand_forms.proofs.Shared.{◌≡◌, ℕ, zero, suc, ◌*◌, ◌^◌, ◌≤◌, List, [], ◌∷◌, length, map, true, sym, ap, ◌∙◌, arith, le-max_left, le-max_right, one-le-pow, pow-le-pow_left, pow-succ'}
-use Rattle.expand_forms.proofs.Shared.{pow-zero, and_parts, length-append, length-map, mul-le, Within, within_same, Fraction, inverse, minus_one_fraction, times, Tree, num, symbol, undef, add}
-use Rattle.expand_forms.proofs.Shared.{mult, power, root, neg, sub, div, Trees, none, more, names, nodes, size, expanded, IsNamed, count_distinct, expansion_room, most_terms, product_of_terms}
-use Rattle.expand_forms.proofs.Shared.{sum_bytes, sum_of_terms, terms, IsMonomial, Polynomial, Summand, product, raised, scaled, summand, summand_times, are_polynomials, divisor_of, exponent_of}
-use Rattle.expand_forms.proofs.Shared.{is_divisor, is_exponent, is_polynomial, polynomial_of, product_of, sum_of, nodes_by_children}
-use Rattle.expand_forms.proofs.AllMonomials.{AllHave}
-use Rattle.expand_forms.proofs.Names.{tree_named}
-use Rattle.expand_forms.proofs.TermBytes.{IsNamedMonomial, expanded_most}
-use Rattle.expand_forms.proofs.TreeMonomials.{tree_monomials}
+use Rattle.expand_forms.proofs.Shared.{pow-zero, and_parts, length-append, length-map, mul-le, Within, within_same, Fraction, inverse, minus_one_fraction, times, Tree, num, symbol, undef, add, mult}
+use Rattle.expand_forms.proofs.Shared.{power, root, neg, sub, div, Trees, none, more, names, nodes, size, expanded, IsNamed, count_distinct, expansion_room, most_terms, product_of_terms, sum_bytes}
+use Rattle.expand_forms.proofs.Shared.{sum_of_terms, terms, IsMonomial, Polynomial, Summand, product, raised, scaled, summand, summand_times, are_polynomials, divisor_of, exponent_of, is_divisor}
+use Rattle.expand_forms.proofs.{Shared.{is_exponent, is_polynomial, polynomial_of, product_of, sum_of, nodes_by_children}, AllMonomials.{AllHave}, Names.{tree_named}}
+use Rattle.expand_forms.proofs.{TermBytes.{IsNamedMonomial, expanded_most}, TreeMonomials.{tree_monomials}}
 
 -- ---- lengths
 

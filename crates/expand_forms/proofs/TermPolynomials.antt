@@ -1,16 +1,10 @@
 -- The polynomials of terms and of expanded trees, and how these are read.
-use Rattle.expand_forms.proofs.Shared.{◌≡◌, ◌≢◌, ◌≤◌, ℕ, zero, suc, List, [], ◌∷◌, ◌++◌, Bool, true, false, refl, sym, ap, ◌∙◌, arith, not, if◌then◌else◌, false_from_ne_true, product_tree}
-use Rattle.expand_forms.proofs.Shared.{no_zero, one_is, whole_denominator, whole_numerator, zero_is, one_times, zero_plus, Fraction, is_one_fraction, is_zero_fraction, one_fraction, plus, times}
-use Rattle.expand_forms.proofs.Shared.{zero_fraction, Tree, num, mult, none, more, whole_num, IsNormal, expanded, factor_tree, factor_trees, monomial_tree, normal, sum_tree, term_tree}
-use Rattle.expand_forms.proofs.Shared.{term_trees, AreMonomials, Factor, IsMonomial, Monomial, Polynomial, Summand, constant, factor, is_same_monomial, product, raised, summand, variable}
-use Rattle.expand_forms.proofs.Shared.{exponent_of, polynomial_of, product_of, sum_of, AreSame, IsExpanded, coefficient_in, factors_in, terms_in}
-use Rattle.expand_forms.proofs.AllMonomials.{normal_all}
-use Rattle.expand_forms.proofs.Arithmetic.{times_one}
-use Rattle.expand_forms.proofs.FactorTrees.{on_factor}
-use Rattle.expand_forms.proofs.MonomialProducts.{name_again, put_first}
-use Rattle.expand_forms.proofs.NormalForms.{normal_is}
-use Rattle.expand_forms.proofs.SameCoefficients.{same_is, same_normal, same_trans}
-use Rattle.expand_forms.proofs.TreeMonomials.{all_monomials, tree_monomials}
+use Rattle.expand_forms.proofs.Shared.{◌≡◌, ◌≢◌, ◌≤◌, ℕ, zero, suc, List, [], ◌∷◌, ◌++◌, Bool, true, false, refl, sym, ap, ◌∙◌, arith, not, if◌then◌else◌, false_from_ne_true, product_tree, no_zero}
+use Rattle.expand_forms.proofs.Shared.{one_is, whole_denominator, whole_numerator, zero_is, one_times, zero_plus, Fraction, is_one_fraction, is_zero_fraction, one_fraction, plus, times, zero_fraction}
+use Rattle.expand_forms.proofs.Shared.{Tree, num, mult, none, more, whole_num, IsNormal, expanded, factor_tree, factor_trees, monomial_tree, normal, sum_tree, term_tree, term_trees, AreMonomials}
+use Rattle.expand_forms.proofs.Shared.{Factor, IsMonomial, Monomial, Polynomial, Summand, constant, factor, is_same_monomial, product, raised, summand, variable, exponent_of, polynomial_of}
+use Rattle.expand_forms.proofs.{Shared.{product_of, sum_of, AreSame, IsExpanded, coefficient_in, factors_in, terms_in}, AllMonomials.{normal_all}, Arithmetic.{times_one}, FactorTrees.{on_factor}}
+use Rattle.expand_forms.proofs.{MonomialProducts.{name_again, put_first}, NormalForms.{normal_is}, SameCoefficients.{same_is, same_normal, same_trans}, TreeMonomials.{all_monomials, tree_monomials}}
 
 -- ---- factors
 

@@ -1,14 +1,11 @@
 -- What readers of terms are told.
-use Rattle.expand_forms.proofs.Shared.{◌≡◌, ◌≤◌, ◌<◌, ℕ, ℤ, pos, zero, suc, ◌+◌, length, [], ◌∷◌, ◌++◌, drop, true, false, Result, refl, sym, ap, ◌∙◌, subst, arith, ◌==◌, IfOk, ints}
-use Rattle.expand_forms.proofs.Shared.{product_tree, one_is, whole_denominator, whole_numerator, int_is_one, value_of, Fraction, is_one_fraction, lowest, one_fraction, plus, plus_lowest, Tree}
-use Rattle.expand_forms.proofs.Shared.{num, symbol, mult, power, Trees, more, append, count, is_add, is_mult, is_num, root_kind, factor_tree, factor_trees, term_tree, term_trees, IsFirst, IsNext}
-use Rattle.expand_forms.proofs.Shared.{Next, Factor, IsMonomial, Monomial, summand, IsSum, HasMonomial, IsRead, IsTerm, coefficient_in, factors_in, first_place, led_by, terms_in, holds-left}
-use Rattle.expand_forms.proofs.Shared.{tree_at-join_left, IsExpression, children_of, nth, plain, Forest, Gives, tree_at, name_of}
+use Rattle.expand_forms.proofs.Shared.{◌≡◌, ◌≤◌, ◌<◌, ℕ, ℤ, pos, zero, suc, ◌+◌, length, [], ◌∷◌, ◌++◌, drop, true, false, Result, refl, sym, ap, ◌∙◌, subst, arith, ◌==◌, IfOk, ints, product_tree}
+use Rattle.expand_forms.proofs.Shared.{one_is, whole_denominator, whole_numerator, int_is_one, value_of, Fraction, is_one_fraction, lowest, one_fraction, plus, plus_lowest, Tree, num, symbol, mult}
+use Rattle.expand_forms.proofs.Shared.{power, Trees, more, append, count, is_add, is_mult, is_num, root_kind, factor_tree, factor_trees, term_tree, term_trees, IsFirst, IsNext, Next, Factor}
+use Rattle.expand_forms.proofs.Shared.{IsMonomial, Monomial, summand, IsSum, HasMonomial, IsRead, IsTerm, coefficient_in, factors_in, first_place, led_by, terms_in, holds-left, tree_at-join_left}
+use Rattle.expand_forms.proofs.{Shared.{IsExpression, children_of, nth, plain, Forest, Gives, tree_at, name_of}, FactorTrees.{on_factor}, MonomialProducts.{below_times, both_first, left_first}}
+use Rattle.expand_forms.proofs.{MonomialProducts.{put_first, right_is_first}, SumPlaces.{summand_at}, TermPolynomials.{term_factors}}
 use Rattle.expand_forms.specs.declared.factors.Factor.{Factor as Read}
-use Rattle.expand_forms.proofs.FactorTrees.{on_factor}
-use Rattle.expand_forms.proofs.MonomialProducts.{below_times, both_first, left_first, put_first, right_is_first}
-use Rattle.expand_forms.proofs.SumPlaces.{summand_at}
-use Rattle.expand_forms.proofs.TermPolynomials.{term_factors}
 use Rattle.calc_terms.specs.declared.kind.Kind.TheVariants as kind
 
 -- ---- a product's factors among its children

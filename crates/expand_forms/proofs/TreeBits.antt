@@ -1,15 +1,13 @@
 -- The polynomial of a tree is held by the tree's bits.
-use Rattle.expand_forms.proofs.Shared.{◌≡◌, ℕ, zero, suc, ◌+◌, ◌*◌, ◌^◌, ◌≤◌, ◌<◌, max, pos, negsuc, ℤ, List, [], ◌++◌, append-nil, Bool, true, false, refl, sym, ap, ◌∙◌, subst, arith, nat_abs}
-use Rattle.expand_forms.proofs.Shared.{neg_ℤ, Option, not, dvd_refl, le-max_left, le-max_right, max-le, pow-le-pow_right, and_parts, mul-le, pow-add, magnitude_over, cancel_right, den_divides}
+use Rattle.expand_forms.proofs.Shared.{◌≡◌, ℕ, zero, suc, ◌+◌, ◌*◌, ◌^◌, ◌≤◌, ◌<◌, max, pos, negsuc, ℤ, List, [], ◌++◌, append-nil, Bool, true, false, refl, sym, ap, ◌∙◌, subst, arith, nat_abs, neg_ℤ}
+use Rattle.expand_forms.proofs.Shared.{Option, not, dvd_refl, le-max_left, le-max_right, max-le, pow-le-pow_right, and_parts, mul-le, pow-add, magnitude_over, cancel_right, den_divides}
 use Rattle.expand_forms.proofs.Shared.{magnitude_cross, magnitude_lowest, half_literal, or_literal, whole_literal, HighLow, bounds, bounds_of_terms, ceil_log2, high, low, power_bounds, Fraction}
 use Rattle.expand_forms.proofs.Shared.{den_pos, inverse, inverse_of, minus_one_fraction, mul_pos, int_is_zero, Tree, num, symbol, undef, add, mult, power, root, neg, sub, div, Trees, none, more}
-use Rattle.expand_forms.proofs.Shared.{count, negative_parts, AreHeldTogether, AreWhole, HaveExponents, IsHeld, mass, Polynomial, constant, scaled, variable, are_polynomials, divisor_of}
-use Rattle.expand_forms.proofs.Shared.{exponent_of, is_divisor, is_exponent, is_polynomial, is_small, natural_of, polynomial_of, product_of, sum_of, AreExpandedFrom, IsExpandedFrom}
+use Rattle.expand_forms.proofs.Shared.{count, negative_parts, AreHeldTogether, AreWhole, HaveExponents, IsHeld, mass, Polynomial, constant, scaled, variable, are_polynomials, divisor_of, exponent_of}
+use Rattle.expand_forms.proofs.{Shared.{is_divisor, is_exponent, is_polynomial, is_small, natural_of, polynomial_of, product_of, sum_of, AreExpandedFrom, IsExpandedFrom}, Held.{answer_held}}
+use Rattle.expand_forms.proofs.{Held.{held_more, held_opposite, held_product, held_raised, one_den, one_held, one_magnitude}, Masses.{exponents_append, mass_append, mass_scale, more_exponents}}
+use Rattle.expand_forms.proofs.{Masses.{whole_append, whole_scale}, SameCoefficients.{constant_product}, TreeMonomials.{tree_monomials}}
 use Rattle.calc_measures.proofs.CeilLog2.{ceil_log2_is}
-use Rattle.expand_forms.proofs.Held.{answer_held, held_more, held_opposite, held_product, held_raised, one_den, one_held, one_magnitude}
-use Rattle.expand_forms.proofs.Masses.{exponents_append, mass_append, mass_scale, more_exponents, whole_append, whole_scale}
-use Rattle.expand_forms.proofs.SameCoefficients.{constant_product}
-use Rattle.expand_forms.proofs.TreeMonomials.{tree_monomials}
 
 -- ---- rationals
 

@@ -1,15 +1,14 @@
 -- What a polynomial tree means is what its polynomial is worth.
 use Rattle.expand_forms.proofs.Shared.{◌≡◌, ◌≢◌, ◌≤◌, ℕ, zero, suc, ℤ, pos, negsuc, Bool, true, false, refl, sym, ap, ◌∙◌, arith, Option, Some, None, ◌==◌, neg_ℤ, ◌*ℤ◌, if◌then◌else◌, and_parts}
 use Rattle.expand_forms.proofs.Shared.{eqb-true, ints, Assignment, IsAssignment, IsWholePower, Means, MeansSum, MeansProduct, Surd, surd_of, Inverts-surd_of, inverse_times_itself, negative_times}
-use Rattle.expand_forms.proofs.Shared.{Same-sym, one_meaning, surd_power-surd_of, exponent_is, Same-trans, Same-Agree, Agree, Agree-Same, Agree-surd_times_right, Agree-trans, one_inverse}
-use Rattle.expand_forms.proofs.Shared.{Same-append, Same-eq, Same-refl, Same-surd_power, Same-surd_scale, Same-surd_times, joined_radicand, zero_term, opposite, whole_literal, whole_value}
-use Rattle.expand_forms.proofs.Shared.{no_zero, whole_denominator, whole_numerator, fraction_power, negative_lowest, one_times, plus_negative, times_comm, Fraction, fraction_path, inverse}
-use Rattle.expand_forms.proofs.Shared.{lowest, minus_one_fraction, negative, one_fraction, plus, times, times_lowest, whole_fraction, zero_fraction, Tree, num, symbol, undef, add, mult, power}
-use Rattle.expand_forms.proofs.Shared.{root, neg, sub, div, Trees, none, more, scaled, are_polynomials, divisor_of, exponent_of, is_divisor, is_exponent, is_nonzero, is_polynomial, is_small}
-use Rattle.expand_forms.proofs.Shared.{natural_of, polynomial_of, product_of, sum_of, polynomial_value}
+use Rattle.expand_forms.proofs.Shared.{Same-sym, one_meaning, surd_power-surd_of, exponent_is, Same-trans, Same-Agree, Agree, Agree-Same, Agree-surd_times_right, Agree-trans, one_inverse, Same-append}
+use Rattle.expand_forms.proofs.Shared.{Same-eq, Same-refl, Same-surd_power, Same-surd_scale, Same-surd_times, joined_radicand, zero_term, opposite, whole_literal, whole_value, no_zero}
+use Rattle.expand_forms.proofs.Shared.{whole_denominator, whole_numerator, fraction_power, negative_lowest, one_times, plus_negative, times_comm, Fraction, fraction_path, inverse, lowest}
+use Rattle.expand_forms.proofs.Shared.{minus_one_fraction, negative, one_fraction, plus, times, times_lowest, whole_fraction, zero_fraction, Tree, num, symbol, undef, add, mult, power, root, neg, sub}
+use Rattle.expand_forms.proofs.Shared.{div, Trees, none, more, scaled, are_polynomials, divisor_of, exponent_of, is_divisor, is_exponent, is_nonzero, is_polynomial, is_small, natural_of}
+use Rattle.expand_forms.proofs.{Shared.{polynomial_of, product_of, sum_of, polynomial_value}, Arithmetic.{plus_zero}, ValueLaws.{append_value, constant_value, given_is, product_value, raised_value}}
+use Rattle.expand_forms.proofs.ValueLaws.{scaled_value, variable_value}
 use Rattle.calc_algebra.specs.SquareClasses.{Same, Inverts}
-use Rattle.expand_forms.proofs.Arithmetic.{plus_zero}
-use Rattle.expand_forms.proofs.ValueLaws.{append_value, constant_value, given_is, product_value, raised_value, scaled_value, variable_value}
 
 -- ---- whole literals
 

@@ -1,9 +1,8 @@
 -- The polynomial of a tree has monomials only.
 use Rattle.expand_forms.proofs.Shared.{◌≡◌, ◌≤◌, ℕ, ◌+◌, List, [], ◌∷◌, refl, sym, ap, ◌∙◌, subst, arith, Ordering, Less, Equal, Greater, nat_cmp, ordering_reverse, nat_list_cmp_total, slice_cmp}
-use Rattle.expand_forms.proofs.Shared.{minus_one_fraction, inverse, Tree, num, symbol, undef, add, mult, power, root, neg, sub, div, Trees, none, more, AreMonomials, Factor, IsBelowAll}
-use Rattle.expand_forms.proofs.Shared.{IsMonomial, Monomial, Polynomial, factor, monomial_times, scaled, with_factor, divisor_of, exponent_of, polynomial_of, product_of, sum_of}
-use Rattle.expand_forms.proofs.AllMonomials.{AllHave, IsClosed, append_all, product_all, raised_all, scaled_all}
-use Rattle.expand_forms.proofs.ValueLaws.{names_equal}
+use Rattle.expand_forms.proofs.Shared.{minus_one_fraction, inverse, Tree, num, symbol, undef, add, mult, power, root, neg, sub, div, Trees, none, more, AreMonomials, Factor, IsBelowAll, IsMonomial}
+use Rattle.expand_forms.proofs.{Shared.{Monomial, Polynomial, factor, monomial_times, scaled, with_factor, divisor_of, exponent_of, polynomial_of, product_of, sum_of}, AllMonomials.{AllHave}}
+use Rattle.expand_forms.proofs.{AllMonomials.{IsClosed, append_all, product_all, raised_all, scaled_all}, ValueLaws.{names_equal}}
 
 pub names_turned : (x y : List ℕ) → slice_cmp nat_cmp x y ≡ Greater → slice_cmp nat_cmp y x ≡ Less
 names_turned x y g = nat_list_cmp_total.antisymm y x ∙ ap ordering_reverse g

@@ -1,10 +1,7 @@
 -- Products in either order.
 use Rattle.expand_forms.proofs.Shared.{◌≡◌, [], ◌∷◌, ◌++◌, map, refl, sym, ap, ◌∙◌, times_comm, IsBelowAll, IsMonomial, Monomial, Factor, Polynomial, Summand, monomial_times, product, summand}
-use Rattle.expand_forms.proofs.Shared.{summand_times, with_factor}
-use Rattle.expand_forms.proofs.AllMonomials.{AllHave}
-use Rattle.expand_forms.proofs.Gathered.{IsGathered, gathered_append, gathered_is, gathered_refl, gathered_second, gathered_trans}
-use Rattle.expand_forms.proofs.MonomialProducts.{put_first, with_turned}
-use Rattle.expand_forms.proofs.SameCoefficients.{product_nil}
+use Rattle.expand_forms.proofs.{Shared.{summand_times, with_factor}, AllMonomials.{AllHave}, Gathered.{IsGathered, gathered_append, gathered_is, gathered_refl, gathered_second, gathered_trans}}
+use Rattle.expand_forms.proofs.{MonomialProducts.{put_first, with_turned}, SameCoefficients.{product_nil}}
 
 -- ---- two factors
 

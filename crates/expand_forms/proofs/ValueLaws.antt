@@ -1,12 +1,11 @@
 -- The arithmetic of polynomials is that of their values.
 use Rattle.expand_forms.proofs.Shared.{◌≡◌, ◌⊎◌, inl, inr, ℕ, zero, suc, ◌+◌, List, [], ◌∷◌, ◌++◌, map, Bool, true, false, refl, sym, ap, ◌∙◌, arith, if◌then◌else◌, Contains, bytes_eq}
-use Rattle.expand_forms.proofs.Shared.{bytes_eq-Decides, Ordering, Less, Equal, Greater, nat_cmp, slice_cmp, Assignment, IsAssignment, Binding, times_zero, tree_cmp_equal, fraction_power}
-use Rattle.expand_forms.proofs.Shared.{times_assoc, times_plus, zero_plus, zero_times, one_times, Fraction, plus, times, one_fraction, plus_assoc, Tree, symbol, Factor, Monomial, Polynomial}
-use Rattle.expand_forms.proofs.Shared.{Summand, constant, factor, monomial_times, product, raised, scaled, summand_times, variable, with_factor, factor_value, given, monomial_value}
-use Rattle.expand_forms.proofs.Shared.{polynomial_value, summand_value}
+use Rattle.expand_forms.proofs.Shared.{bytes_eq-Decides, Ordering, Less, Equal, Greater, nat_cmp, slice_cmp, Assignment, IsAssignment, Binding, times_zero, tree_cmp_equal, fraction_power, times_assoc}
+use Rattle.expand_forms.proofs.Shared.{times_plus, zero_plus, zero_times, one_times, Fraction, plus, times, one_fraction, plus_assoc, Tree, symbol, Factor, Monomial, Polynomial, Summand, constant}
+use Rattle.expand_forms.proofs.Shared.{factor, monomial_times, product, raised, scaled, summand_times, variable, with_factor, factor_value, given, monomial_value, polynomial_value, summand_value}
+use Rattle.expand_forms.proofs.Arithmetic.{plus_both, plus_times, plus_zero, power_plus, times_exchange, times_left_comm, times_one}
 use Rattle.calc_algebra.specs.Meanings.{Gives}
 use Rattle.calc_algebra.proofs.MeaningLaws.{one_value}
-use Rattle.expand_forms.proofs.Arithmetic.{plus_both, plus_times, plus_zero, power_plus, times_exchange, times_left_comm, times_one}
 
 -- ---- names
 

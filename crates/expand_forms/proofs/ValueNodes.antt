@@ -1,15 +1,9 @@
 -- Nodes over expanded children that are expanded as values.
 use Rattle.expand_forms.proofs.Shared.{◌≡◌, ℕ, List, [], ◌∷◌, subst, true, false, Result, Ok, Err, OnOk, is_err, is_ok, Contains, AreSame, IsMonomial, Tree, names, within_trans, children_of, nth}
-use Rattle.expand_forms.proofs.Shared.{Polynomial, product, AreNames, IsListOf, named_polynomial, Term}
-use Rattle.expand_forms.proofs.ChildRooms.{child_names}
-use Rattle.expand_forms.proofs.NodeRooms.{nth_names}
-use Rattle.expand_forms.proofs.AllMonomials.{AllHave}
-use Rattle.expand_forms.proofs.NamedMonomials.{named_monomial}
-use Rattle.expand_forms.proofs.SameCoefficients.{product_both, same_sym, same_trans}
-use Rattle.expand_forms.proofs.Turned.{product_turned}
+use Rattle.expand_forms.proofs.{Shared.{Polynomial, product, AreNames, IsListOf, named_polynomial, Term}, ChildRooms.{child_names}, NodeRooms.{nth_names}, AllMonomials.{AllHave}}
+use Rattle.expand_forms.proofs.{NamedMonomials.{named_monomial}, SameCoefficients.{product_both, same_sym, same_trans}, Turned.{product_turned}}
 use Rattle.expand_forms.specs.ByValues.{CanName}
-use Rattle.polynomials.specs.Polynomials.{Polynomial as Packed}
-use Rattle.polynomials.specs.Terms.{polynomial_of as packed_of}
+use Rattle.polynomials.specs.{Polynomials.{Polynomial as Packed}, Terms.{polynomial_of as packed_of}}
 
 -- ---- what a test tells
 

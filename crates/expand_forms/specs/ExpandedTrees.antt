@@ -1,11 +1,7 @@
 -- The expanded tree of a polynomial: the reduced sum of one term for each monomial whose coefficient is not 0.
-use Rattle.std.specs.Prelude.{◌≡◌, ◌≢◌, ⊤, ◌==◌, [], ◌∷◌, if◌then◌else◌}
-use Rattle.std.specs.declared.cmp.Ordering.{Ordering}
-use Rattle.std.specs.declared.cmp.Ordering.TheVariants.{Less, Equal, Greater}
-use Rattle.calc_algebra.specs.Reduced.{product_tree}
-use Rattle.calc_algebra.specs.TreeOrder.{tree_cmp}
-use Rattle.calc_terms.specs.Fractions.{plus, zero_fraction, is_one_fraction, is_zero_fraction}
-use Rattle.calc_terms.specs.Trees.{Tree, num, symbol, add, power, Trees, none, more, whole_num}
+use Rattle.std.specs.{Prelude.{◌≡◌, ◌≢◌, ⊤, ◌==◌, [], ◌∷◌, if◌then◌else◌}, declared.cmp.Ordering.{Ordering}, declared.cmp.Ordering.TheVariants.{Less, Equal, Greater}}
+use Rattle.calc_algebra.specs.{Reduced.{product_tree}, TreeOrder.{tree_cmp}}
+use Rattle.calc_terms.specs.{Fractions.{plus, zero_fraction, is_one_fraction, is_zero_fraction}, Trees.{Tree, num, symbol, add, power, Trees, none, more, whole_num}}
 use Rattle.expand_forms.specs.Polynomials.{Factor, Monomial, Polynomial, Summand, summand}
 
 -- ---- monomials as trees

@@ -1,12 +1,9 @@
 -- How large the coefficients and the exponents of a polynomial are.
-use Rattle.std.specs.Prelude.{ℕ, ◌+◌, ◌*◌, ◌^◌, ◌≤◌, ◌<◌, ⊤, [], ◌∷◌}
-use Rattle.std.specs.Int.{◌∣◌}
+use Rattle.std.specs.{Prelude.{ℕ, ◌+◌, ◌*◌, ◌^◌, ◌≤◌, ◌<◌, ⊤, [], ◌∷◌}, Int.{◌∣◌}}
 use Rattle.calc_bits.specs.Denominators.{magnitude_over}
 use Rattle.calc_terms.specs.Trees.{Trees, none, more}
-use Rattle.expand_forms.specs.Polynomials.{Monomial, Polynomial}
-use Rattle.expand_forms.specs.PolynomialTrees.{polynomial_of}
-use Rattle.tree_handles.specs.Faults.{OfOverflow}
-use Rattle.tree_handles.specs.declared.fault.NumberFault.{NumberFault}
+use Rattle.expand_forms.specs.{Polynomials.{Monomial, Polynomial}, PolynomialTrees.{polynomial_of}}
+use Rattle.tree_handles.specs.{Faults.{OfOverflow}, declared.fault.NumberFault.{NumberFault}}
 
 -- d times each coefficient is whole
 abbrev pub AreWhole : ℕ → Polynomial → Type 0

@@ -1,9 +1,7 @@
 -- A bound on the bytes that an expansion takes.
-use Rattle.std.specs.Prelude.{ℕ, suc, ◌+◌, ◌*◌, ◌^◌, ◌≤◌, ⊤, max, Bool, false, ◌||◌, List, [], ◌∷◌, length, Contains, if◌then◌else◌}
-use Rattle.std.specs.Str.{bytes_eq}
+use Rattle.std.specs.{Prelude.{ℕ, suc, ◌+◌, ◌*◌, ◌^◌, ◌≤◌, ⊤, max, Bool, false, ◌||◌, List, [], ◌∷◌, length, Contains, if◌then◌else◌}, Str.{bytes_eq}}
 use Rattle.calc_terms.specs.Trees.{Tree, num, symbol, add, mult, power, root, neg, sub, div, Trees, none, more, names, nodes}
-use Rattle.expand_forms.specs.Polynomials.{Monomial, Polynomial}
-use Rattle.expand_forms.specs.PolynomialTrees.{exponent_of}
+use Rattle.expand_forms.specs.{Polynomials.{Monomial, Polynomial}, PolynomialTrees.{exponent_of}}
 
 -- ---- terms
 

@@ -1,13 +1,7 @@
 -- Monomials as lists of their factors, and as nodes that a walk comes to.
 use Rattle.std.specs.Prelude.{◌≡◌, ⊤, List, [], ◌∷◌}
-use Rattle.expand_forms.specs.declared.factors.Factor.{Factor as Read}
-use Rattle.expand_forms.specs.ExpandedTrees.{factor_trees}
-use Rattle.expand_forms.specs.Polynomials.{IsMonomial, Monomial}
-use Rattle.expand_forms.specs.Terms.{IsRead}
-use Rattle.tree_handles.specs.declared.visits.Visit.{Visit}
-use Rattle.tree_handles.specs.Expressions.{AllExpressions, plains}
-use Rattle.tree_handles.specs.Forest.{Forest}
-use Rattle.tree_handles.specs.Visits.{visits_of, AreFound}
+use Rattle.expand_forms.specs.{declared.factors.Factor.{Factor as Read}, ExpandedTrees.{factor_trees}, Polynomials.{IsMonomial, Monomial}, Terms.{IsRead}}
+use Rattle.tree_handles.specs.{declared.visits.Visit.{Visit}, Expressions.{AllExpressions, plains}, Forest.{Forest}, Visits.{visits_of, AreFound}}
 
 -- factors as the code has them are those of a monomial, in their order
 abbrev pub AreRead : List Read → Monomial → Type 0

@@ -1,20 +1,11 @@
 -- The factors of terms, the first factor of a product of monomials, and new trees behind others.
-use Rattle.std.specs.Prelude.{ℕ, ◌≡◌, ◌≤◌, ◌+◌, [], ◌∷◌, drop, length, Option, Some, None}
-use Rattle.std.specs.declared.cmp.Ordering.{Ordering}
-use Rattle.std.specs.declared.cmp.Ordering.TheVariants.{Less, Equal, Greater}
-use Rattle.std.specs.Ordering.{nat_cmp}
-use Rattle.std.specs.Cmp.Lexicographic.{slice_cmp}
+use Rattle.std.specs.{Prelude.{ℕ, ◌≡◌, ◌≤◌, ◌+◌, [], ◌∷◌, drop, length, Option, Some, None}, declared.cmp.Ordering.{Ordering}, declared.cmp.Ordering.TheVariants.{Less, Equal, Greater}}
+use Rattle.std.specs.{Ordering.{nat_cmp}, Cmp.Lexicographic.{slice_cmp}}
 use Rattle.calc_terms.specs.Trees.{Trees, count, is_mult}
 use Rattle.child_lists.specs.Lists.{Lists}
-use Rattle.expand_forms.specs.declared.factors.Factor.{Factor as Read}
-use Rattle.expand_forms.specs.declared.factors.Factors.{Factors}
-use Rattle.expand_forms.specs.declared.merging.Next.{Next}
-use Rattle.expand_forms.specs.Polynomials.{Factor, Monomial, factor, monomial_times}
+use Rattle.expand_forms.specs.{declared.factors.Factor.{Factor as Read}, declared.factors.Factors.{Factors}, declared.merging.Next.{Next}, Polynomials.{Factor, Monomial, factor, monomial_times}}
 use Rattle.expand_forms.specs.Terms.{IsRead, factors_in, first_place}
-use Rattle.tree_handles.specs.Expressions.{children_of, plain}
-use Rattle.tree_handles.specs.Forest.{Forest, join}
-use Rattle.tree_handles.specs.Handed.{Represents}
-use Rattle.tree_handles.specs.Inside.{tree_at}
+use Rattle.tree_handles.specs.{Expressions.{children_of, plain}, Forest.{Forest, join}, Handed.{Represents}, Inside.{tree_at}}
 
 -- the product begins with this factor, which the first factors of one monomial or of both make, and goes on with the product of the others
 pub record IsNext (m n : Monomial) (x : Next) : Type 0 where

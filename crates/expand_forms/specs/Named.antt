@@ -1,15 +1,8 @@
 -- The names of packed monomials, and the polynomials of sorted lists of terms.
-use Rattle.std.specs.Prelude.{ℕ, zero, suc, ◌≡◌, ◌≢◌, ◌≤◌, ⊤, List, [], ◌∷◌, map, length, reverse}
-use Rattle.std.specs.declared.cmp.Ordering.TheVariants.{Less}
-use Rattle.std.specs.Ordering.{nat_cmp}
-use Rattle.std.specs.Cmp.Lexicographic.{slice_cmp}
-use Rattle.calc_terms.specs.Leaf.{name_of}
-use Rattle.calc_terms.specs.declared.name.Name.{Name}
-use Rattle.expand_forms.specs.Polynomials.{Monomial, Polynomial, factor, summand}
-use Rattle.expand_forms.specs.Sums.{AreSame}
-use Rattle.polynomials.specs.Polynomials.{Monomial as Exponents, Polynomial as PackedPolynomial, AreSame as AreSameValues}
-use Rattle.polynomials.specs.Terms.{IsNormal, polynomial_of}
-use Rattle.polynomials.specs.declared.term.Term.{Term}
+use Rattle.std.specs.{Prelude.{ℕ, zero, suc, ◌≡◌, ◌≢◌, ◌≤◌, ⊤, List, [], ◌∷◌, map, length, reverse}, declared.cmp.Ordering.TheVariants.{Less}, Ordering.{nat_cmp}, Cmp.Lexicographic.{slice_cmp}}
+use Rattle.calc_terms.specs.{Leaf.{name_of}, declared.name.Name.{Name}}
+use Rattle.expand_forms.specs.{Polynomials.{Monomial, Polynomial, factor, summand}, Sums.{AreSame}}
+use Rattle.polynomials.specs.{Polynomials.{Monomial as Exponents, Polynomial as PackedPolynomial, AreSame as AreSameValues}, Terms.{IsNormal, polynomial_of}, declared.term.Term.{Term}}
 
 -- ---- names
 

@@ -1,14 +1,10 @@
 -- The order of packed monomials, which is that of their trees.
-use Rattle.std.specs.Prelude.{ℕ, zero, suc, ◌==◌, List, [], ◌∷◌, if◌then◌else◌}
-use Rattle.std.specs.declared.cmp.Ordering.{Ordering}
-use Rattle.std.specs.declared.cmp.Ordering.TheVariants.{Less, Equal, Greater}
+use Rattle.std.specs.{Prelude.{ℕ, zero, suc, ◌==◌, List, [], ◌∷◌, if◌then◌else◌}, declared.cmp.Ordering.{Ordering}, declared.cmp.Ordering.TheVariants.{Less, Equal, Greater}}
 use Rattle.std.specs.Ordering.{nat_cmp, ordering_reverse}
 use Rattle.calc_terms.specs.declared.kind.Kind.{Kind}
 use Rattle.calc_terms.specs.declared.kind.Kind.TheVariants as kind
-use Rattle.expand_forms.specs.ExpandedTrees.{monomial_cmp}
-use Rattle.expand_forms.specs.Named.{named}
-use Rattle.polynomials.specs.Packed.{monomial_of}
-use Rattle.polynomials.specs.declared.term.Term.{Term}
+use Rattle.expand_forms.specs.{ExpandedTrees.{monomial_cmp}, Named.{named}}
+use Rattle.polynomials.specs.{Packed.{monomial_of}, declared.term.Term.{Term}}
 
 -- some eight names, in their order
 abbrev pub eight_names : List (List ℕ)

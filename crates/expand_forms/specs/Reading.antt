@@ -1,23 +1,11 @@
 -- Expanded trees read into sorted lists of terms.
 use Rattle.std.specs.Prelude.{ℕ, ◌≡◌, ◌≢◌, ◌≤◌, ◌⊎◌, ⊤, List, [], ◌∷◌, drop, length, Contains, Option}
-use Rattle.calc_terms.specs.Fractions.{zero_fraction}
-use Rattle.calc_terms.specs.Trees.{Tree}
-use Rattle.expand_forms.specs.declared.factors.Factor.{Factor as Read}
-use Rattle.expand_forms.specs.declared.unlisted.Unlisted.{Unlisted}
-use Rattle.expand_forms.specs.declared.unlisted.Unlisted.TheVariants.{Names, Exponents, Terms}
-use Rattle.expand_forms.specs.ExpandedTrees.{IsBeforeAll, term_tree}
-use Rattle.expand_forms.specs.ExpansionRoom.{IsNamed}
-use Rattle.expand_forms.specs.Listed.{AreAhead}
-use Rattle.expand_forms.specs.Merging.{BeginsWith}
-use Rattle.expand_forms.specs.Named.{IsWithin, led, named, named_polynomial}
-use Rattle.expand_forms.specs.Polynomials.{IsMonomial, Monomial, Polynomial, Summand}
-use Rattle.expand_forms.specs.Sums.{AreSame}
-use Rattle.polynomials.specs.Packed.{monomial_of}
-use Rattle.polynomials.specs.Terms.{IsNormal, polynomial_of}
-use Rattle.polynomials.specs.Unfits.{HasMonomial}
-use Rattle.polynomials.specs.declared.term.Term.{Term}
-use Rattle.tree_handles.specs.Forest.{Forest}
-use Rattle.tree_handles.specs.declared.visits.Visit.{Visit}
+use Rattle.calc_terms.specs.{Fractions.{zero_fraction}, Trees.{Tree}}
+use Rattle.expand_forms.specs.{declared.factors.Factor.{Factor as Read}, declared.unlisted.Unlisted.{Unlisted}, declared.unlisted.Unlisted.TheVariants.{Names, Exponents, Terms}}
+use Rattle.expand_forms.specs.{ExpandedTrees.{IsBeforeAll, term_tree}, ExpansionRoom.{IsNamed}, Listed.{AreAhead}, Merging.{BeginsWith}, Named.{IsWithin, led, named, named_polynomial}}
+use Rattle.expand_forms.specs.{Polynomials.{IsMonomial, Monomial, Polynomial, Summand}, Sums.{AreSame}}
+use Rattle.polynomials.specs.{Packed.{monomial_of}, Terms.{IsNormal, polynomial_of}, Unfits.{HasMonomial}, declared.term.Term.{Term}}
+use Rattle.tree_handles.specs.{Forest.{Forest}, declared.visits.Visit.{Visit}}
 
 -- there are too many names, an exponent is too large, or there are too many terms
 abbrev pub IsUnlistedBy : Type 0 → Type 0 → Type 0 → Unlisted → Type 0

@@ -1,11 +1,7 @@
 -- Expanded trees, and sums of terms under way.
-use Rattle.std.specs.Prelude.{ℕ, ◌≡◌, ◌<◌, ◌≤◌, ⊤, if◌then◌else◌}
-use Rattle.std.specs.declared.cmp.Ordering.TheVariants.{Less, Greater}
-use Rattle.calc_terms.specs.Fractions.{is_zero_fraction}
-use Rattle.calc_terms.specs.Trees.{Tree, add, Trees, none, more, count}
-use Rattle.expand_forms.specs.ExpandedTrees.{IsNormal, expanded, term_tree, term_trees}
-use Rattle.expand_forms.specs.Polynomials.{AreMonomials, Monomial, Polynomial, Summand, coefficient_at}
-use Rattle.expand_forms.specs.PolynomialTrees.{polynomial_of}
+use Rattle.std.specs.{Prelude.{ℕ, ◌≡◌, ◌<◌, ◌≤◌, ⊤, if◌then◌else◌}, declared.cmp.Ordering.TheVariants.{Less, Greater}}
+use Rattle.calc_terms.specs.{Fractions.{is_zero_fraction}, Trees.{Tree, add, Trees, none, more, count}}
+use Rattle.expand_forms.specs.{ExpandedTrees.{IsNormal, expanded, term_tree, term_trees}, Polynomials.{AreMonomials, Monomial, Polynomial, Summand, coefficient_at}, PolynomialTrees.{polynomial_of}}
 use Rattle.expand_forms.specs.Terms.{term_cmp}
 use Rattle.number_forms.specs.Sums.{removed}
 use Rattle.tree_handles.specs.Expressions.{inserted, nth}

@@ -1,17 +1,10 @@
 -- Terms as they are read, and the terms of an expanded tree.
-use Rattle.std.specs.Prelude.{ℕ, ◌≡◌, ◌≢◌, ◌≤◌, pos, [], Option, Some, None, if◌then◌else◌}
-use Rattle.std.specs.declared.cmp.Ordering.{Ordering}
-use Rattle.calc_algebra.specs.Reduced.{product_tree}
-use Rattle.calc_algebra.specs.TreeOrder.{tree_cmp}
-use Rattle.calc_terms.specs.Fractions.{Fraction, is_one_fraction, is_zero_fraction, lowest, one_fraction, zero_fraction}
-use Rattle.calc_terms.specs.Leaf.{name_of}
-use Rattle.calc_terms.specs.Rat.{value_of}
+use Rattle.std.specs.{Prelude.{ℕ, ◌≡◌, ◌≢◌, ◌≤◌, pos, [], Option, Some, None, if◌then◌else◌}, declared.cmp.Ordering.{Ordering}}
+use Rattle.calc_algebra.specs.{Reduced.{product_tree}, TreeOrder.{tree_cmp}}
+use Rattle.calc_terms.specs.{Fractions.{Fraction, is_one_fraction, is_zero_fraction, lowest, one_fraction, zero_fraction}, Leaf.{name_of}, Rat.{value_of}}
 use Rattle.calc_terms.specs.Trees.{Tree, num, add, mult, Trees, none, more}
-use Rattle.expand_forms.specs.declared.factors.Factor.{Factor as Read}
-use Rattle.expand_forms.specs.ExpandedTrees.{factor_trees, monomial_tree, term_tree}
-use Rattle.expand_forms.specs.Polynomials.{Factor, IsMonomial, Monomial, Summand}
-use Rattle.node_order.specs.declared.keys.Key.{Key}
-use Rattle.node_order.specs.Keys.{IsKey, key_tree}
+use Rattle.expand_forms.specs.{declared.factors.Factor.{Factor as Read}, ExpandedTrees.{factor_trees, monomial_tree, term_tree}, Polynomials.{Factor, IsMonomial, Monomial, Summand}}
+use Rattle.node_order.specs.{declared.keys.Key.{Key}, Keys.{IsKey, key_tree}}
 use Rattle.tree_handles.specs.Forest.{Forest}
 
 -- ---- a term

@@ -1,9 +1,7 @@
 -- What a polynomial is worth under an assignment.
-use Rattle.std.specs.Prelude.{ℕ, List, [], ◌∷◌, if◌then◌else◌}
-use Rattle.std.specs.Str.{bytes_eq}
+use Rattle.std.specs.{Prelude.{ℕ, List, [], ◌∷◌, if◌then◌else◌}, Str.{bytes_eq}}
 use Rattle.calc_algebra.specs.Meanings.{Assignment}
-use Rattle.calc_terms.specs.Fits.{fraction_power}
-use Rattle.calc_terms.specs.Fractions.{Fraction, plus, times, zero_fraction, one_fraction}
+use Rattle.calc_terms.specs.{Fits.{fraction_power}, Fractions.{Fraction, plus, times, zero_fraction, one_fraction}}
 use Rattle.expand_forms.specs.Polynomials.{Factor, Monomial, Polynomial, Summand}
 
 -- the fraction that f gives x, and 0 where it gives none

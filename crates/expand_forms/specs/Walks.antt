@@ -2,9 +2,7 @@
 use Rattle.std.specs.Prelude.{ℕ, ◌≡◌, ◌<◌, true}
 use Rattle.calc_measures.specs.Measures.{most_bits}
 use Rattle.calc_terms.specs.Trees.{Tree, Trees}
-use Rattle.expand_forms.specs.ExpandedTrees.{expanded}
-use Rattle.expand_forms.specs.ExpansionRoom.{expansion_room}
-use Rattle.expand_forms.specs.PolynomialTrees.{is_polynomial, polynomial_of}
+use Rattle.expand_forms.specs.{ExpandedTrees.{expanded}, ExpansionRoom.{expansion_room}, PolynomialTrees.{is_polynomial, polynomial_of}}
 use Rattle.rational128.specs.declared.overflow.Overflow.{Overflow}
 use Rattle.reduce_walk.specs.Answers.{AreAnswers, IsOver as IsOverAnswers}
 

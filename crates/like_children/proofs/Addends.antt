@@ -1,28 +1,18 @@
 -- The addends of terms, of multiples of terms, and of sums.
-use Rattle.std.proofs.Common.{◌≡◌, ◌≢◌, ◌≤◌, ◌⊎◌, inl, inr, [], ◌∷◌, Bool, true, false, if◌then◌else◌, refl, sym, ap, ◌∙◌, subst, arith, append-nil, map, one-mul}
-use Rattle.calc_algebra.proofs.NumberClasses.{one_not_zero}
-use Rattle.calc_algebra.proofs.NumberLaws.{number_test, term_words}
-use Rattle.calc_algebra.specs.Numbers.{AreTerms, IsNumber, is_number, natural_of, terms_of, value}
-use Rattle.calc_algebra.specs.Reduced.{HasForm, IsProductForm, IsSumForm, NoneIs, Split, num_one, number_terms, other_terms, part_of, product_tree, split_product}
-use Rattle.calc_algebra.specs.Surds.{Surd, surd_of, surd_one, surd_scale, surd_times, term, term_times}
+use Rattle.std.proofs.{Common.{◌≡◌, ◌≢◌, ◌≤◌, ◌⊎◌, inl, inr, [], ◌∷◌, Bool, true, false, if◌then◌else◌, refl, sym, ap, ◌∙◌, subst, arith, append-nil, map, one-mul}, lemmas.Bool.{true≢false}}
+use Rattle.calc_algebra.proofs.{NumberClasses.{one_not_zero}, NumberLaws.{number_test, term_words}, InverseLaws.{product_not_zero}}
+use Rattle.calc_algebra.specs.{Numbers.{AreTerms, IsNumber, is_number, natural_of, terms_of, value}, Reduced.{HasForm, IsProductForm, IsSumForm, NoneIs, Split, num_one, number_terms, other_terms}}
+use Rattle.calc_algebra.specs.{Reduced.{part_of, product_tree, split_product}, Surds.{Surd, surd_of, surd_one, surd_scale, surd_times, term, term_times}}
 use Rattle.calc_measures.specs.Loads.{has_coefficient}
 use Rattle.calc_terms.proofs.FractionFacts.{one_is, zero_test}
-use Rattle.calc_terms.specs.Fractions.{Fraction, is_one_fraction, one_fraction, times, zero_fraction}
-use Rattle.calc_terms.specs.Trees.{AllParts, AllPartsOf, Tree, Trees, add, append, count, is_add, more, mult, none, num, root}
-use Rattle.coefficients.proofs.Coefficients.{leading_factors, product_form_of}
-use Rattle.coefficients.proofs.Factors.{AreFactors, factors_monic, factors_of_tree, monic_coefficient, monic_no_number, monic_part, monic_parts, no_split, none_leads, spliced_split}
-use Rattle.coefficients.proofs.NumberMultiples.{IsFactor, not_one_is, number_scaled, terms-scaled, times_one}
-use Rattle.coefficients.proofs.SumMultiples.{number_term}
-use Rattle.coefficients.proofs.TermMultiples.{multiple}
-use Rattle.coefficients.specs.Coefficients.{IsMonic, coefficient_of, factors_of, spliced}
-use Rattle.coefficients.specs.Multiples.{mapped, rational_times_number, rational_times_sum, rational_times_term}
+use Rattle.calc_terms.specs.{Fractions.{Fraction, is_one_fraction, one_fraction, times, zero_fraction}, Trees.{AllParts, AllPartsOf, Tree, Trees, add, append, count, is_add, more, mult, none, num}}
+use Rattle.calc_terms.specs.Trees.{root}
+use Rattle.coefficients.proofs.{Coefficients.{leading_factors, product_form_of}, Factors.{AreFactors, factors_monic, factors_of_tree, monic_coefficient, monic_no_number, monic_part, monic_parts}}
+use Rattle.coefficients.proofs.{Factors.{no_split, none_leads, spliced_split}, NumberMultiples.{IsFactor, not_one_is, number_scaled, terms-scaled, times_one}, SumMultiples.{number_term}}
+use Rattle.coefficients.proofs.{TermMultiples.{multiple}, Splits.{IsCoefficient, Leads, in_front}, Forms.{no_term, term_test}}
+use Rattle.coefficients.specs.{Coefficients.{IsMonic, coefficient_of, factors_of, spliced}, Multiples.{mapped, rational_times_number, rational_times_sum, rational_times_term}}
 use Rattle.like_children.proofs.Parts.{last_parts}
-use Rattle.tree_bits.specs.Factors.{distributed}
-use Rattle.tree_bits.specs.HeldTrees.{Addend, addend, addend_of, addends, addends_of}
-use Rattle.calc_algebra.proofs.InverseLaws.{product_not_zero}
-use Rattle.coefficients.proofs.Splits.{IsCoefficient, Leads, in_front}
-use Rattle.coefficients.proofs.Forms.{no_term, term_test}
-use Rattle.std.proofs.lemmas.Bool.{true≢false}
+use Rattle.tree_bits.specs.{Factors.{distributed}, HeldTrees.{Addend, addend, addend_of, addends, addends_of}}
 
 -- ---- which terms make the Number
 

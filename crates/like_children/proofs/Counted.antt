@@ -1,25 +1,15 @@
 -- What trees count that change places, and a coefficient before a part.
-use Rattle.std.proofs.Common.{◌≡◌, inl, inr, ℕ, ◌+◌, ◌≤◌, max, Bool, true, false, not, if◌then◌else◌, refl, ap, ◌∙◌, sym, arith}
-use Rattle.calc_algebra.proofs.MeaningRewrites.{Permuted, permuted_more, permuted_none, permuted_swap, permuted_trans}
-use Rattle.calc_algebra.proofs.NumberLaws.{number_test}
-use Rattle.calc_algebra.specs.Numbers.{IsNumber, is_number}
-use Rattle.calc_algebra.specs.Reduced.{HasForm, NoneIs}
+use Rattle.std.proofs.{Common.{◌≡◌, inl, inr, ℕ, ◌+◌, ◌≤◌, max, Bool, true, false, not, if◌then◌else◌, refl, ap, ◌∙◌, sym, arith}, lemmas.Bool.{true≢false}}
+use Rattle.calc_algebra.proofs.{MeaningRewrites.{Permuted, permuted_more, permuted_none, permuted_swap, permuted_trans}, NumberLaws.{number_test}}
+use Rattle.calc_algebra.specs.{Numbers.{IsNumber, is_number}, Reduced.{HasForm, NoneIs}}
 use Rattle.calc_room.specs.Counts.{counted, counted_among}
 use Rattle.calc_terms.proofs.FractionFacts.{no_zero}
-use Rattle.calc_terms.specs.Fractions.{Fraction, is_one_fraction, is_zero_fraction, zero_fraction}
-use Rattle.calc_terms.specs.Trees.{AllPartsOf, Tree, Trees, add, is_add, more, none, num}
-use Rattle.coefficients.proofs.Coefficients.{monic_sum}
-use Rattle.coefficients.proofs.Factors.{monic_parts}
-use Rattle.coefficients.proofs.NumberMultiples.{IsFactor, not_one_is}
-use Rattle.coefficients.proofs.SumMultiples.{EachTerm, each_term, number_term}
-use Rattle.coefficients.proofs.TermMultiples.{multiple}
-use Rattle.coefficients.specs.Coefficients.{IsMonic, factors_of, rational_before, spliced, with_coefficient}
-use Rattle.coefficients.specs.Multiples.{mapped, rational_times_term}
-use Rattle.tree_room.proofs.Coefficients.{same_parts}
-use Rattle.tree_room.proofs.Counts.{appended, at_most_itself, counts_one}
+use Rattle.calc_terms.specs.{Fractions.{Fraction, is_one_fraction, is_zero_fraction, zero_fraction}, Trees.{AllPartsOf, Tree, Trees, add, is_add, more, none, num}}
+use Rattle.coefficients.proofs.{Coefficients.{monic_sum}, Factors.{monic_parts}, NumberMultiples.{IsFactor, not_one_is}, SumMultiples.{EachTerm, each_term, number_term}, TermMultiples.{multiple}}
+use Rattle.coefficients.specs.{Coefficients.{IsMonic, factors_of, rational_before, spliced, with_coefficient}, Multiples.{mapped, rational_times_term}}
+use Rattle.tree_room.proofs.{Coefficients.{same_parts}, Counts.{appended, at_most_itself, counts_one}}
 use Rattle.tree_room.specs.Handed.{HasSamePart, HaveSameParts}
 use Rattle.calc_room.proofs.TreeBytes.{term_counts}
-use Rattle.std.proofs.lemmas.Bool.{true≢false}
 
 -- what a tree counts among others
 abbrev pub counted_in : Tree → ℕ

@@ -1,9 +1,8 @@
 -- Numbers by their places, and rationals calculated from left to right.
-use Rattle.like_children.proofs.Shared.{true≢false, Err, ℕ, zero, suc, ◌≤◌, ◌≡◌, List, ◌∷◌, true, refl, sym, ap, ◌∙◌, subst, arith, and_parts, Fraction, is_number}
-use Rattle.like_children.proofs.Shared.{PlainValue, exactly, calculated, fold_values, gather, values, plain_of_children, plain_value, are_plain, NoneIs, Tree, num, add, mult, Trees, none, more, count}
-use Rattle.like_children.proofs.Shared.{is_num, are_rationals, State, AnswersRationals, Overflow, NumberFault, nth, removed, rational_of, rationals_of, AreFolded, IsTotal, AnswersTotal}
-use Rattle.like_children.proofs.Shared.{NoNumberBetween, IsNextNumber, others_in, Operation, add_op, mul_op, IsPlainAnswer, IsPlainOverflow}
-use Rattle.like_children.proofs.NumbersIn.{number_out}
+use Rattle.like_children.proofs.Shared.{true≢false, Err, ℕ, zero, suc, ◌≤◌, ◌≡◌, List, ◌∷◌, true, refl, sym, ap, ◌∙◌, subst, arith, and_parts, Fraction, is_number, PlainValue, exactly, calculated}
+use Rattle.like_children.proofs.Shared.{fold_values, gather, values, plain_of_children, plain_value, are_plain, NoneIs, Tree, num, add, mult, Trees, none, more, count, is_num, are_rationals, State}
+use Rattle.like_children.proofs.Shared.{AnswersRationals, Overflow, NumberFault, nth, removed, rational_of, rationals_of, AreFolded, IsTotal, AnswersTotal, NoNumberBetween, IsNextNumber, others_in}
+use Rattle.like_children.proofs.{Shared.{Operation, add_op, mul_op, IsPlainAnswer, IsPlainOverflow}, NumbersIn.{number_out}}
 use Rattle.tree_handles.specs.declared.fault.NumberFault.TheVariants as fault
 
 -- ---- Numbers by their places

@@ -1,7 +1,6 @@
 -- Children by their identifiers.
-use Rattle.like_children.proofs.Shared.{ℕ, suc, ◌<◌, ◌≤◌, ◌≡◌, List, [], ◌∷◌, sym, ap, ◌∙◌, arith, Tree, count, State, root_ids, nth, plain, children_of, IsExpression}
-use Rattle.like_children.proofs.Shared.{arity, rest_trees, tree_of, IsHanded, tree_at, kids_of, Stands, forest, kids_of_root, plain_root, expression_root, count-plains, children_of-plain, seen_child}
-use Rattle.like_children.proofs.Shared.{step_on, no_more}
+use Rattle.like_children.proofs.Shared.{ℕ, suc, ◌<◌, ◌≤◌, ◌≡◌, List, [], ◌∷◌, sym, ap, ◌∙◌, arith, Tree, count, State, root_ids, nth, plain, children_of, IsExpression, arity, rest_trees, tree_of}
+use Rattle.like_children.proofs.Shared.{IsHanded, tree_at, kids_of, Stands, forest, kids_of_root, plain_root, expression_root, count-plains, children_of-plain, seen_child, step_on, no_more}
 
 pub children_count : {s : State} {i : ℕ} → Stands s → IsHanded i (forest s) → arity (kids_of i (forest s)) ≡ count (children_of (tree_of i s))
 children_count h k = grind (arith, kids_of_root, count-plains, children_of-plain)

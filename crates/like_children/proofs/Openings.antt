@@ -1,8 +1,7 @@
 -- Children that are opened from the last to the first.
-use Rattle.like_children.proofs.Shared.{Option, MatchOption, ℕ, zero, suc, ◌+◌, ◌-◌, ◌≤◌, ◌<◌, ◌≡◌, refl, sym, ap, ◌∙◌, subst, arith, Tree, Trees, none, more, count}
-use Rattle.like_children.proofs.Shared.{opened_from, nth_opened, opened_at, opened_beside, IsSumOrProduct, HasChildren, NoneOpensBetween, IsLastToOpen, removed, nth, inserted, plain, children_of}
-use Rattle.like_children.proofs.Shared.{Forest, kids, IsHanded, Represents, root_tree, put, put-put, put-same}
-use Rattle.like_children.proofs.Many.{IsMany, many, many_put, many_same}
+use Rattle.like_children.proofs.Shared.{Option, MatchOption, ℕ, zero, suc, ◌+◌, ◌-◌, ◌≤◌, ◌<◌, ◌≡◌, refl, sym, ap, ◌∙◌, subst, arith, Tree, Trees, none, more, count, opened_from, nth_opened}
+use Rattle.like_children.proofs.Shared.{opened_at, opened_beside, IsSumOrProduct, HasChildren, NoneOpensBetween, IsLastToOpen, removed, nth, inserted, plain, children_of, Forest, kids, IsHanded}
+use Rattle.like_children.proofs.{Shared.{Represents, root_tree, put, put-put, put-same}, Many.{IsMany, many, many_put, many_same}}
 
 -- ---- the last one that gives way
 

@@ -1,7 +1,6 @@
 -- Trees that change places.
 use Rattle.std.specs.Prelude.{IsPermutation}
-use Rattle.std.proofs.Common.{◌≡◌, [], ◌∷◌, Bool, refl, ap, ◌∙◌, subst, arith}
-use Rattle.std.proofs.lemmas.List.Sorted.{IsPermutation-refl, IsPermutation-cons, IsPermutation-middle, IsPermutation-trans}
+use Rattle.std.proofs.{Common.{◌≡◌, [], ◌∷◌, Bool, refl, ap, ◌∙◌, subst, arith}, lemmas.List.Sorted.{IsPermutation-refl, IsPermutation-cons, IsPermutation-middle, IsPermutation-trans}}
 use Rattle.calc_algebra.proofs.MeaningRewrites.{Permuted, permuted_more, permuted_none, permuted_swap, permuted_trans, permuted_trees, trees_of}
 use Rattle.calc_algebra.specs.Reduced.{NoneIs}
 use Rattle.calc_terms.specs.Trees.{Tree, Trees, count, more, none}

@@ -1,9 +1,7 @@
 -- A root that has other children, and a tree beside it.
 use Rattle.std.specs.Prelude.{ℕ, ◌≡◌, ◌⊎◌, true, ⊤}
 use Rattle.calc_terms.specs.Trees.{Tree, Trees, is_add, is_mult}
-use Rattle.tree_handles.specs.Forest.{Forest}
-use Rattle.tree_handles.specs.Handed.{Represents, Gives}
-use Rattle.tree_handles.specs.Roots.{put}
+use Rattle.tree_handles.specs.{Forest.{Forest}, Handed.{Represents, Gives}, Roots.{put}}
 
 abbrev pub IsSumOrProduct : Tree → Type 0
 IsSumOrProduct t = (is_add t ≡ true) ⊎ (is_mult t ≡ true)

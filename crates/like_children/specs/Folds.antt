@@ -1,14 +1,9 @@
 -- Rationals calculated from left to right by one operation.
 use Rattle.std.specs.Prelude.{ℕ, ◌≡◌, true, List, [], ◌∷◌, Result, Ok, Err}
-use Rattle.calc_measures.specs.PlainTrees.{IsPlainOverflow}
-use Rattle.calc_measures.specs.PlainValues.{PlainValue, exactly, fold_values}
-use Rattle.calc_terms.specs.Fits.{Operation}
-use Rattle.calc_terms.specs.Fractions.{Fraction, zero_fraction}
-use Rattle.calc_terms.specs.Trees.{Tree, num, Trees, none, more, is_num, are_rationals}
+use Rattle.calc_measures.specs.{PlainTrees.{IsPlainOverflow}, PlainValues.{PlainValue, exactly, fold_values}}
+use Rattle.calc_terms.specs.{Fits.{Operation}, Fractions.{Fraction, zero_fraction}, Trees.{Tree, num, Trees, none, more, is_num, are_rationals}}
 use Rattle.node_pool.specs.State.{State}
-use Rattle.tree_handles.specs.Causes.{LacksLongForm}
-use Rattle.tree_handles.specs.Handed.{tree_of}
-use Rattle.tree_handles.specs.declared.fault.NumberFault.{NumberFault}
+use Rattle.tree_handles.specs.{Causes.{LacksLongForm}, Handed.{tree_of}, declared.fault.NumberFault.{NumberFault}}
 use Rattle.tree_handles.specs.declared.fault.NumberFault.TheVariants as fault
 
 -- the rational of a Num, and 0 for any other tree

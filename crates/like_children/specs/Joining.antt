@@ -1,8 +1,6 @@
 -- Numbers that are joined to one, from left to right.
 use Rattle.std.specs.Prelude.{◌≡◌, true}
-use Rattle.calc_algebra.specs.Numbers.{is_number, value}
-use Rattle.calc_algebra.specs.SquareClasses.{Same}
-use Rattle.calc_algebra.specs.Surds.{Surd}
+use Rattle.calc_algebra.specs.{Numbers.{is_number, value}, SquareClasses.{Same}, Surds.{Surd}}
 use Rattle.calc_bits.specs.Bounds.{IsNoLarger}
 use Rattle.calc_terms.specs.Trees.{Tree, Trees, none, more, append}
 

@@ -1,10 +1,8 @@
 -- The key of a tree in a pool, if it has one.
-use Rattle.std.specs.Prelude.{◌≡◌, Bool, true, false, Option, Some, MatchOption}
-use Rattle.std.specs.Ordering.{is_eq}
+use Rattle.std.specs.{Prelude.{◌≡◌, Bool, true, false, Option, Some, MatchOption}, Ordering.{is_eq}}
 use Rattle.calc_algebra.specs.TreeOrder.{tree_cmp}
 use Rattle.calc_terms.specs.Trees.{Tree}
-use Rattle.node_order.specs.declared.keys.Key.{Key}
-use Rattle.node_order.specs.Keys.{IsKey, key_tree}
+use Rattle.node_order.specs.{declared.keys.Key.{Key}, Keys.{IsKey, key_tree}}
 use Rattle.tree_handles.specs.Forest.{Forest}
 
 -- a tree has a key, and this is it

@@ -1,6 +1,5 @@
 -- The digits of the text rules are those that std writes.
-use Rattle.line_text.proofs.Shared.{◌≡◌, ◌∙◌, ℕ, zero, suc, ◌+◌, ◌/◌, ◌%◌, ◌^◌, ◌<◌, ◌≤◌, List, [], ◌∷◌, length, refl, ap, arith, append-nil}
-use Rattle.line_text.proofs.Shared.{cases_lt, digits_before}
+use Rattle.line_text.proofs.Shared.{◌≡◌, ◌∙◌, ℕ, zero, suc, ◌+◌, ◌/◌, ◌%◌, ◌^◌, ◌<◌, ◌≤◌, List, [], ◌∷◌, length, refl, ap, arith, append-nil, cases_lt, digits_before}
 use Rattle.std.proofs.{Common.{inl, inr}, lemmas.Fmt.{PrependsLastDigit, decimal_from_prepends_wide, length-decimal-le_wide, length-decimal-le_succ}}
 use Rattle.std.specs.Fmt.{decimal}
 use Rattle.calc_language.specs.Texts as texts

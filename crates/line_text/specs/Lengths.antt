@@ -1,7 +1,6 @@
 -- How long texts are.
 use Rattle.std.specs.Prelude.{◌≡◌, true}
-use Rattle.calc_terms.specs.Fits.{fits}
-use Rattle.calc_terms.specs.Trees.{Tree, num, AllParts}
+use Rattle.calc_terms.specs.{Fits.{fits}, Trees.{Tree, num, AllParts}}
 
 -- a rational's numerator has a magnitude of at most 2^127 - 1
 abbrev pub IsFitting : Tree → Type 0

@@ -6,8 +6,8 @@ use Rattle.calc_language.specs.Texts.{whole_text, first_of_sum, left_of_differen
 use Rattle.calc_language.specs.Texts as texts
 use Rattle.calc_language.specs.Tokens.{times_sign, root_sign}
 use Rattle.calc_terms.specs.Trees.{Tree, neg, root_kind}
-use Rattle.line_text.specs.declared.place.Place.{Place}
-use Rattle.line_text.specs.declared.place.Place.TheVariants.{WholeText, FirstOfSum, LaterOfSum, LeftOfDifference, RightOfDifference, UnderSign, FirstOfProduct, LaterOfProduct, LeftOfQuotient, RightOfQuotient, Base, Exponent, UnderRoot, AboveBar, BelowBar, Raised, InParentheses}
+use Rattle.line_text.specs.{declared.place.Place.{Place}, declared.place.Place.TheVariants.{WholeText, FirstOfSum, LaterOfSum, LeftOfDifference, RightOfDifference, UnderSign, FirstOfProduct}}
+use Rattle.line_text.specs.declared.place.Place.TheVariants.{LaterOfProduct, LeftOfQuotient, RightOfQuotient, Base, Exponent, UnderRoot, AboveBar, BelowBar, Raised, InParentheses}
 
 -- the place of the text rules
 abbrev pub rule_of : Place → texts.Place

@@ -1,16 +1,11 @@
 -- What is written of trees in a pool: the signs and parentheses that their places ask for, and what their nodes hold.
 use Rattle.std.specs.Prelude.{ℕ, ◌+◌, List, [], ◌∷◌, ◌++◌, take, Bool, ◌||◌, nat_lt, if◌then◌else◌, nat_abs, codes}
-use Rattle.calc_language.specs.Texts.{decimal}
-use Rattle.calc_language.specs.Tokens.{times_sign}
+use Rattle.calc_language.specs.{Texts.{decimal}, Tokens.{times_sign}}
 use Rattle.calc_terms.specs.declared.kind.Kind.{Kind}
 use Rattle.calc_terms.specs.declared.kind.Kind.TheVariants as kind
 use Rattle.calc_terms.specs.Payload.{Payload, rational, named, bare, kind_of_payload}
-use Rattle.tree_handles.specs.declared.visits.Visit.{Visit}
-use Rattle.tree_handles.specs.Forest.{Forest, empty, tree, root_payload}
-use Rattle.tree_handles.specs.Visits.{visits_of}
-use Rattle.line_text.specs.declared.place.Place.{Place}
-use Rattle.line_text.specs.declared.place.Pending.{Pending}
-use Rattle.line_text.specs.Places.{sign_before, next_place, first_place, skips_opposites, is_neg_kind, admits_kind}
+use Rattle.tree_handles.specs.{declared.visits.Visit.{Visit}, Forest.{Forest, empty, tree, root_payload}, Visits.{visits_of}}
+use Rattle.line_text.specs.{declared.place.Place.{Place}, declared.place.Pending.{Pending}, Places.{sign_before, next_place, first_place, skips_opposites, is_neg_kind, admits_kind}}
 
 -- what is written of a node without children
 abbrev pub leaf_bytes : Payload → List ℕ

@@ -1,6 +1,7 @@
 -- Identities of fractions.
 use Rattle.std.proofs.Common.{◌≡◌, sym, ap, ◌∙◌}
-use Rattle.linear_solve.proofs.Shared.{negative_times, times_zero, times_comm, times_assoc, times_plus, zero_plus, one_times, plus_negative, Fraction, plus, times, negative, zero_fraction, one_fraction, plus_comm, plus_assoc}
+use Rattle.linear_solve.proofs.Shared.{negative_times, times_zero, times_comm, times_assoc, times_plus, zero_plus, one_times, plus_negative, Fraction, plus, times, negative, zero_fraction}
+use Rattle.linear_solve.proofs.Shared.{one_fraction, plus_comm, plus_assoc}
 
 pub plus_both : {a b c d : Fraction} → a ≡ b → c ≡ d → plus a c ≡ plus b d
 plus_both p q = λ i. plus (p i) (q i)

@@ -1,7 +1,8 @@
 -- Calculations of which an operation may not fit.
 use Rattle.std.proofs.Common.{◌≡◌, ◌<◌, ◌≤◌, ℕ, zero, suc, ◌+◌, List, [], ◌∷◌, ◌++◌, length, take, drop, get_or, map, Bool, if◌then◌else◌, Result, Ok, Err, refl, sym, ap, ◌∙◌, arith}
 use Rattle.std.specs.Prelude.{All}
-use Rattle.linear_solve.proofs.Shared.{take_more, take_all, drop_more, take-append-drop, All-nil, All-cons, All-head, All-tail, All-same, Operation, result_of, Fraction, Misfit, and_then, fitted, each}
+use Rattle.linear_solve.proofs.Shared.{take_more, take_all, drop_more, take-append-drop, All-nil, All-cons, All-head, All-tail, All-same, Operation, result_of, Fraction, Misfit, and_then, fitted}
+use Rattle.linear_solve.proofs.Shared.{each}
 
 -- ---- one after another
 

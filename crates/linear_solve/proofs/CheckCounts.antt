@@ -1,14 +1,11 @@
 -- The checks up to an operation that does not fit.
-use Rattle.std.proofs.Common.{◌≡◌, ◌<◌, ◌≤◌, ℕ, zero, suc, ◌+◌, List, [], ◌∷◌, ◌++◌, length, take, drop, get_or, Result, Ok, Err, refl, sym, ap, ◌∙◌, arith, inl, inr}
+use Rattle.std.proofs.{Common.{◌≡◌, ◌<◌, ◌≤◌, ℕ, zero, suc, ◌+◌, List, [], ◌∷◌, ◌++◌, length, take, drop, get_or, Result, Ok, Err, refl, sym, ap, ◌∙◌, arith, inl, inr}, lemmas.List.Sums.{sum_by-cons}}
 use Rattle.std.specs.Prelude.{sum_by}
-use Rattle.linear_solve.proofs.Shared.{State, TripsWithin, enumerate_from, cases_eq, length-enumerate_from, take_more, take_all, drop_more, take-append-drop, Tree, num, symbol, undef, add, mult, power, root, neg, sub, div, Trees, none, more, count, nodes, nodes_of, Misfit, and_then, each, Rows, difference_of, equation_row, equation_rows, settled, settled_up_to, Equation, nodes_of_sides, Names, Side, row_of, rows_of, children_of, nth, checks_behind, checks_of_each, equation_checks, name_checks, row_checks, rows_checks, side_checks, solving_checks, Row, unit, Kind}
-use Rattle.std.proofs.lemmas.List.Sums.{sum_by-cons}
-use Rattle.linear_solve.proofs.Calculations.{both, each_all, each_cons, each_stops, then_err}
-use Rattle.linear_solve.proofs.EquationRows.{numbered}
-use Rattle.linear_solve.proofs.RowLists.{settled_stops}
-use Rattle.linear_solve.proofs.Theorem.{no_equation}
-use Rattle.linear_solve.proofs.TreeLists.{get_or-listed, length-listed, listed}
-use Rattle.linear_solve.proofs.Walks.{AreMade, rows_listed}
+use Rattle.linear_solve.proofs.Shared.{State, TripsWithin, enumerate_from, cases_eq, length-enumerate_from, take_more, take_all, drop_more, take-append-drop, Tree, num, symbol, undef, add, mult}
+use Rattle.linear_solve.proofs.Shared.{power, root, neg, sub, div, Trees, none, more, count, nodes, nodes_of, Misfit, and_then, each, Rows, difference_of, equation_row, equation_rows, settled}
+use Rattle.linear_solve.proofs.Shared.{settled_up_to, Equation, nodes_of_sides, Names, Side, row_of, rows_of, children_of, nth, checks_behind, checks_of_each, equation_checks, name_checks, row_checks}
+use Rattle.linear_solve.proofs.{Shared.{rows_checks, side_checks, solving_checks, Row, unit, Kind}, Calculations.{both, each_all, each_cons, each_stops, then_err}, EquationRows.{numbered}}
+use Rattle.linear_solve.proofs.{RowLists.{settled_stops}, Theorem.{no_equation}, TreeLists.{get_or-listed, length-listed, listed}, Walks.{AreMade, rows_listed}}
 
 behind_ok : {A : Type 0} (r : Result A Misfit) (f : A → ℕ) (x : A) → r ≡ Ok x → checks_behind r f ≡ f x
 behind_ok r f x e = ap (λ s. checks_behind s f) e

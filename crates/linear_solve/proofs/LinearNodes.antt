@@ -1,8 +1,8 @@
 -- A node is linear by its children.
 use Rattle.std.proofs.Common.{◌≡◌, ◌<◌, ◌≤◌, ℕ, ◌+◌, Bool, true, false, List, [], ◌∷◌, drop, Option, Some, None, refl, sym, ap, ◌∙◌, arith}
 use Rattle.std.specs.Prelude.{◌&&◌, ◌||◌, if◌then◌else◌, nat_le, option_and_then}
-use Rattle.linear_solve.proofs.Shared.{lt-leb, drop_more, drop_all, Kind, Tree, undef, Trees, none, more, count, root_kind, are_linear, count_named, has_name, have_name, is_divisor, is_linear, joined_name, name_where_linear, root_name, nth, children_of}
-use Rattle.linear_solve.proofs.TreeLists.{get_or-listed, length-listed, listed}
+use Rattle.linear_solve.proofs.Shared.{lt-leb, drop_more, drop_all, Kind, Tree, undef, Trees, none, more, count, root_kind, are_linear, count_named, has_name, have_name, is_divisor, is_linear}
+use Rattle.linear_solve.proofs.{Shared.{joined_name, name_where_linear, root_name, nth, children_of}, TreeLists.{get_or-listed, length-listed, listed}}
 use Rattle.calc_terms.specs.declared.kind.Kind.TheVariants as kind
 
 -- children are asked one after another

@@ -1,13 +1,16 @@
 -- The row of a linear tree is worth what the tree means.
 use Rattle.std.proofs.Common.{◌≡◌, ◌≢◌, ◌≤◌, ◌⊎◌, inl, inr, ℕ, suc, ◌+◌, List, [], ◌∷◌, ◌++◌, length, map, Bool, true, false, Ok, refl, sym, ap, ◌∙◌, subst, arith, length-append, pos}
-use Rattle.std.specs.Prelude.{◌&&◌, ◌||◌, if◌then◌else◌, nat_le, Contains}
-use Rattle.linear_solve.proofs.Shared.{bytes_eq, and_parts, leb-true, false_from_ne_true, length-map, get_or_at, Contains-append_left, Contains-append_right, Contains-push, Assignment, IsAssignment, Gives, Means, surd_of, surd_one, Inverts-surd_of, inverse_times_itself, Same-sym, one_meaning, surd_of_one, Same-trans, Same-eq, Same-refl, joined_radicand, surd_times-terms, zero_term, no_zero, negative_lowest, one_times, zero_times, zero_plus, Fraction, plus, times, negative, inverse, zero_fraction, one_fraction, minus_one_fraction, Tree, num, symbol, undef, add, mult, power, root, neg, sub, div, Trees, none, more, names, names_of, AreDistinct, Assigns, and_then, are_linear, count_named, has_name, have_name, is_divisor, is_linear, is_nonzero, Row, worth, Side, constant_row, difference_row, joined_from, name_row, own_row, product_row, quotient_row, row_of, rows_of, sum_row}
 use Rattle.std.proofs.lemmas.Slice.Eq.{bytes_eq-Decides}
-use Rattle.calc_algebra.proofs.MeaningRewrites.{sum_more, sum_none, product_more, product_none}
-use Rattle.linear_solve.proofs.Arithmetic.{plus_both, plus_zero, times_one, negative_is, negative_zero, negative_twice}
-use Rattle.linear_solve.proofs.Calculations.{both, ok_is}
-use Rattle.linear_solve.proofs.SideWorths.{IsRow, AreRows, any, AtMostOne, difference_is, opposite_row, product, products_are, quotient_is, sums_are, total}
+use Rattle.std.specs.Prelude.{◌&&◌, ◌||◌, if◌then◌else◌, nat_le, Contains}
+use Rattle.linear_solve.proofs.Shared.{bytes_eq, and_parts, leb-true, false_from_ne_true, length-map, get_or_at, Contains-append_left, Contains-append_right, Contains-push, Assignment, IsAssignment}
+use Rattle.linear_solve.proofs.Shared.{Gives, Means, surd_of, surd_one, Inverts-surd_of, inverse_times_itself, Same-sym, one_meaning, surd_of_one, Same-trans, Same-eq, Same-refl, joined_radicand}
+use Rattle.linear_solve.proofs.Shared.{surd_times-terms, zero_term, no_zero, negative_lowest, one_times, zero_times, zero_plus, Fraction, plus, times, negative, inverse, zero_fraction, one_fraction}
+use Rattle.linear_solve.proofs.Shared.{minus_one_fraction, Tree, num, symbol, undef, add, mult, power, root, neg, sub, div, Trees, none, more, names, names_of, AreDistinct, Assigns, and_then}
+use Rattle.linear_solve.proofs.Shared.{are_linear, count_named, has_name, have_name, is_divisor, is_linear, is_nonzero, Row, worth, Side, constant_row, difference_row, joined_from, name_row, own_row}
+use Rattle.linear_solve.proofs.{Shared.{product_row, quotient_row, row_of, rows_of, sum_row}, Arithmetic.{plus_both, plus_zero, times_one, negative_is, negative_zero, negative_twice}}
+use Rattle.linear_solve.proofs.{Calculations.{both, ok_is}, SideWorths.{IsRow, AreRows, any, AtMostOne, difference_is, opposite_row, product, products_are, quotient_is, sums_are, total}}
 use Rattle.linear_solve.proofs.Worths.{worth-append}
+use Rattle.calc_algebra.proofs.MeaningRewrites.{sum_more, sum_none, product_more, product_none}
 
 -- ---- meanings that are rationals
 

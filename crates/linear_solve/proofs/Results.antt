@@ -1,8 +1,8 @@
 -- What a result of the whole calculation says.
 use Rattle.std.proofs.Common.{arith, ◌≡◌, ◌↔◌, ◌∙◌, ap, sym, ℕ, List, length, Result, Ok, Err, IfOk, IfErr, OnOk}
-use Rattle.linear_solve.proofs.Shared.{calm_checks_raise_no_trips, only_the_tripped_rose, CalmChecks, TripsRose, State, SolveFault, Rows, equation_rows, settled_up_to, Equation, StopsAfter, Misfit, Answer, Form, answer_of, never, solved, Row, Names, IfNever, IfSolved, answer_told, solving, rows_at_first, rows_solved}
+use Rattle.linear_solve.proofs.Shared.{calm_checks_raise_no_trips, only_the_tripped_rose, CalmChecks, TripsRose, State, SolveFault, Rows, equation_rows, settled_up_to, Equation, StopsAfter, Misfit}
+use Rattle.linear_solve.proofs.{Shared.{Answer, Form, answer_of, never, solved, Row, Names, IfNever, IfSolved, answer_told, solving, rows_at_first, rows_solved}, Calculations.{then_err, then_ok}}
 use Rattle.linear_solve.specs.declared.solution.Solution.{Solution}
-use Rattle.linear_solve.proofs.Calculations.{then_err, then_ok}
 use Rattle.linear_solve.specs.declared.fault.SolveFault.TheVariants as fault
 
 -- ---- the calculation, step by step

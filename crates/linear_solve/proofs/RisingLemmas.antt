@@ -1,24 +1,13 @@
 -- Lemmas on names in the order of their bytes.
 use Rattle.std.proofs.Common.{◌≡◌, ◌∙◌, ◌⊎◌, inl, inr, ℕ, zero, suc, ◌+◌, ◌<◌, ◌≤◌, List, [], ◌∷◌, ◌++◌, length, take, get_or, Bool, true, false, cond, refl, sym, ap, subst, arith, append_assoc}
-use Rattle.std.specs.Prelude.{◌||◌, All, Contains}
+use Rattle.std.proofs.{lemmas.List.Elements.{Contains-append_cases, Contains-append_left, Contains-append_right}, lemmas.Slice.Eq.{bytes_eq-Decides}}
+use Rattle.std.specs.{Prelude.{◌||◌, All, Contains}, List.{insert, list_any, prefix_len}, Str.{bytes_eq}, Cmp.Lexicographic.{slice_cmp}, Ordering.{is_lt, nat_cmp, ordering_reverse}}
+use Rattle.std.specs.{declared.cmp.Ordering.{Ordering}, declared.cmp.Ordering.TheVariants.{Less, Equal, Greater}}
 use Rattle.calc_algebra.specs.TreeOrder.{tree_cmp}
-use Rattle.calc_terms.specs.Leaf.{name_of}
-use Rattle.calc_terms.specs.Trees.{Tree, symbol, Trees, none, more, count, is_symbol, names, names_of, root_kind}
-use Rattle.linear_solve.specs.Equations.{AreDistinct, equations_in}
-use Rattle.linear_solve.specs.Listed.{names_listed}
-use Rattle.linear_solve.specs.RisingNames.{AreNamesOf, HoldOverSixNames, Includes, IsNameIn, Rises, is_before, names_at}
+use Rattle.calc_terms.specs.{Leaf.{name_of}, Trees.{Tree, symbol, Trees, none, more, count, is_symbol, names, names_of, root_kind}}
+use Rattle.linear_solve.specs.{Equations.{AreDistinct, equations_in}, Listed.{names_listed}, RisingNames.{AreNamesOf, HoldOverSixNames, Includes, IsNameIn, Rises, is_before, names_at}}
 use Rattle.linear_solve.specs.declared.side_names.Listed.{Listed}
-use Rattle.std.proofs.lemmas.List.Elements.{Contains-append_cases, Contains-append_left, Contains-append_right}
-use Rattle.std.specs.List.{insert, list_any, prefix_len}
-use Rattle.std.specs.Str.{bytes_eq}
-use Rattle.tree_handles.specs.Expressions.{children_of, nth, plain}
-use Rattle.tree_handles.specs.Forest.{Forest}
-use Rattle.tree_handles.specs.Inside.{tree_at}
-use Rattle.std.specs.Cmp.Lexicographic.{slice_cmp}
-use Rattle.std.specs.Ordering.{is_lt, nat_cmp, ordering_reverse}
-use Rattle.std.specs.declared.cmp.Ordering.{Ordering}
-use Rattle.std.specs.declared.cmp.Ordering.TheVariants.{Less, Equal, Greater}
-use Rattle.std.proofs.lemmas.Slice.Eq.{bytes_eq-Decides}
+use Rattle.tree_handles.specs.{Expressions.{children_of, nth, plain}, Forest.{Forest}, Inside.{tree_at}}
 use Rattle.calc_algebra.proofs.TreeOrderLaws.{tree_chain, tree_cmp_equal, tree_cmp_refl, tree_cmp_turned}
 use Rattle.calc_terms.specs.declared.kind.Kind.TheVariants as kind
 

@@ -1,9 +1,10 @@
 -- Lists of rows, and loops over them.
-use Rattle.std.proofs.Common.{◌≡◌, ◌<◌, ◌≤◌, ℕ, zero, suc, ◌+◌, ◌-◌, Bool, cond, List, [], ◌∷◌, ◌++◌, length, get_or, map, Some, None, Ok, Err, refl, sym, ap, ◌∙◌, arith, length-drop, add-one, inl, inr}
+use Rattle.std.proofs.Common.{◌≡◌, ◌<◌, ◌≤◌, ℕ, zero, suc, ◌+◌, ◌-◌, Bool, cond, List, [], ◌∷◌, ◌++◌, length, get_or, map, Some, None, Ok, Err, refl, sym, ap, ◌∙◌, arith, length-drop, add-one, inl}
+use Rattle.std.proofs.Common.{inr}
 use Rattle.std.specs.Prelude.{position, not, nat_lt, swap, if◌then◌else◌, ◌==◌}
-use Rattle.linear_solve.proofs.Shared.{prefix_len, cases_eq, eq-eqb, ne_eqb, get_or-drop, get_or-map, get_or-replicate, length-map, map_push, length-swap, swapped_from_swap, one_fraction, zero_fraction, Rows, others, settled, settled_up_to, unit, Misfit, Row, entry, entries_of}
+use Rattle.linear_solve.proofs.Shared.{prefix_len, cases_eq, eq-eqb, ne_eqb, get_or-drop, get_or-map, get_or-replicate, length-map, map_push, length-swap, swapped_from_swap, one_fraction}
+use Rattle.linear_solve.proofs.{Shared.{zero_fraction, Rows, others, settled, settled_up_to, unit, Misfit, Row, entry, entries_of}, Calculations.{then_err, then_ok}}
 use Rattle.linear_solve.specs.declared.row.Row.{Row as RowOfCode}
-use Rattle.linear_solve.proofs.Calculations.{then_err, then_ok}
 
 prefix_len-map : {A B : Type 0} (q : B → Bool) (f : A → B) (xs : List A) → prefix_len q (map f xs) ≡ prefix_len (λ x. q (f x)) xs
 prefix_len-map q f [] = refl

@@ -1,10 +1,9 @@
 -- What the rows of nodes are worth where the names have values.
 use Rattle.std.proofs.Common.{arith, ◌≡◌, ℕ, suc, List, [], ◌∷◌, length, Bool, true, false, Ok, refl, sym, ap, ◌∙◌, subst}
 use Rattle.std.specs.Prelude.{◌&&◌, ◌||◌, if◌then◌else◌}
-use Rattle.linear_solve.proofs.Shared.{times_comm, times_assoc, one_times, Fraction, plus, times, negative, inverse, zero_fraction, one_fraction, plus_assoc, Row, added, entry, negated, scaled, worth, Side, constant_of, difference_row, joined_rows, over_both, product_row, quotient_row, sum_row}
-use Rattle.linear_solve.proofs.Arithmetic.{plus_both, plus_zero, times_one, negative_is}
-use Rattle.linear_solve.proofs.Calculations.{both, ok_is}
-use Rattle.linear_solve.proofs.Worths.{added_is, scaled_is, negated_is, multiple_entry, combined_entries}
+use Rattle.linear_solve.proofs.Shared.{times_comm, times_assoc, one_times, Fraction, plus, times, negative, inverse, zero_fraction, one_fraction, plus_assoc, Row, added, entry, negated, scaled, worth}
+use Rattle.linear_solve.proofs.{Shared.{Side, constant_of, difference_row, joined_rows, over_both, product_row, quotient_row, sum_row}, Arithmetic.{plus_both, plus_zero, times_one, negative_is}}
+use Rattle.linear_solve.proofs.{Calculations.{both, ok_is}, Worths.{added_is, scaled_is, negated_is, multiple_entry, combined_entries}}
 
 -- a row of so many names and a constant has a value at a point; where no name occurs, that is its constant
 pub record IsRow (n : ℕ) (vs : List Fraction) (v : Fraction) (named : Bool) (r : Side) : Type 0 where

@@ -1,11 +1,12 @@
 -- One name after another is eliminated, and the rows keep their solutions.
-use Rattle.std.proofs.Common.{◌≡◌, ◌≢◌, ◌<◌, ◌⊎◌, inl, inr, ℕ, zero, suc, ◌+◌, ◌-◌, List, [], ◌∷◌, ◌++◌, length, drop, get_or, set, Bool, true, false, Option, Some, None, Result, Ok, refl, sym, ap, ◌∙◌, subst, arith, length-drop, add-one}
+use Rattle.std.proofs.Common.{◌≡◌, ◌≢◌, ◌<◌, ◌⊎◌, inl, inr, ℕ, zero, suc, ◌+◌, ◌-◌, List, [], ◌∷◌, ◌++◌, length, drop, get_or, set, Bool, true, false, Option, Some, None, Result, Ok, refl, sym, ap}
+use Rattle.std.proofs.{Common.{◌∙◌, subst, arith, length-drop, add-one}, lemmas.List.Quantifiers.{position-Some}}
 use Rattle.std.specs.Prelude.{All, swap, if◌then◌else◌}
-use Rattle.linear_solve.proofs.Shared.{cases_eq, cases_lt, not-false, get_or_append_left, get_or_push, get_or_past, get_or_default, get_or-drop, length_push, swapped_from_swap, length-swap, All-drop, All-set, All-get_or, prefix_len_passes, inverse_times_itself, times_zero, zero_is, no_zero, times_comm, times_assoc, one_times, zero_times, plus_negative, Fraction, plus, times, negative, inverse, is_zero_fraction, zero_fraction, one_fraction, Rows, cleared, cleared_pivot, first_with, others, row_at, settled, settled_at, settled_up_to, Misfit, and_then, each, Row, entry, scaled, without, worth}
-use Rattle.std.proofs.lemmas.List.Quantifiers.{position-Some}
-use Rattle.linear_solve.proofs.Arithmetic.{plus_zero, negative_zero, times_one}
-use Rattle.linear_solve.proofs.Calculations.{both, each_at, each_long, each_forward, each_back, ok_is}
-use Rattle.linear_solve.proofs.Worths.{IsMultiple, IsCombined, scaled_is, without_is, multiple_entry, combined_entries}
+use Rattle.linear_solve.proofs.Shared.{cases_eq, cases_lt, not-false, get_or_append_left, get_or_push, get_or_past, get_or_default, get_or-drop, length_push, swapped_from_swap, length-swap, All-drop}
+use Rattle.linear_solve.proofs.Shared.{All-set, All-get_or, prefix_len_passes, inverse_times_itself, times_zero, zero_is, no_zero, times_comm, times_assoc, one_times, zero_times, plus_negative}
+use Rattle.linear_solve.proofs.Shared.{Fraction, plus, times, negative, inverse, is_zero_fraction, zero_fraction, one_fraction, Rows, cleared, cleared_pivot, first_with, others, row_at, settled}
+use Rattle.linear_solve.proofs.{Shared.{settled_at, settled_up_to, Misfit, and_then, each, Row, entry, scaled, without, worth}, Arithmetic.{plus_zero, negative_zero, times_one}, Calculations.{both}}
+use Rattle.linear_solve.proofs.{Calculations.{each_at, each_long, each_forward, each_back, ok_is}, Worths.{IsMultiple, IsCombined, scaled_is, without_is, multiple_entry, combined_entries}}
 
 -- ---- pivots
 

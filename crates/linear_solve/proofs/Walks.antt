@@ -1,10 +1,10 @@
 -- The rows of a node's children, one after another, and the checks between.
 use Rattle.std.proofs.Common.{◌≡◌, ◌<◌, ◌≤◌, ℕ, zero, suc, ◌+◌, true, false, List, [], ◌∷◌, ◌++◌, length, map, take, Result, Ok, Err, refl, sym, ap, ◌∙◌, subst, arith, IfErr, IsErrAnd}
-use Rattle.linear_solve.proofs.Shared.{err_from_is_err_and, Overflow, and_parts, get_or-map, get_or_at, length-append, length-map, length_push, CalmChecks-append, CalmChecks, State, no_zero, zero_test, Kind, Fraction, negative, is_zero_fraction, zero_fraction, Tree, undef, neg, Trees, none, more, count, root_kind, SolveFault, OfOverflow, StopsAfter, Misfit, and_then, each, are_linear, is_divisor, is_linear, is_nonzero, entry, negated, Names, Side, bare_row, constant_of, constant_row, joined_from, joined_row, joined_rows, own_row, row_of, rows_of, signed_row, children_of, nth, trips_more, trips_within_after}
-use Rattle.linear_solve.proofs.Arithmetic.{negative_twice, negative_zero}
-use Rattle.linear_solve.proofs.Calculations.{each_all, each_more, each_stops, ok_is, then_err, then_ok}
-use Rattle.linear_solve.proofs.LinearNodes.{divisor_linear}
-use Rattle.linear_solve.proofs.TreeLists.{get_or-listed, length-listed, listed}
+use Rattle.linear_solve.proofs.Shared.{err_from_is_err_and, Overflow, and_parts, get_or-map, get_or_at, length-append, length-map, length_push, CalmChecks-append, CalmChecks, State, no_zero}
+use Rattle.linear_solve.proofs.Shared.{zero_test, Kind, Fraction, negative, is_zero_fraction, zero_fraction, Tree, undef, neg, Trees, none, more, count, root_kind, SolveFault, OfOverflow, StopsAfter}
+use Rattle.linear_solve.proofs.Shared.{Misfit, and_then, each, are_linear, is_divisor, is_linear, is_nonzero, entry, negated, Names, Side, bare_row, constant_of, constant_row, joined_from, joined_row}
+use Rattle.linear_solve.proofs.{Shared.{joined_rows, own_row, row_of, rows_of, signed_row, children_of, nth, trips_more, trips_within_after}, Arithmetic.{negative_twice, negative_zero}}
+use Rattle.linear_solve.proofs.{Calculations.{each_all, each_more, each_stops, ok_is, then_err, then_ok}, LinearNodes.{divisor_linear}, TreeLists.{get_or-listed, length-listed, listed}}
 use Rattle.linear_solve.specs.declared.fault.SolveFault.TheVariants as fault
 use Rattle.calc_terms.specs.declared.kind.Kind.TheVariants as kind
 

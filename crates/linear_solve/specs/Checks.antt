@@ -1,11 +1,7 @@
 -- How many checks of the breakers a calculation makes: all of its own, or those up to an operation that does not fit.
-use Rattle.std.specs.Prelude.{ℕ, zero, suc, ◌+◌, List, [], ◌∷◌, length, Result, Ok, Err}
-use Rattle.std.specs.List.{enumerate_from}
+use Rattle.std.specs.{Prelude.{ℕ, zero, suc, ◌+◌, List, [], ◌∷◌, length, Result, Ok, Err}, List.{enumerate_from}}
 use Rattle.calc_terms.specs.Trees.{Tree, num, symbol, undef, add, mult, power, root, neg, sub, div, Trees, none, more}
-use Rattle.linear_solve.specs.Fitting.{Misfit}
-use Rattle.linear_solve.specs.Sides.{Names, row_of, rows_of}
-use Rattle.linear_solve.specs.Equations.{Equation}
-use Rattle.linear_solve.specs.Elimination.{Rows, equation_row, equation_rows, settled_up_to}
+use Rattle.linear_solve.specs.{Fitting.{Misfit}, Sides.{Names, row_of, rows_of}, Equations.{Equation}, Elimination.{Rows, equation_row, equation_rows, settled_up_to}}
 
 -- the checks behind a calculation, which are made where it answers
 abbrev pub checks_behind : {A : Type 0} → Result A Misfit → (A → ℕ) → ℕ

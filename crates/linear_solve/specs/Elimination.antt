@@ -1,11 +1,7 @@
 -- Elimination: the names are taken in order, and each row but its own loses the name.
-use Rattle.std.specs.Prelude.{ℕ, zero, suc, List, [], ◌∷◌, ◌++◌, length, drop, swap, position, slice_index_or, not, if◌then◌else◌, Option, Some, None, Result, Ok, replicate}
-use Rattle.std.specs.List.{enumerate_from}
+use Rattle.std.specs.{Prelude.{ℕ, zero, suc, List, [], ◌∷◌, ◌++◌, length, drop, swap, position, slice_index_or, not, if◌then◌else◌, Option, Some, None, Result, Ok, replicate}, List.{enumerate_from}}
 use Rattle.calc_terms.specs.Fractions.{inverse, is_zero_fraction, zero_fraction, one_fraction}
-use Rattle.linear_solve.specs.Fitting.{Misfit, and_then, each}
-use Rattle.linear_solve.specs.Rows.{Row, entry, added, negated, scaled, without}
-use Rattle.linear_solve.specs.Sides.{Names, row_of}
-use Rattle.linear_solve.specs.Equations.{Equation}
+use Rattle.linear_solve.specs.{Fitting.{Misfit, and_then, each}, Rows.{Row, entry, added, negated, scaled, without}, Sides.{Names, row_of}, Equations.{Equation}}
 
 -- 1 at a place, and 0 at the others of so many
 abbrev pub unit : ℕ → ℕ → Row

@@ -1,15 +1,9 @@
 -- Equations, and which assignments solve them.
-use Rattle.std.specs.Prelude.{ℕ, ◌+◌, List, [], ◌∷◌, map, zip, sum_by, All, Contains, ⊤, ◌≡◌, true}
-use Rattle.std.specs.List.{AllZip}
-use Rattle.calc_algebra.specs.Meanings.{Assignment, Gives, Means}
-use Rattle.calc_algebra.specs.SquareClasses.{Same}
-use Rattle.calc_algebra.specs.Surds.{Surd}
-use Rattle.calc_terms.specs.Fractions.{Fraction}
-use Rattle.calc_terms.specs.Trees.{Tree, names, nodes}
+use Rattle.std.specs.{Prelude.{ℕ, ◌+◌, List, [], ◌∷◌, map, zip, sum_by, All, Contains, ⊤, ◌≡◌, true}, List.{AllZip}}
+use Rattle.calc_algebra.specs.{Meanings.{Assignment, Gives, Means}, SquareClasses.{Same}, Surds.{Surd}}
+use Rattle.calc_terms.specs.{Fractions.{Fraction}, Trees.{Tree, names, nodes}}
 use Rattle.linear_solve.specs.Linear.{is_linear}
-use Rattle.tree_handles.specs.Expressions.{plain}
-use Rattle.tree_handles.specs.Forest.{Forest}
-use Rattle.tree_handles.specs.Inside.{tree_at}
+use Rattle.tree_handles.specs.{Expressions.{plain}, Forest.{Forest}, Inside.{tree_at}}
 
 -- two trees that are to mean the same
 pub record Equation : Type 0 where

@@ -1,7 +1,6 @@
 -- Why equations are not solved.
 use Rattle.std.specs.Prelude.{ℕ, List, ⊤}
-use Rattle.breakers.specs.Breakers.{CalmChecks, TripsWithin}
-use Rattle.breakers.specs.State.{State}
+use Rattle.breakers.specs.{Breakers.{CalmChecks, TripsWithin}, State.{State}}
 use Rattle.rational128.specs.declared.overflow.Overflow.{Overflow}
 use Rattle.linear_solve.specs.declared.fault.SolveFault.{SolveFault}
 use Rattle.linear_solve.specs.declared.fault.SolveFault.TheVariants as fault

@@ -1,7 +1,6 @@
 -- Calculations of which an operation may not fit: they answer a value, or the first operation that does not.
 use Rattle.std.specs.Prelude.{List, [], ◌∷◌, Result, Ok, Err, if◌then◌else◌}
-use Rattle.calc_terms.specs.Fits.{Operation, add_op, mul_op, operation_fits, result_of}
-use Rattle.calc_terms.specs.Fractions.{Fraction}
+use Rattle.calc_terms.specs.{Fits.{Operation, add_op, mul_op, operation_fits, result_of}, Fractions.{Fraction}}
 
 -- an operation that does not fit, with its operands
 pub record Misfit : Type 0 where

@@ -1,13 +1,9 @@
 -- What is answered for equations.
 use Rattle.std.specs.Prelude.{ℕ, ◌+◌, ◌≡◌, ◌≢◌, ◌<◌, List, map, length, drop, zip, ◌==◌, if◌then◌else◌, Option, Some, None, Result, Ok, slice_index_or, ⊤}
 use Rattle.std.specs.List.{AllZip, range_with_len, enumerate_from}
-use Rattle.calc_algebra.specs.Meanings.{Assignment, IsAssignment, Means}
-use Rattle.calc_algebra.specs.Surds.{surd_of}
+use Rattle.calc_algebra.specs.{Meanings.{Assignment, IsAssignment, Means}, Surds.{surd_of}}
 use Rattle.calc_terms.specs.Fractions.{Fraction, plus, negative, inverse, zero_fraction, one_fraction}
-use Rattle.linear_solve.specs.Fitting.{Misfit, and_then}
-use Rattle.linear_solve.specs.Rows.{Row, entry, scaled, worth}
-use Rattle.linear_solve.specs.Equations.{Equation, Assigns}
-use Rattle.linear_solve.specs.Elimination.{Rows, first_with, row_at}
+use Rattle.linear_solve.specs.{Fitting.{Misfit, and_then}, Rows.{Row, entry, scaled, worth}, Equations.{Equation, Assigns}, Elimination.{Rows, first_with, row_at}}
 
 -- the form of a name: the name is free, or it is bound to a constant and multiples of the names
 pub data Form : Type 0 where

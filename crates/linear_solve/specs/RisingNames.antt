@@ -1,12 +1,8 @@
 -- Names in the order of their bytes.
-use Rattle.std.specs.Cmp.Lexicographic.{slice_cmp}
-use Rattle.std.specs.Ordering.{is_lt, nat_cmp}
-use Rattle.std.specs.Prelude.{ℕ, ◌≡◌, ◌⊎◌, ◌<◌, ◌↔◌, Bool, true, false, List, [], ◌∷◌, ◌++◌, length, All, Contains, ⊤}
+use Rattle.std.specs.{Cmp.Lexicographic.{slice_cmp}, Ordering.{is_lt, nat_cmp}, Prelude.{ℕ, ◌≡◌, ◌⊎◌, ◌<◌, ◌↔◌, Bool, true, false, List, [], ◌∷◌, ◌++◌, length, All, Contains, ⊤}}
 use Rattle.calc_terms.specs.Trees.{names}
 use Rattle.linear_solve.specs.Equations.{AreDistinct, Equation}
-use Rattle.tree_handles.specs.Expressions.{plain}
-use Rattle.tree_handles.specs.Forest.{Forest}
-use Rattle.tree_handles.specs.Inside.{tree_at}
+use Rattle.tree_handles.specs.{Expressions.{plain}, Forest.{Forest}, Inside.{tree_at}}
 
 abbrev pub is_before : List ℕ → List ℕ → Bool
 is_before x y = is_lt (slice_cmp nat_cmp x y)

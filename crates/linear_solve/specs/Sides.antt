@@ -1,12 +1,9 @@
 -- The row of a side: one entry for each name, and then a constant.
-use Rattle.std.specs.Prelude.{ℕ, List, [], ◌∷◌, ◌++◌, map, length, Bool, true, false, ◌||◌, if◌then◌else◌, Result, Ok}
-use Rattle.std.specs.Str.{bytes_eq}
+use Rattle.std.specs.{Prelude.{ℕ, List, [], ◌∷◌, ◌++◌, map, length, Bool, true, false, ◌||◌, if◌then◌else◌, Result, Ok}, Str.{bytes_eq}}
 use Rattle.calc_terms.specs.declared.kind.Kind.{Kind}
 use Rattle.calc_terms.specs.declared.kind.Kind.TheVariants as kind
-use Rattle.calc_terms.specs.Fractions.{Fraction, inverse, zero_fraction, one_fraction}
-use Rattle.calc_terms.specs.Trees.{Tree, num, symbol, undef, add, mult, power, root, neg, sub, div, Trees, none, more, root_kind}
-use Rattle.linear_solve.specs.Fitting.{Misfit, and_then}
-use Rattle.linear_solve.specs.Rows.{Row, entry, added, negated, scaled}
+use Rattle.calc_terms.specs.{Fractions.{Fraction, inverse, zero_fraction, one_fraction}, Trees.{Tree, num, symbol, undef, add, mult, power, root, neg, sub, div, Trees, none, more, root_kind}}
+use Rattle.linear_solve.specs.{Fitting.{Misfit, and_then}, Rows.{Row, entry, added, negated, scaled}}
 
 -- the row of a tree, and whether the tree holds a name
 pub record Side : Type 0 where

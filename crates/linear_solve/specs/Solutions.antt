@@ -1,14 +1,11 @@
 -- What is answered by the code, as what the definitions answer.
 use Rattle.std.specs.Prelude.{List, map, Result, Ok, Err, ⊤}
 use Rattle.calc_terms.specs.Rat.{value_of}
-use Rattle.linear_solve.specs.declared.fault.SolveFault.{SolveFault}
-use Rattle.linear_solve.specs.declared.solution.Line.{Line}
+use Rattle.linear_solve.specs.{declared.fault.SolveFault.{SolveFault}, declared.solution.Line.{Line}}
 use Rattle.linear_solve.specs.declared.solution.Line.TheVariants as line
 use Rattle.linear_solve.specs.declared.solution.Solution.{Solution}
 use Rattle.linear_solve.specs.declared.solution.Solution.TheVariants as solution
-use Rattle.linear_solve.specs.Forms.{Form, free, bound, Answer, never, solved}
-use Rattle.linear_solve.specs.Rows.{Row}
-use Rattle.linear_solve.specs.Told.{entries_of}
+use Rattle.linear_solve.specs.{Forms.{Form, free, bound, Answer, never, solved}, Rows.{Row}, Told.{entries_of}}
 
 abbrev pub form_told : Line → Form
 form_told line.Free = free

@@ -1,11 +1,6 @@
 -- The whole calculation: the rows of the equations, elimination, and the answer.
 use Rattle.std.specs.Prelude.{ℕ, List, [], length, Result}
-use Rattle.linear_solve.specs.Fitting.{Misfit, and_then}
-use Rattle.linear_solve.specs.Sides.{Names}
-use Rattle.linear_solve.specs.Equations.{Equation}
-use Rattle.linear_solve.specs.Elimination.{Rows, equation_rows, settled_up_to}
-use Rattle.linear_solve.specs.Rows.{Row}
-use Rattle.linear_solve.specs.Forms.{Answer, answer_of}
+use Rattle.linear_solve.specs.{Fitting.{Misfit, and_then}, Sides.{Names}, Equations.{Equation}, Elimination.{Rows, equation_rows, settled_up_to}, Rows.{Row}, Forms.{Answer, answer_of}}
 
 -- the rows before a name is taken
 abbrev pub rows_at_first : List Row → Rows

@@ -1,13 +1,8 @@
 -- The values of the code as those of the definitions.
 use Rattle.std.specs.Prelude.{ℕ, map, Option, Some, None, Result, Ok, Err}
 use Rattle.calc_terms.specs.Rat.{value_of}
-use Rattle.rational128.specs.Refusals.{operation_of}
-use Rattle.rational128.specs.declared.overflow.Overflow.{Overflow}
-use Rattle.linear_solve.specs.declared.row.Row.{Row as RowOfCode}
-use Rattle.linear_solve.specs.declared.side.SideRow.{SideRow}
-use Rattle.linear_solve.specs.Fitting.{Misfit}
-use Rattle.linear_solve.specs.Rows.{Row}
-use Rattle.linear_solve.specs.Sides.{Side}
+use Rattle.rational128.specs.{Refusals.{operation_of}, declared.overflow.Overflow.{Overflow}}
+use Rattle.linear_solve.specs.{declared.row.Row.{Row as RowOfCode}, declared.side.SideRow.{SideRow}, Fitting.{Misfit}, Rows.{Row}, Sides.{Side}}
 
 -- its entries
 abbrev pub entries_of : {limit : ℕ} → RowOfCode limit → Row

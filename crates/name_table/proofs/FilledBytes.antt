@@ -1,12 +1,11 @@
 -- What filling needs and leaves of the free bytes, and how deep and how large a filled tree becomes.
-use Rattle.std.proofs.Common.{◌≡◌, ◌∙◌, ℕ, ◌+◌, ◌*◌, ◌≤◌, ◌<◌, List, [], ◌∷◌, cond, nat_lt, Result, Ok, Err, All, refl, sym, subst, arith}
+use Rattle.std.proofs.{Common.{◌≡◌, ◌∙◌, ℕ, ◌+◌, ◌*◌, ◌≤◌, ◌<◌, List, [], ◌∷◌, cond, nat_lt, Result, Ok, Err, All, refl, sym, subst, arith}, lemmas.List.Elements.{All-head, All-tail}}
 use Rattle.std.specs.Prelude.{IfOk, IfErr}
-use Rattle.std.proofs.lemmas.List.Elements.{All-head, All-tail}
 use Rattle.calc_terms.proofs.Sizes.{root_most}
 use Rattle.calc_terms.specs.Trees.{add, div, more, mult, neg, nodes, nodes_of, none, num, power, root, sizes, sub, undef, Trees}
-use Rattle.name_table.proofs.Shared.{ltb-true, Tree, depth, root_size, size, symbol, by_test, Full, Filling, NamedTree, fills, filled, filling, filling_one, lacks, too_deep, replaced, occurrences, replacing}
+use Rattle.name_table.proofs.Shared.{ltb-true, Tree, depth, root_size, size, symbol, by_test, Full, Filling, NamedTree, fills, filled, filling, filling_one, lacks, too_deep, replaced, occurrences}
+use Rattle.name_table.proofs.{Shared.{replacing}, Growing.{copies_fit, copies_leave, depth_grows, nodes_grow, size_grows}}
 use Rattle.tree_walks.proofs.Composing.{bytes_of_replaced}
-use Rattle.name_table.proofs.Growing.{copies_fit, copies_leave, depth_grows, nodes_grow, size_grows}
 
 -- ---- a filled tree is no smaller than before
 

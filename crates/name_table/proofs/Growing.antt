@@ -1,12 +1,8 @@
 -- A tree in which a name is replaced is no smaller than before, and what its copies need and leave of the free bytes.
-use Rattle.std.proofs.Common.{◌≡◌, ℕ, zero, suc, ◌+◌, ◌-◌, ◌*◌, ◌≤◌, List, cond, leb, arith}
-use Rattle.std.specs.Prelude.{IfOk, IfErr}
+use Rattle.std.proofs.{Common.{◌≡◌, ℕ, zero, suc, ◌+◌, ◌-◌, ◌*◌, ◌≤◌, List, cond, leb, arith}, lemmas.Bool.{le-leb, leb-false, leb-true}, lemmas.Nat.{mul-le}}
+use Rattle.std.specs.{Prelude.{IfOk, IfErr}, Str.{bytes_eq}}
 use Rattle.calc_terms.specs.Trees.{Tree, num, symbol, undef, add, mult, power, root, neg, sub, div, Trees, none, more, depth, depths, nodes, nodes_of, root_size, size}
-use Rattle.std.proofs.lemmas.Bool.{le-leb, leb-false, leb-true}
-use Rattle.std.proofs.lemmas.Nat.{mul-le}
-use Rattle.tree_walks.proofs.Composing.{bytes_of_replaced}
-use Rattle.tree_walks.proofs.Shallow.{depth_within}
-use Rattle.std.specs.Str.{bytes_eq}
+use Rattle.tree_walks.proofs.{Composing.{bytes_of_replaced}, Shallow.{depth_within}}
 use Rattle.tree_handles.proofs.Outcomes.{by_test}
 use Rattle.tree_walks.specs.Replacing.{replaced, replaced_in, replacing}
 

@@ -1,12 +1,8 @@
 -- Stored trees in place of their names.
 use Rattle.std.specs.Prelude.{ℕ, List, [], ◌∷◌, map, nat_lt, if◌then◌else◌, Ok, Err, Contains}
 use Rattle.calc_terms.specs.Trees.{Tree, symbol, names, size, root_size, depth}
-use Rattle.node_pool.specs.declared.full.Full.{Full}
-use Rattle.node_pool.specs.State.{State}
-use Rattle.tree_handles.specs.Expressions.{plain}
-use Rattle.tree_handles.specs.Forest.{Forest}
-use Rattle.tree_handles.specs.Roots.{root_tree}
-use Rattle.tree_handles.specs.Standing.{KeepsRefusals, LacksBytes, Refuses}
+use Rattle.node_pool.specs.{declared.full.Full.{Full}, State.{State}}
+use Rattle.tree_handles.specs.{Expressions.{plain}, Forest.{Forest}, Roots.{root_tree}, Standing.{KeepsRefusals, LacksBytes, Refuses}}
 use Rattle.name_table.specs.declared.fault.FillFault.{FillFault}
 use Rattle.name_table.specs.declared.fault.FillFault.TheVariants as fault
 use Rattle.tree_walks.specs.Replacing.{occurrences, replaced, replacing}

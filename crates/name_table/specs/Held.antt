@@ -1,12 +1,8 @@
 -- A forest that holds exactly the trees of a table.
 use Rattle.std.specs.Prelude.{ℕ, ◌≡◌, ◌≤◌, ◌==◌, List, [], ◌∷◌, length, ⊤, true, Contains, if◌then◌else◌}
 use Rattle.calc_language.specs.Texts.{AreWritable}
-use Rattle.tree_handles.specs.Expressions.{AllExpressions, plain, plains}
-use Rattle.tree_handles.specs.Forest.{Forest, empty, tree}
-use Rattle.tree_handles.specs.Handed.{AllOnce}
-use Rattle.tree_handles.specs.Roots.{has_root, root_tree}
-use Rattle.name_table.specs.Filling.{LacksNames, NamedTree, values}
-use Rattle.name_table.specs.Tables.{Entry, Table, entries, holders, name_limit, table_names}
+use Rattle.tree_handles.specs.{Expressions.{AllExpressions, plain, plains}, Forest.{Forest, empty, tree}, Handed.{AllOnce}, Roots.{has_root, root_tree}}
+use Rattle.name_table.specs.{Filling.{LacksNames, NamedTree, values}, Tables.{Entry, Table, entries, holders, name_limit, table_names}}
 
 -- each root with the count that is told of it, and no root of which 0 is told
 abbrev pub counted_by : (ℕ → ℕ) → Forest → Forest

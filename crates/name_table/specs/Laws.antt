@@ -1,13 +1,8 @@
 -- What tables keep, and what filling gives.
 use Rattle.std.specs.Prelude.{◌≡◌, ℕ, List, None}
 use Rattle.calc_terms.specs.Trees.{Tree}
-use Rattle.tree_handles.specs.Expressions.{AllExpressions}
-use Rattle.tree_handles.specs.Forest.{Forest, empty, join}
-use Rattle.tree_handles.specs.Handed.{Gives}
-use Rattle.name_table.specs.Filling.{LacksNames, NamedTree, filled, filling, fills, values}
-use Rattle.name_table.specs.Held.{HasEntries, IsHeld, held_by}
-use Rattle.name_table.specs.Storing.{IsKeepable}
-use Rattle.name_table.specs.Tables.{Table, first_table, table_names}
+use Rattle.tree_handles.specs.{Expressions.{AllExpressions}, Forest.{Forest, empty, join}, Handed.{Gives}}
+use Rattle.name_table.specs.{Filling.{LacksNames, NamedTree, filled, filling, fills, values}, Held.{HasEntries, IsHeld, held_by}, Storing.{IsKeepable}, Tables.{Table, first_table, table_names}}
 
 -- one tree alone is what the table of a first answer holds
 abbrev pub BeginsHeld : Type 0

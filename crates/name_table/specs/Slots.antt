@@ -1,11 +1,8 @@
 -- The table that the slots of the code are.
 use Rattle.std.specs.Prelude.{ℕ, List, [], ◌∷◌, map, Option, Some, None, IsSome, ⊤}
 use Rattle.calc_terms.specs.Leaf.{name_of}
-use Rattle.tree_handles.specs.Forest.{Forest}
-use Rattle.tree_handles.specs.Inside.{released_in}
-use Rattle.name_table.specs.declared.table.Slot.{Slot}
-use Rattle.name_table.specs.declared.table.NameTable.TheInside.{Inside}
-use Rattle.name_table.specs.Tables.{Entry, Table}
+use Rattle.tree_handles.specs.{Forest.{Forest}, Inside.{released_in}}
+use Rattle.name_table.specs.{declared.table.Slot.{Slot}, declared.table.NameTable.TheInside.{Inside}, Tables.{Entry, Table}}
 
 -- the root of a slot's tree, 0 where there is none
 abbrev pub root_in : Option ℕ → ℕ

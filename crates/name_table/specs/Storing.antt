@@ -1,12 +1,8 @@
 -- A new tree as the last answer, with or without a name.
-use Rattle.std.specs.Prelude.{ℕ, ◌≡◌, ◌∷◌, List, true, false, ⊤, Option, Some, None, codes}
+use Rattle.std.specs.{Prelude.{ℕ, ◌≡◌, ◌∷◌, List, true, false, ⊤, Option, Some, None, codes}, Str.{bytes_eq}}
 use Rattle.calc_language.specs.Texts.{IsWritable}
-use Rattle.std.specs.Str.{bytes_eq}
-use Rattle.calc_terms.specs.Leaf.{name_of}
-use Rattle.calc_terms.specs.Trees.{Tree}
-use Rattle.calc_terms.specs.declared.name.Name.{Name}
-use Rattle.name_table.specs.Filling.{LacksNames}
-use Rattle.name_table.specs.Tables.{Table, has_room_for, table_names}
+use Rattle.calc_terms.specs.{Leaf.{name_of}, Trees.{Tree}, declared.name.Name.{Name}}
+use Rattle.name_table.specs.{Filling.{LacksNames}, Tables.{Table, has_room_for, table_names}}
 
 -- the bytes of a name, where there is one
 abbrev pub name_in : Option Name → Option (List ℕ)

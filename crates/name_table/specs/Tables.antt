@@ -1,6 +1,5 @@
 -- A table of names: the last answer, and the trees that are stored under names.
-use Rattle.std.specs.Prelude.{ℕ, suc, ◌==◌, ◌||◌, List, [], ◌∷◌, ◌++◌, length, map, codes, nat_lt, Bool, true, false, Option, Some, None, if◌then◌else◌}
-use Rattle.std.specs.Str.{bytes_eq}
+use Rattle.std.specs.{Prelude.{ℕ, suc, ◌==◌, ◌||◌, List, [], ◌∷◌, ◌++◌, length, map, codes, nat_lt, Bool, true, false, Option, Some, None, if◌then◌else◌}, Str.{bytes_eq}}
 
 -- a name, and the identifier of the root of its tree
 pub record Entry : Type 0 where

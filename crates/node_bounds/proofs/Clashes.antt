@@ -2,8 +2,7 @@
 use Rattle.std.proofs.Common.{arith, ◌≡◌, refl, Bool, true, false, ◌&&◌, ◌||◌, ap, length, ◌≤◌}
 use Rattle.node_bounds.proofs.Shared.{Tree, undef, is_undef, power, Trees, HasTwo, terms_of, has_no_power, is_reduced, parts_reduced, reduced_parts}
 pub use Rattle.calc_algebra.proofs.ReducedLaws.{undef_words}
-pub use Rattle.tree_bits.proofs.ExponentBits.{clash, unclear}
-pub use Rattle.tree_bits.proofs.Rows.{rational_is_number as rational_number}
+pub use Rattle.tree_bits.proofs.{ExponentBits.{clash, unclear}, Rows.{rational_is_number as rational_number}}
 pub use Rattle.tree_room.proofs.PowerCounts.{power_no_number}
 pub use Rattle.power_reduce.proofs.Written.{clash as contrary}
 pub use Rattle.product_reduce.proofs.Finished.{zero_words}

@@ -1,15 +1,13 @@
 -- A call inside of another one fits where few bits hold what the outer one was handed.
 use Rattle.std.proofs.Common.{◌≡◌, ℕ, suc, ◌+◌, ◌*◌, ◌≤◌, ℤ, true, false, Some, Result, refl, sym, ap, ◌∙◌, subst, arith, IfErr, IsOk, nat_abs}
-use Rattle.node_bounds.proofs.Shared.{and_parts, mul-le, is_reduced, is_half_num, is_whole_num, whole_fraction, whole_is, whole_numerator, Tree, num, power, root, Trees, none, more, append, is_mult, is_undef, has_undef, reduced_parts, parts_reduced, AreFewBits, IsJoinedFrom, IsRewritten, IsLifted, IsProductOfPowers, IsSummed, exponent_of, joint, base_of, IsSumHeld, addends_of_each, HasFewBitsRaised, base_in, exponent_in, half, goes_inside, is_zero_or_one, parts_of, rewritten_whole, as_whole, whole_no_half, chosen, IsFactorHeld, AreFactorsHeld, none_held, counts_of, is_counted, raised_high, raised_low, exponents_within, nth, children_of, OfOverflow, NumberFault, reduced_nth, exponent_is_reduced, inside_other, mult}
-use Rattle.node_bounds.proofs.Clashes.{clash, exponent_reduced}
+use Rattle.node_bounds.proofs.Shared.{and_parts, mul-le, is_reduced, is_half_num, is_whole_num, whole_fraction, whole_is, whole_numerator, Tree, num, power, root, Trees, none, more, append, is_mult}
+use Rattle.node_bounds.proofs.Shared.{is_undef, has_undef, reduced_parts, parts_reduced, AreFewBits, IsJoinedFrom, IsRewritten, IsLifted, IsProductOfPowers, IsSummed, exponent_of, joint, base_of}
+use Rattle.node_bounds.proofs.Shared.{IsSumHeld, addends_of_each, HasFewBitsRaised, base_in, exponent_in, half, goes_inside, is_zero_or_one, parts_of, rewritten_whole, as_whole, whole_no_half, chosen}
+use Rattle.node_bounds.proofs.Shared.{IsFactorHeld, AreFactorsHeld, none_held, counts_of, is_counted, raised_high, raised_low, exponents_within, nth, children_of, OfOverflow, NumberFault, reduced_nth}
+use Rattle.node_bounds.proofs.{Shared.{exponent_is_reduced, inside_other, mult}, Clashes.{clash, exponent_reduced}, HeldFactors.{EachHeld, more_each, parts_each, tree_factor, factor_power}}
+use Rattle.node_bounds.proofs.{HeldFactors.{no_zero_exponent}, HeldJoints.{pair_exponents_held, pair_power_held}, JointBytes.{joining}, HeldParts.{few_most, few_magnitude, part_fits}}
+use Rattle.node_bounds.proofs.{HeldPowers.{half_of, half_bits, root_argument, power_raised, factor_counted, powers_held}, PowerBytes.{split_at}, Rewritten.{by_product, by_power}}
 use Rattle.tree_bits.proofs.ExponentBits.{counted_defined, some_counts, exponent_is_held, multiple_counts}
-use Rattle.node_bounds.proofs.HeldFactors.{EachHeld, more_each, parts_each, tree_factor, factor_power, no_zero_exponent}
-use Rattle.node_bounds.proofs.HeldJoints.{pair_exponents_held, pair_power_held}
-use Rattle.node_bounds.proofs.JointBytes.{joining}
-use Rattle.node_bounds.proofs.HeldParts.{few_most, few_magnitude, part_fits}
-use Rattle.node_bounds.proofs.HeldPowers.{half_of, half_bits, root_argument, power_raised, factor_counted, powers_held}
-use Rattle.node_bounds.proofs.PowerBytes.{split_at}
-use Rattle.node_bounds.proofs.Rewritten.{by_product, by_power}
 use Rattle.product_reduce.specs.Bits.{factor_held}
 
 -- ---- products

@@ -1,10 +1,11 @@
 -- How many bytes suffice where two factors of a product are joined and their joint is reduced.
 use Rattle.std.proofs.Common.{◌≡◌, ℕ, zero, suc, ◌+◌, ◌*◌, ◌^◌, ◌≤◌, ◌<◌, List, length, inl, inr, Bool, true, false, not, ◌&&◌, if◌then◌else◌, refl, sym, ap, subst, arith, ◌-◌, max}
-use Rattle.node_bounds.proofs.Shared.{and_parts, eqb-true, pow_pos, is_number, is_reduced, are_reduced, is_whole_num, base_of, number_words, reduced_words, counted, counted_among, SpansRoot, SpansTree, SpansTrees, number_bytes, tree_bytes, counted_number, counted_other, Tree, num, mult, power, Trees, none, more, count, is_mult, size, sizes, reduced_parts, IsJoinedFrom, whole_power_room, removed, exponent_of, joint, is_single, nth, exponent_count, numbers_among, product_count, sum_count, sum_room, product_room, power_room, product_power_room, counts_one, product_bytes, scaled, exponents_added, not-true, reduced_nth, neighbours_joint, joint_there, base_is_reduced}
+use Rattle.node_bounds.proofs.Shared.{and_parts, eqb-true, pow_pos, is_number, is_reduced, are_reduced, is_whole_num, base_of, number_words, reduced_words, counted, counted_among, SpansRoot}
+use Rattle.node_bounds.proofs.Shared.{SpansTree, SpansTrees, number_bytes, tree_bytes, counted_number, counted_other, Tree, num, mult, power, Trees, none, more, count, is_mult, size, sizes}
+use Rattle.node_bounds.proofs.Shared.{reduced_parts, IsJoinedFrom, whole_power_room, removed, exponent_of, joint, is_single, nth, exponent_count, numbers_among, product_count, sum_count, sum_room}
+use Rattle.node_bounds.proofs.Shared.{product_room, power_room, product_power_room, counts_one, product_bytes, scaled, exponents_added, not-true, reduced_nth, neighbours_joint, joint_there}
+use Rattle.node_bounds.proofs.{Shared.{base_is_reduced}, Calm.{all_nth, all_removed, all_base}, JointCounts.{joint_count, pair_joined_count, sizes_removed, numbers_one}, JointRooms.{joined_spans}}
 use Rattle.calc_room.proofs.NumberSpans.{value_spanned}
-use Rattle.node_bounds.proofs.Calm.{all_nth, all_removed, all_base}
-use Rattle.node_bounds.proofs.JointCounts.{joint_count, pair_joined_count, sizes_removed, numbers_one}
-use Rattle.node_bounds.proofs.JointRooms.{joined_spans}
 use Rattle.tree_room.proofs.Counts.{no_number as numbers_other}
 
 -- ---- the other factors

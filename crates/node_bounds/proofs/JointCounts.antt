@@ -1,6 +1,7 @@
 -- What counts in a product while two of its factors are joined and their joint is reduced, and how many bytes stand beside it.
 use Rattle.std.proofs.Common.{◌≡◌, ℕ, zero, suc, ◌+◌, ◌*◌, ◌≤◌, ◌<◌, Bool, true, if◌then◌else◌, refl, ap, arith}
-use Rattle.node_bounds.proofs.Shared.{and_parts, is_number, base_of, counted, counted_among, counted_number, counted_other, Tree, add, power, Trees, none, more, count, size, sizes, set_tree, removed, exponent_of, is_partner, joint, IsPairAt, joined_pair, nth, exponent_count, numbers_among, product_count, counts_one, power_counts, not-true, one_base}
+use Rattle.node_bounds.proofs.Shared.{and_parts, is_number, base_of, counted, counted_among, counted_number, counted_other, Tree, add, power, Trees, none, more, count, size, sizes, set_tree, removed}
+use Rattle.node_bounds.proofs.Shared.{exponent_of, is_partner, joint, IsPairAt, joined_pair, nth, exponent_count, numbers_among, product_count, counts_one, power_counts, not-true, one_base}
 use Rattle.node_bounds.proofs.Calm.{one_whole}
 use Rattle.tree_room.proofs.Counts.{no_number as numbers_other}
 

@@ -1,11 +1,11 @@
 -- How many bytes suffice for the node of a tree over reduced children.
 use Rattle.std.proofs.Common.{◌≡◌, ℕ, negsuc, ◌+◌, ◌*◌, ◌^◌, ◌≤◌, ◌<◌, List, length, true, Result, arith, IfErr}
-use Rattle.node_bounds.proofs.Shared.{pow_pos, IsAssignment, is_reduced, are_reduced, is_half_num, reduced_words, counted, SpansTree, SpansTrees, num_bytes, tree_bytes, minus_one_fraction, Tree, num, add, mult, power, neg, Trees, none, more, count, is_add, is_mult, is_root, is_num, is_sub, is_div, root_kind, size, sizes, Kind, HasNodesFor, KeepsNodeRoom, SpansNode, factors_room, IsCalmAtZero, whole_power_room, power_count, base_in, exponent_in, whole_is, IsFull, argument_of, LacksBelow, nth, children_of, NumberFault, IsCalm, zeros, product_count, sum_count, sum_room, product_room, power_room, product_power_room, simple_room, whole_number, counts_one, product_at_most, sum_bytes, product_bytes, scaled, numbers_and_others}
-use Rattle.node_bounds.proofs.Clashes.{rational_number}
-use Rattle.node_bounds.proofs.Calm.{calm_power}
-use Rattle.node_bounds.proofs.JointCounts.{numbers_one}
-use Rattle.node_bounds.proofs.NodeRooms.{inverse_count}
-use Rattle.node_bounds.proofs.PowerBytes.{needs_most}
+use Rattle.node_bounds.proofs.Shared.{pow_pos, IsAssignment, is_reduced, are_reduced, is_half_num, reduced_words, counted, SpansTree, SpansTrees, num_bytes, tree_bytes, minus_one_fraction, Tree, num}
+use Rattle.node_bounds.proofs.Shared.{add, mult, power, neg, Trees, none, more, count, is_add, is_mult, is_root, is_num, is_sub, is_div, root_kind, size, sizes, Kind, HasNodesFor, KeepsNodeRoom}
+use Rattle.node_bounds.proofs.Shared.{SpansNode, factors_room, IsCalmAtZero, whole_power_room, power_count, base_in, exponent_in, whole_is, IsFull, argument_of, LacksBelow, nth, children_of}
+use Rattle.node_bounds.proofs.Shared.{NumberFault, IsCalm, zeros, product_count, sum_count, sum_room, product_room, power_room, product_power_room, simple_room, whole_number, counts_one}
+use Rattle.node_bounds.proofs.{Shared.{product_at_most, sum_bytes, product_bytes, scaled, numbers_and_others}, Clashes.{rational_number}, Calm.{calm_power}, JointCounts.{numbers_one}}
+use Rattle.node_bounds.proofs.{NodeRooms.{inverse_count}, PowerBytes.{needs_most}}
 use Rattle.calc_terms.specs.declared.kind.Kind.TheVariants as kind
 
 -- ---- sums and products

@@ -1,10 +1,8 @@
 -- What the answer for a node counts, and that it is calm and spanned as the node is.
 use Rattle.std.proofs.Common.{ℕ, ◌+◌, ◌≤◌, negsuc, List, Bool, if◌then◌else◌, ap, arith}
-use Rattle.node_bounds.proofs.Shared.{number_test, counted, counted_among, SpansTree, Fraction, minus_one_fraction, Tree, num, undef, add, mult, power, root, neg, sub, div, Trees, none, more, KeepsNodeRoom, SpansNode, node_count, IsCalmAtZero, KeepsRoom, KeepsSumRoom, power_count, whole_is, IsRootAnswer, zeros, whole_number, counts_one, at_most_itself}
-use Rattle.node_bounds.proofs.Calm.{calm_power}
-use Rattle.node_bounds.proofs.JointRooms.{whole_count_most, sum_calm}
-use Rattle.node_bounds.proofs.PowerRooms.{root_room, root_answer_counts, root_answer_calm, power_counts_most}
-use Rattle.node_bounds.proofs.Rewritten.{whole_count_is}
+use Rattle.node_bounds.proofs.Shared.{number_test, counted, counted_among, SpansTree, Fraction, minus_one_fraction, Tree, num, undef, add, mult, power, root, neg, sub, div, Trees, none, more}
+use Rattle.node_bounds.proofs.Shared.{KeepsNodeRoom, SpansNode, node_count, IsCalmAtZero, KeepsRoom, KeepsSumRoom, power_count, whole_is, IsRootAnswer, zeros, whole_number, counts_one, at_most_itself}
+use Rattle.node_bounds.proofs.{Calm.{calm_power}, JointRooms.{whole_count_most, sum_calm}, PowerRooms.{root_room, root_answer_counts, root_answer_calm, power_counts_most}, Rewritten.{whole_count_is}}
 
 -- ---- leaves
 

@@ -1,13 +1,13 @@
 -- How many bytes suffice for the calls on a whole power that is rewritten.
 use Rattle.std.proofs.Common.{◌≡◌, ℕ, ◌+◌, ◌*◌, ◌^◌, ◌≤◌, ◌<◌, List, length, Bool, true, false, not, ◌&&◌, if◌then◌else◌, refl, sym, ap, ◌∙◌, subst, arith, inl, inr}
-use Rattle.node_bounds.proofs.Shared.{and_parts, pow_pos, is_number, is_reduced, are_reduced, is_num_one, is_whole_num, split_product, HasForm, reduced_words, counted, counted_among, SpansRoot, SpansTree, SpansTrees, tree_bytes, counted_number, counted_other, Tree, mult, power, root, Trees, none, more, append, is_mult, size, sizes, AllPartsOf, reduced_parts, parts_reduced, IsCalmAtZero, whole_power_room, AreReducedPowers, removed, parts_of, raised, parts_counted, HasFactors, product_factors, parts_span, product_parts, nth, HasCalmExponent, AreCalm, zeros, counted_in_all, numbers_among, product_count, exponent_count, product_room, power_room, product_power_room, counts_one, number_counts_one, product_at_most, raised_factor, raised_number, scaled, power_counts, exponents_multiplied, cases_Bool, appended, sizes_append, and_cases, not-false}
-use Rattle.node_bounds.proofs.Clashes.{contrary}
-use Rattle.node_bounds.proofs.Calm.{calm_exponent}
-use Rattle.node_bounds.proofs.JointBytes.{product_base}
-use Rattle.node_bounds.proofs.JointCounts.{numbers_one}
-use Rattle.node_bounds.proofs.Rewritten.{AreSingle, parts_calm, parts_single, powers_raised, root_counts}
-use Rattle.tree_room.proofs.Coefficients.{split_counts}
-use Rattle.tree_room.proofs.Counts.{numbers_appended as numbers_append, no_number as numbers_other}
+use Rattle.node_bounds.proofs.Shared.{and_parts, pow_pos, is_number, is_reduced, are_reduced, is_num_one, is_whole_num, split_product, HasForm, reduced_words, counted, counted_among, SpansRoot}
+use Rattle.node_bounds.proofs.Shared.{SpansTree, SpansTrees, tree_bytes, counted_number, counted_other, Tree, mult, power, root, Trees, none, more, append, is_mult, size, sizes, AllPartsOf}
+use Rattle.node_bounds.proofs.Shared.{reduced_parts, parts_reduced, IsCalmAtZero, whole_power_room, AreReducedPowers, removed, parts_of, raised, parts_counted, HasFactors, product_factors, parts_span}
+use Rattle.node_bounds.proofs.Shared.{product_parts, nth, HasCalmExponent, AreCalm, zeros, counted_in_all, numbers_among, product_count, exponent_count, product_room, power_room, product_power_room}
+use Rattle.node_bounds.proofs.Shared.{counts_one, number_counts_one, product_at_most, raised_factor, raised_number, scaled, power_counts, exponents_multiplied, cases_Bool, appended, sizes_append}
+use Rattle.node_bounds.proofs.{Shared.{and_cases, not-false}, Clashes.{contrary}, Calm.{calm_exponent}, JointBytes.{product_base}, JointCounts.{numbers_one}, Rewritten.{AreSingle, parts_calm}}
+use Rattle.node_bounds.proofs.Rewritten.{parts_single, powers_raised, root_counts}
+use Rattle.tree_room.proofs.{Coefficients.{split_counts}, Counts.{numbers_appended as numbers_append, no_number as numbers_other}}
 use Rattle.product_reduce.proofs.GatheredCounts.{no_numbers}
 
 -- ---- what a whole power of each base needs

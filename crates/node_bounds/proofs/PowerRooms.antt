@@ -1,8 +1,9 @@
 -- What reduced powers count, and that they are calm and spanned.
 use Rattle.std.proofs.Common.{◌≡◌, ℕ, ℤ, ◌+◌, ◌≤◌, List, Bool, true, false, None, refl, sym, ◌∙◌, subst, arith}
-use Rattle.node_bounds.proofs.Shared.{is_number, number_words, counted, SpansTree, Fraction, whole_fraction, int_is_negative, Tree, num, undef, power, root, is_num, is_undef, zero_is, one_is, IsCalmAtZero, KeepsRoom, KeepsRootRoom, SpansRootOf, power_count, has_no_power, has_number_power, IsPowerAnswer, IsWrittenPower, is_zero_or_one, rewritten, answer_counts, whole_power_counts, answer_spans, whole_is, has_no_root, IsRootAnswer, zeros, number_calm, whole_number, counts_one, number_counts_one}
-use Rattle.node_bounds.proofs.Clashes.{undef_words}
-use Rattle.node_bounds.proofs.Calm.{calm_base, calm_power}
+use Rattle.node_bounds.proofs.Shared.{is_number, number_words, counted, SpansTree, Fraction, whole_fraction, int_is_negative, Tree, num, undef, power, root, is_num, is_undef, zero_is, one_is}
+use Rattle.node_bounds.proofs.Shared.{IsCalmAtZero, KeepsRoom, KeepsRootRoom, SpansRootOf, power_count, has_no_power, has_number_power, IsPowerAnswer, IsWrittenPower, is_zero_or_one, rewritten}
+use Rattle.node_bounds.proofs.Shared.{answer_counts, whole_power_counts, answer_spans, whole_is, has_no_root, IsRootAnswer, zeros, number_calm, whole_number, counts_one, number_counts_one}
+use Rattle.node_bounds.proofs.{Clashes.{undef_words}, Calm.{calm_base, calm_power}}
 use Rattle.radical_forms.proofs.RootValues.{root_of_zero}
 
 -- ---- counts

@@ -1,19 +1,13 @@
 -- What products and powers of reduced trees reduce to.
 use Rattle.std.specs.Prelude.{ℤ, ◌≡◌, ◌≤◌, ◌+◌, Bool, true, false, ◌&&◌, ◌||◌, ◌==◌}
-use Rattle.calc_terms.specs.Fractions.{is_zero_fraction, whole_fraction}
-use Rattle.calc_terms.specs.Integers.{int_is_negative}
+use Rattle.calc_terms.specs.{Fractions.{is_zero_fraction, whole_fraction}, Integers.{int_is_negative}, Trees.{Tree, num, undef, mult, power, Trees, has_undef, is_num}}
 use Rattle.calc_measures.specs.Loads.{nest, load, weight}
-use Rattle.calc_algebra.specs.Numbers.{is_number, are_numbers}
-use Rattle.calc_algebra.specs.Reduced.{is_half_num, is_opaque_exponent}
+use Rattle.calc_algebra.specs.{Numbers.{is_number, are_numbers}, Reduced.{is_half_num, is_opaque_exponent}, Rewritings.{Reduces}}
 use Rattle.calc_room.specs.Counts.{counted}
-use Rattle.calc_terms.specs.Trees.{Tree, num, undef, mult, power, Trees, has_undef, is_num}
-use Rattle.power_reduce.specs.PowerAnswers.{has_no_power, has_number_power, IsWrittenPower}
-use Rattle.node_bounds.specs.Bits.{IsHeldAsProduct, IsHeldAsRootPower, MultipliesCounts}
+use Rattle.power_reduce.specs.{PowerAnswers.{has_no_power, has_number_power, IsWrittenPower}, Bits.{IsHeldAsPowerOf}}
+use Rattle.node_bounds.specs.{Bits.{IsHeldAsProduct, IsHeldAsRootPower, MultipliesCounts}, Rooms.{KeepsRoom, KeepsRootRoom, power_count}}
 use Rattle.number_forms.specs.Readers.{numerator}
-use Rattle.power_reduce.specs.Bits.{IsHeldAsPowerOf}
-use Rattle.node_bounds.specs.Rooms.{KeepsRoom, KeepsRootRoom, power_count}
 use Rattle.product_reduce.specs.Answers.{AreJoinable, IsWrittenProduct}
-use Rattle.calc_algebra.specs.Rewritings.{Reduces}
 
 -- the reduced product of these factors
 pub record IsReducedProduct (ts : Trees) (t : Tree) : Type 0 where

@@ -1,10 +1,8 @@
 -- By how many bits products, powers and exponents are held.
 use Rattle.std.specs.Prelude.{ℕ, ℤ, ◌≡◌, true, false}
-use Rattle.calc_terms.specs.Fractions.{whole_fraction}
-use Rattle.calc_terms.specs.Trees.{Tree, num, Trees, none, more, is_undef}
+use Rattle.calc_terms.specs.{Fractions.{whole_fraction}, Trees.{Tree, num, Trees, none, more, is_undef}}
 use Rattle.product_reduce.specs.Bits.{IsFactorHeld, AreFactorsHeld}
-use Rattle.tree_bits.specs.Exponents.{multiple, is_counted, counts_of}
-use Rattle.tree_bits.specs.Powers.{IsCountedWithin, raised_high, raised_low}
+use Rattle.tree_bits.specs.{Exponents.{multiple, is_counted, counts_of}, Powers.{IsCountedWithin, raised_high, raised_low}}
 
 -- what holds the factors one by one holds t as their product, unless t is Undef
 abbrev pub IsHeldAsProduct : Trees → Tree → Type 0

@@ -2,12 +2,10 @@
 use Rattle.std.specs.Prelude.{ℕ, List, ◌≡◌, ◌≤◌}
 use Rattle.calc_room.specs.Counts.{counted}
 use Rattle.calc_terms.specs.Trees.{Tree, mult, power, Trees, none, more}
-use Rattle.node_bounds.specs.Answers.{IsReducedProduct, IsReducedPower}
-use Rattle.node_bounds.specs.Rooms.{IsCalmAtZero, KeepsRoom}
+use Rattle.node_bounds.specs.{Answers.{IsReducedProduct, IsReducedPower}, Rooms.{IsCalmAtZero, KeepsRoom}}
 use Rattle.power_reduce.specs.PowerAnswers.{base_in, exponent_in}
 use Rattle.product_reduce.specs.Bits.{AreFactorsHeld}
-use Rattle.sum_reduce.specs.Bounds.{KeepsSumBounds}
-use Rattle.sum_reduce.specs.SumAnswers.{IsSumAnswer}
+use Rattle.sum_reduce.specs.{Bounds.{KeepsSumBounds}, SumAnswers.{IsSumAnswer}}
 use Rattle.tree_room.specs.Handed.{product_count}
 
 -- a power whose exponent was a sum of these, and is reduced

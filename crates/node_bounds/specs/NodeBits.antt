@@ -1,12 +1,10 @@
 -- By how many bits a node over reduced children is held.
 use Rattle.std.specs.Prelude.{ℕ, ℤ, ◌+◌, ◌*◌, ◌^◌, ◌≤◌, ◌≡◌, true, false}
 use Rattle.calc_algebra.specs.Reduced.{is_half_num}
-use Rattle.calc_terms.specs.Fractions.{whole_fraction}
-use Rattle.calc_terms.specs.Trees.{Tree, num, add, mult, power, root, neg, sub, div, is_num}
+use Rattle.calc_terms.specs.{Fractions.{whole_fraction}, Trees.{Tree, num, add, mult, power, root, neg, sub, div, is_num}}
 use Rattle.number_forms.specs.Readers.{numerator}
 use Rattle.product_reduce.specs.Bits.{IsFactorHeld, AreFactorsHeld}
-use Rattle.tree_bits.specs.Children.{IsSumHeld, addends_of_each}
-use Rattle.tree_bits.specs.Powers.{raised_high, raised_low}
+use Rattle.tree_bits.specs.{Children.{IsSumHeld, addends_of_each}, Powers.{raised_high, raised_low}}
 
 -- a power n by that of the bits of its base, one with half of n as the exponent also by these bits, and any other with no rational
 -- as its exponent as the tree that it is

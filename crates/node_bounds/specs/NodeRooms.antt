@@ -1,11 +1,9 @@
 -- How much the answer for a node over reduced children counts, and how many bytes it needs at most.
 use Rattle.std.specs.Prelude.{ℕ, ◌+◌, ◌≤◌, List}
-use Rattle.calc_room.specs.Counts.{counted}
-use Rattle.calc_room.specs.Spans.{SpansTree}
+use Rattle.calc_room.specs.{Counts.{counted}, Spans.{SpansTree}}
 use Rattle.calc_terms.specs.Trees.{Tree, add, mult, power, root, neg, sub, div, Trees, none, count}
 use Rattle.node_bounds.specs.Rooms.{IsCalmAtZero, SpansRootOf, power_count}
-use Rattle.tree_room.specs.Handed.{sum_count, product_count}
-use Rattle.tree_room.specs.Needs.{product_room}
+use Rattle.tree_room.specs.{Handed.{sum_count, product_count}, Needs.{product_room}}
 
 -- how much the answer counts at most
 abbrev pub node_count : Tree → ℕ

@@ -1,15 +1,11 @@
 -- For how few bytes products and powers are refused, how much their answers count, and where what spans them spans these.
 use Rattle.std.specs.Prelude.{ℕ, suc, ◌+◌, ◌≡◌, ◌≤◌, ◌<◌, List, true, ◌&&◌, not, if◌then◌else◌, Some}
-use Rattle.calc_algebra.specs.Meanings.{IsAssignment}
-use Rattle.calc_algebra.specs.Numbers.{is_number, natural_of}
-use Rattle.calc_algebra.specs.Reduced.{is_reduced, are_reduced, is_whole_num}
-use Rattle.calc_room.specs.Counts.{counted}
-use Rattle.calc_room.specs.Spans.{SpansTree}
+use Rattle.calc_algebra.specs.{Meanings.{IsAssignment}, Numbers.{is_number, natural_of}, Reduced.{is_reduced, are_reduced, is_whole_num}}
+use Rattle.calc_room.specs.{Counts.{counted}, Spans.{SpansTree}}
 use Rattle.calc_terms.specs.Trees.{Tree, num, power, root, Trees, is_mult}
 use Rattle.power_reduce.specs.PowerSteps.{rewritten}
 use Rattle.product_reduce.specs.Neighbours.{IsPairAt, joined_pair}
-use Rattle.tree_room.specs.Exponents.{IsCalm, zeros}
-use Rattle.tree_room.specs.Needs.{power_room, product_power_room}
+use Rattle.tree_room.specs.{Exponents.{IsCalm, zeros}, Needs.{power_room, product_power_room}}
 
 -- where these names, each written once, are 0, each exponent in the tree means a whole number
 pub record IsCalmAtZero (ns : List (List ℕ)) (t : Tree) : Type 0 where

@@ -1,11 +1,8 @@
 -- Children that are brought into an order, one place after another.
-use Rattle.node_order.proofs.Shared.{◌≡◌, ℕ, ◌+◌, ◌<◌, ◌≤◌, List, length, take, get_or, sym, ap, ◌∙◌, subst, arith, true, All, IsPermutation, swap, range_with_len}
-use Rattle.node_order.proofs.Shared.{take_all, All-get_or, All-permutation, IsPermutation-sym, picked_behind, State, root_ids, IsChildAt, AreSiblings, Forest, arity, kids, rest_trees, swapped_nth}
-use Rattle.node_order.proofs.Shared.{kids_of, has_root, root_tree, put, Stands, forest, first-rest, arity-join, arity-first_trees, arity-rest_trees, kids_of_root, root-put, kids-put, put-put}
-use Rattle.node_order.proofs.Shared.{put-same, root_ids-nth}
-use Rattle.node_order.proofs.Picks.{AreInside, arity-picked, picked-swap, nth-picked_behind}
-use Rattle.node_order.proofs.Places.{inside_range}
-use Rattle.node_order.proofs.SortLaws.{picked-range}
+use Rattle.node_order.proofs.Shared.{◌≡◌, ℕ, ◌+◌, ◌<◌, ◌≤◌, List, length, take, get_or, sym, ap, ◌∙◌, subst, arith, true, All, IsPermutation, swap, range_with_len, take_all, All-get_or}
+use Rattle.node_order.proofs.Shared.{All-permutation, IsPermutation-sym, picked_behind, State, root_ids, IsChildAt, AreSiblings, Forest, arity, kids, rest_trees, swapped_nth, kids_of, has_root}
+use Rattle.node_order.proofs.Shared.{root_tree, put, Stands, forest, first-rest, arity-join, arity-first_trees, arity-rest_trees, kids_of_root, root-put, kids-put, put-put, put-same, root_ids-nth}
+use Rattle.node_order.proofs.{Picks.{AreInside, arity-picked, picked-swap, nth-picked_behind}, Places.{inside_range}, SortLaws.{picked-range}}
 
 -- how the children stand: those from a place on are picked by a list of places
 pub record IsArranged (i n : ℕ) (xs : List ℕ) (f g : Forest) : Type 0 where

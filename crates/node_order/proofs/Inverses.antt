@@ -1,7 +1,6 @@
 -- Two lists of places that undo each other.
-use Rattle.node_order.proofs.Shared.{◌≡◌, ℕ, ◌<◌, ◌≤◌, List, length, take, get_or, refl, sym, ap, ◌∙◌, subst, arith, ⊎_elim, IsPermutation, swap, range_with_len, cases_lt}
-use Rattle.node_order.proofs.Shared.{cases_eq, get_or-take, swapped_from_swap, length-swap, length-range_with_len, get_or-range_with_len, All-get_or, IsPermutation-keeps, length_permutation}
-use Rattle.node_order.proofs.Places.{inside_range}
+use Rattle.node_order.proofs.Shared.{◌≡◌, ℕ, ◌<◌, ◌≤◌, List, length, take, get_or, refl, sym, ap, ◌∙◌, subst, arith, ⊎_elim, IsPermutation, swap, range_with_len, cases_lt, cases_eq, get_or-take}
+use Rattle.node_order.proofs.{Shared.{swapped_from_swap, length-swap, length-range_with_len, get_or-range_with_len, All-get_or, IsPermutation-keeps, length_permutation}, Places.{inside_range}}
 
 -- each place below n stands in xs at the place that ys has for it
 abbrev pub Tells : ℕ → List ℕ → List ℕ → Type 0

@@ -1,8 +1,6 @@
 -- One child is in order.
-use Rattle.node_order.proofs.Shared.{◌≡◌, ℕ, zero, suc, ◌+◌, ◌≤◌, arith, rules, IsPermutation, range_with_len, IsSorted, Tree, place_cmp, SortsChildren, plains, nth, AllExpressions}
-use Rattle.node_order.proofs.Shared.{Forest, arity, kids, AllOnce, root_tree}
-use Rattle.node_order.proofs.Arranged.{arranged_start}
-use Rattle.node_order.proofs.SortLaws.{sorted_children}
+use Rattle.node_order.proofs.Shared.{◌≡◌, ℕ, zero, suc, ◌+◌, ◌≤◌, arith, rules, IsPermutation, range_with_len, IsSorted, Tree, place_cmp, SortsChildren, plains, nth, AllExpressions, Forest, arity}
+use Rattle.node_order.proofs.{Shared.{kids, AllOnce, root_tree}, Arranged.{arranged_start}, SortLaws.{sorted_children}}
 
 range_moves : (m : ℕ) → IsPermutation (range_with_len 0 m) (range_with_len 0 m)
 range_moves m = search rules

@@ -1,12 +1,10 @@
 -- Pairs of trees that are compared in one walk.
-use Rattle.node_order.proofs.Shared.{Bool, not, ◌==◌, ◌≡◌, ◌≢◌, ℕ, zero, suc, ◌+◌, ◌-◌, ◌^◌, ◌<◌, ◌≤◌, min, List, [], ◌∷◌, ◌++◌, length, refl, sym}
-use Rattle.node_order.proofs.Shared.{ap, ◌∙◌, subst, arith, append_assoc, append-nil, ⊎_elim, true, false, Ordering, Equal, nat_cmp, ordering_then, ordering_index, cases_eq, map-append}
-use Rattle.node_order.proofs.Shared.{length-append, Payload, tree_cmp, trees_cmp, Tree, Front, IsFront, Shows, payload_cmp, State, Visit, grown, plain, plains, IsWhole, IsExpression, AllExpressions}
-use Rattle.node_order.proofs.Shared.{Label, Forest, empty, tree, join, arity, node_of, flatten, first_trees, rest_trees, root_payload, nodes_in, tree_at, payload_in, Stands, forest, visit_of}
-use Rattle.node_order.proofs.Shared.{visits_of, AreFound, arity-join, arity-first_trees, all-join, all-first_trees, nodes-flatten, arity_le, few_in, one_at, found, found-join, found-first_trees, seen}
-use Rattle.node_order.proofs.Shared.{visits-join, visits-first_rest, visits_length, Pairs}
-use Rattle.node_order.proofs.Orderings.{then-equal, then_assoc, then_decided, nat_cmp_less, nat_cmp_greater, nat_cmp_equal, nat_cmp-suc}
-use Rattle.node_order.proofs.Roots.{by_roots}
+use Rattle.node_order.proofs.Shared.{Bool, not, ◌==◌, ◌≡◌, ◌≢◌, ℕ, zero, suc, ◌+◌, ◌-◌, ◌^◌, ◌<◌, ◌≤◌, min, List, [], ◌∷◌, ◌++◌, length, refl, sym, ap, ◌∙◌, subst, arith, append_assoc, append-nil}
+use Rattle.node_order.proofs.Shared.{⊎_elim, true, false, Ordering, Equal, nat_cmp, ordering_then, ordering_index, cases_eq, map-append, length-append, Payload, tree_cmp, trees_cmp, Tree, Front}
+use Rattle.node_order.proofs.Shared.{IsFront, Shows, payload_cmp, State, Visit, grown, plain, plains, IsWhole, IsExpression, AllExpressions, Label, Forest, empty, tree, join, arity, node_of, flatten}
+use Rattle.node_order.proofs.Shared.{first_trees, rest_trees, root_payload, nodes_in, tree_at, payload_in, Stands, forest, visit_of, visits_of, AreFound, arity-join, arity-first_trees, all-join}
+use Rattle.node_order.proofs.Shared.{all-first_trees, nodes-flatten, arity_le, few_in, one_at, found, found-join, found-first_trees, seen, visits-join, visits-first_rest, visits_length, Pairs}
+use Rattle.node_order.proofs.{Orderings.{then-equal, then_assoc, then_decided, nat_cmp_less, nat_cmp_greater, nat_cmp_equal, nat_cmp-suc}, Roots.{by_roots}}
 
 -- ---- lists of trees
 

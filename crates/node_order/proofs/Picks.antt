@@ -1,9 +1,7 @@
 -- Trees that are picked by places.
-use Rattle.node_order.proofs.Shared.{◌≡◌, ℕ, zero, suc, ◌+◌, ◌<◌, ◌≤◌, List, [], ◌∷◌, ◌++◌, length, get_or, refl, sym, ap, ◌∙◌, subst, arith, All, swap, All-head}
-use Rattle.node_order.proofs.Shared.{All-tail, All-nil, All-cons, picked, picked_behind, Forest, join, arity, first_trees, rest_trees, tree_nth, set_nth, swapped_nth, join_assoc, arity-join}
-use Rattle.node_order.proofs.Shared.{arity-tree_nth, arity-first_trees, first_trees-behind, tree_nth-behind, set_nth-behind, swapped_nth-same}
-use Rattle.node_order.proofs.Listing.{nth-front}
-use Rattle.node_order.proofs.Places.{pair, swap_same}
+use Rattle.node_order.proofs.Shared.{◌≡◌, ℕ, zero, suc, ◌+◌, ◌<◌, ◌≤◌, List, [], ◌∷◌, ◌++◌, length, get_or, refl, sym, ap, ◌∙◌, subst, arith, All, swap, All-head, All-tail, All-nil, All-cons, picked}
+use Rattle.node_order.proofs.Shared.{picked_behind, Forest, join, arity, first_trees, rest_trees, tree_nth, set_nth, swapped_nth, join_assoc, arity-join, arity-tree_nth, arity-first_trees}
+use Rattle.node_order.proofs.{Shared.{first_trees-behind, tree_nth-behind, set_nth-behind, swapped_nth-same}, Listing.{nth-front}, Places.{pair, swap_same}}
 
 pub picked-append : (xs ys : List ℕ) (f : Forest) → picked (xs ++ ys) f ≡ join (picked xs f) (picked ys f)
 picked-append [] ys f = refl

@@ -1,15 +1,11 @@
 -- Sorted children, from the order of their places.
-use Rattle.node_order.proofs.Listing.{suc-add}
-use Rattle.node_order.proofs.Shared.{rest-once_more}
-use Rattle.node_order.proofs.Shared.{◌≡◌, ℕ, zero, suc, ◌+◌, ◌-◌, ◌<◌, ◌≤◌, List, [], ◌∷◌, ◌++◌, length, take, drop, get_or, map, refl, sym, ap, ◌∙◌, subst}
-use Rattle.node_order.proofs.Shared.{arith, min, add-one, zero-add, All, IsPermutation, true, range_with_len, IsSorted, IsSortedByKey, IsStableByKey, is_lt, take-append_seam, drop-append_seam}
-use Rattle.node_order.proofs.Shared.{get_or-map, length-map, IsPermutation-map, All-head, All-tail, tree_cmp, Tree, Trees, none, more, append, undef, Key, key_tree, place_cmp, ranked_tree, picked}
-use Rattle.node_order.proofs.Shared.{picked_behind, list_of, IsSorting, KeepsTies, SortsChildren, plains, plain, nth, IsWhole, AllExpressions, Label, Forest, empty, tree, join, arity, first_trees}
-use Rattle.node_order.proofs.Shared.{rest_trees, tree_nth, kids, AllNodes, IsOnce, AllOnce, State, tree_at, kids_of, holds, Stands, forest, kids_of_root, has_root, root_tree, put, root_held}
-use Rattle.node_order.proofs.Shared.{first-rest, arity-tree_nth, arity-first_trees, arity-rest_trees, all-join, all-first_trees, all-rest_trees, all-tree_nth, plains-join, plain-tree_nth, alone}
-use Rattle.node_order.proofs.Places.{range_inside, inside_range}
-use Rattle.node_order.proofs.Picks.{AreInside}
-use Rattle.node_order.proofs.Ties.{places_same, trees_rise, trees_stable}
+use Rattle.node_order.proofs.{Listing.{suc-add}, Shared.{rest-once_more, ◌≡◌, ℕ, zero, suc, ◌+◌, ◌-◌, ◌<◌, ◌≤◌, List, [], ◌∷◌, ◌++◌, length, take, drop, get_or, map, refl, sym, ap, ◌∙◌, subst, arith}}
+use Rattle.node_order.proofs.Shared.{min, add-one, zero-add, All, IsPermutation, true, range_with_len, IsSorted, IsSortedByKey, IsStableByKey, is_lt, take-append_seam, drop-append_seam, get_or-map}
+use Rattle.node_order.proofs.Shared.{length-map, IsPermutation-map, All-head, All-tail, tree_cmp, Tree, Trees, none, more, append, undef, Key, key_tree, place_cmp, ranked_tree, picked, picked_behind}
+use Rattle.node_order.proofs.Shared.{list_of, IsSorting, KeepsTies, SortsChildren, plains, plain, nth, IsWhole, AllExpressions, Label, Forest, empty, tree, join, arity, first_trees, rest_trees}
+use Rattle.node_order.proofs.Shared.{tree_nth, kids, AllNodes, IsOnce, AllOnce, State, tree_at, kids_of, holds, Stands, forest, kids_of_root, has_root, root_tree, put, root_held, first-rest}
+use Rattle.node_order.proofs.Shared.{arity-tree_nth, arity-first_trees, arity-rest_trees, all-join, all-first_trees, all-rest_trees, all-tree_nth, plains-join, plain-tree_nth, alone}
+use Rattle.node_order.proofs.{Places.{range_inside, inside_range}, Picks.{AreInside}, Ties.{places_same, trees_rise, trees_stable}}
 
 pub list_of-append : (ts us : Trees) → list_of (append ts us) ≡ list_of ts ++ list_of us
 list_of-append none us = refl

@@ -1,13 +1,8 @@
 -- The front of a tree: its root, and the nodes behind that.
 use Rattle.std.specs.Prelude.{◌≡◌, ◌<◌, ◌^◌, List, ◌++◌, length, true}
-use Rattle.calc_terms.specs.Payload.{Payload, kind_of_payload}
-use Rattle.calc_terms.specs.Trees.{Tree}
+use Rattle.calc_terms.specs.{Payload.{Payload, kind_of_payload}, Trees.{Tree}}
 use Rattle.node_order.specs.declared.fronts.Front.{Front}
-use Rattle.tree_handles.specs.declared.visits.Visit.{Visit}
-use Rattle.tree_handles.specs.Expressions.{grown, plains, takes, AllExpressions}
-use Rattle.tree_handles.specs.Forest.{Forest, arity}
-use Rattle.tree_handles.specs.Inside.{holds, payload_in}
-use Rattle.tree_handles.specs.Visits.{visits_of, AreFound}
+use Rattle.tree_handles.specs.{declared.visits.Visit.{Visit}, Expressions.{grown, plains, takes, AllExpressions}, Forest.{Forest, arity}, Inside.{holds, payload_in}, Visits.{visits_of, AreFound}}
 
 -- the root of a tree of the language holds x, its children are the trees k, and more nodes stand behind them
 pub record IsFront (f : Front) (x : Payload) (k : Forest) (others : List Visit) (base : Forest) : Type 0 where

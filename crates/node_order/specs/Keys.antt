@@ -3,9 +3,7 @@ use Rattle.std.specs.Prelude.{ℕ, zero, suc, ◌≡◌, ◌<◌, ◌==◌, if�
 use Rattle.calc_algebra.specs.Reduced.{product_tree}
 use Rattle.calc_terms.specs.Trees.{Tree, Trees, none, more, is_mult, count}
 use Rattle.node_order.specs.declared.keys.Key.{Key}
-use Rattle.tree_handles.specs.Expressions.{plain, children_of, IsExpression}
-use Rattle.tree_handles.specs.Forest.{Forest}
-use Rattle.tree_handles.specs.Inside.{tree_at}
+use Rattle.tree_handles.specs.{Expressions.{plain, children_of, IsExpression}, Forest.{Forest}, Inside.{tree_at}}
 
 -- the trees behind the first ones
 abbrev pub trees_behind : ℕ → Trees → Trees

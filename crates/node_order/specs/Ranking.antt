@@ -1,11 +1,8 @@
 -- Keys by their places in a list.
-use Rattle.std.specs.Prelude.{ℕ, ◌-◌, min, List, length, slice_index_or}
-use Rattle.std.specs.declared.cmp.Ordering.{Ordering}
-use Rattle.std.specs.Ordering.{nat_cmp, ordering_then}
+use Rattle.std.specs.{Prelude.{ℕ, ◌-◌, min, List, length, slice_index_or}, declared.cmp.Ordering.{Ordering}, Ordering.{nat_cmp, ordering_then}}
 use Rattle.calc_algebra.specs.TreeOrder.{tree_cmp}
 use Rattle.calc_terms.specs.Trees.{Tree}
-use Rattle.node_order.specs.declared.keys.Key.{Key}
-use Rattle.node_order.specs.Keys.{key_tree}
+use Rattle.node_order.specs.{declared.keys.Key.{Key}, Keys.{key_tree}}
 use Rattle.tree_handles.specs.Forest.{Forest}
 
 -- the key at a place, counted from 0, and the last one behind it

@@ -1,11 +1,6 @@
 -- The order of trees, split into that of their roots and that of what stands below.
-use Rattle.std.specs.declared.cmp.Ordering.{Ordering}
-use Rattle.std.specs.declared.cmp.Ordering.TheVariants.{Equal}
-use Rattle.std.specs.Ordering.{nat_cmp, ordering_then}
-use Rattle.std.specs.Cmp.Lexicographic.{slice_cmp}
-use Rattle.calc_terms.specs.Fractions.{lowest, fraction_cmp}
-use Rattle.calc_terms.specs.Kind.{code_of}
-use Rattle.calc_terms.specs.Payload.{Payload, rational, named, kind_of_payload}
+use Rattle.std.specs.{declared.cmp.Ordering.{Ordering}, declared.cmp.Ordering.TheVariants.{Equal}, Ordering.{nat_cmp, ordering_then}, Cmp.Lexicographic.{slice_cmp}}
+use Rattle.calc_terms.specs.{Fractions.{lowest, fraction_cmp}, Kind.{code_of}, Payload.{Payload, rational, named, kind_of_payload}}
 
 -- leaves of one kind: rationals by value, names by their bytes
 abbrev pub value_cmp : Payload → Payload → Ordering

@@ -1,12 +1,8 @@
 -- Children that are put in order.
-use Rattle.std.specs.Prelude.{ℕ, ◌≡◌, List, [], ◌∷◌, take, drop, IsPermutation, IsSortedByKey}
-use Rattle.std.specs.List.Sorted.{IsStableByKey}
+use Rattle.std.specs.{Prelude.{ℕ, ◌≡◌, List, [], ◌∷◌, take, drop, IsPermutation, IsSortedByKey}, List.Sorted.{IsStableByKey}}
 use Rattle.calc_algebra.specs.TreeOrder.{tree_cmp}
 use Rattle.calc_terms.specs.Trees.{Tree, Trees, none, more}
-use Rattle.tree_handles.specs.Expressions.{plains, AllExpressions}
-use Rattle.tree_handles.specs.Forest.{Forest, kids}
-use Rattle.tree_handles.specs.Handed.{AllOnce}
-use Rattle.tree_handles.specs.Roots.{root_tree, put}
+use Rattle.tree_handles.specs.{Expressions.{plains, AllExpressions}, Forest.{Forest, kids}, Handed.{AllOnce}, Roots.{root_tree, put}}
 
 -- the trees as a list
 abbrev pub list_of : Trees → List Tree

@@ -1,8 +1,7 @@
 -- Cutting a list of nodes at places.
-use Rattle.node_pool.proofs.Shared.{Bool, List, [], ap, append_assoc, arith, cond, eqb, false, length, refl, subst, sym, ℕ, ◌++◌, ◌+◌, ◌-◌, ◌<◌, ◌∙◌, ◌∷◌}
-use Rattle.node_pool.proofs.Shared.{◌≡◌, ◌≤◌, ne_eqb, append_cancel_left, length-append, Node, size_of, AreDistinct, AreNodes, first_of, used, IsBoundary, between, since, swapped}
-use Rattle.node_pool.proofs.{Shared.until, Ids.{AreApart-append, AreApart-parts, AreApart-sym, AreDistinct-append, AreDistinct-parts}}
-use Rattle.node_pool.proofs.Sizes.{AreNodes-append, AreNodes-left, AreNodes-right, size_from, used-append}
+use Rattle.node_pool.proofs.Shared.{Bool, List, [], ap, append_assoc, arith, cond, eqb, false, length, refl, subst, sym, ℕ, ◌++◌, ◌+◌, ◌-◌, ◌<◌, ◌∙◌, ◌∷◌, ◌≡◌, ◌≤◌, ne_eqb, append_cancel_left}
+use Rattle.node_pool.proofs.{Shared.{length-append, Node, size_of, AreDistinct, AreNodes, first_of, used, IsBoundary, between, since, swapped}, Shared.until, Ids.{AreApart-append, AreApart-parts}}
+use Rattle.node_pool.proofs.{Ids.{AreApart-sym, AreDistinct-append, AreDistinct-parts}, Sizes.{AreNodes-append, AreNodes-left, AreNodes-right, size_from, used-append}}
 
 -- a split at a place
 pub until-append : (a b : List Node) → until (used a) (a ++ b) ≡ a

@@ -1,13 +1,11 @@
 -- What a change of the nodes leaves of the pool's fields.
-use Rattle.node_pool.proofs.Shared.{Bool, List, [], ap, arith, cond, eqb, false, length, refl, set, subst, sym, true, ℕ, ◌++◌, ◌+◌, ◌-◌, ◌<◌, ◌^◌, ◌∙◌, ◌∷◌}
-use Rattle.node_pool.proofs.Shared.{◌≡◌, ◌≤◌, eq-eqb, eqb-false, eqb-true, ne_eqb, length-set, Node, fresh, Payload, Contents, IsContents, AreBelow, AreFlagsOf, HasUnused}
-use Rattle.node_pool.proofs.Shared.{IsLeastUnused, flag, without_ids, IsKept, state_of, ArePlacesOf, noted, AreDistinct, has, place_of, used, with_children, with_count, IsBoundary, between}
-use Rattle.node_pool.proofs.{Shared.{exchanged, put_before, since, swapped, until, without, State, Inside}, Cuts.{AreDistinct-swap, AreDistinct-without, boundary_le, cut, cut3, until-since}}
-use Rattle.node_pool.proofs.{Exchanges.{AreBlocks, are_exchanged, blocks_of, exchanged_places, half}, Found.{AreDistinct-same, found, has-same}}
-use Rattle.node_pool.proofs.Ids.{AreApart, AreApart-parts, AreApart-sym, AreDistinct-append, AreDistinct-parts, has-append, not_both, or_is_false}
-use Rattle.node_pool.proofs.Marks.{below, flag-set, flag-without_ids, flag_inside, length-without_ids, unused}
-use Rattle.node_pool.proofs.Noting.{before_places, closed_part, closed_places, last_places, length-noted, place-same, pushed_places, turned, turned_end, turned_places, turned_start}
-use Rattle.node_pool.proofs.Sizes.{length_le_used}
+use Rattle.node_pool.proofs.Shared.{Bool, List, [], ap, arith, cond, eqb, false, length, refl, set, subst, sym, true, ℕ, ◌++◌, ◌+◌, ◌-◌, ◌<◌, ◌^◌, ◌∙◌, ◌∷◌, ◌≡◌, ◌≤◌, eq-eqb, eqb-false, eqb-true}
+use Rattle.node_pool.proofs.Shared.{ne_eqb, length-set, Node, fresh, Payload, Contents, IsContents, AreBelow, AreFlagsOf, HasUnused, IsLeastUnused, flag, without_ids, IsKept, state_of, ArePlacesOf}
+use Rattle.node_pool.proofs.Shared.{noted, AreDistinct, has, place_of, used, with_children, with_count, IsBoundary, between, exchanged, put_before, since, swapped, until, without, State, Inside}
+use Rattle.node_pool.proofs.{Cuts.{AreDistinct-swap, AreDistinct-without, boundary_le, cut, cut3, until-since}, Exchanges.{AreBlocks, are_exchanged, blocks_of, exchanged_places, half}}
+use Rattle.node_pool.proofs.{Found.{AreDistinct-same, found, has-same}, Ids.{AreApart, AreApart-parts, AreApart-sym, AreDistinct-append, AreDistinct-parts, has-append, not_both, or_is_false}}
+use Rattle.node_pool.proofs.{Marks.{below, flag-set, flag-without_ids, flag_inside, length-without_ids, unused}, Noting.{before_places, closed_part, closed_places, last_places, length-noted}}
+use Rattle.node_pool.proofs.{Noting.{place-same, pushed_places, turned, turned_end, turned_places, turned_start}, Sizes.{length_le_used}}
 
 -- what is known of a pool's nodes is known of its buffer's
 pub boundary_in : (p : Inside) (s : State) (at : ℕ) → state_of p ≡ s → IsBoundary at s.nodes → IsBoundary at p.buffer.nodes

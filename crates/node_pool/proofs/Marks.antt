@@ -1,7 +1,6 @@
 -- Flags of identifiers, and the identifiers of nodes.
-use Rattle.node_pool.proofs.Shared.{get_or-set_other, get_or-set_same, Bool, List, [], ap, arith, cond, eqb, false, length, refl, set, subst, suc, sym, true, zero, ℕ, ◌<◌, ◌∙◌}
-use Rattle.node_pool.proofs.Shared.{◌∷◌, ◌≡◌, ◌≢◌, eq-eqb, eqb-false, eqb-true, length-set, Node, AreBelow, AreFlagsOf, AreTakenBelow, HasUnused, flag, without_ids, has}
-use Rattle.node_pool.proofs.LeastFree.{holes}
+use Rattle.node_pool.proofs.Shared.{get_or-set_other, get_or-set_same, Bool, List, [], ap, arith, cond, eqb, false, length, refl, set, subst, suc, sym, true, zero, ℕ, ◌<◌, ◌∙◌, ◌∷◌, ◌≡◌, ◌≢◌, eq-eqb}
+use Rattle.node_pool.proofs.{Shared.{eqb-false, eqb-true, length-set, Node, AreBelow, AreFlagsOf, AreTakenBelow, HasUnused, flag, without_ids, has}, LeastFree.{holes}}
 use Rattle.std.proofs.Common.{inl, inr, ◌⊎◌}
 
 -- ---- what goes

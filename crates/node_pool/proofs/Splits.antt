@@ -1,7 +1,6 @@
 -- Changes of a list of nodes that is known in parts.
-use Rattle.node_pool.proofs.Shared.{Bool, List, [], ap, append_assoc, arith, cond, eqb, false, refl, subst, sym, true, ℕ, ◌++◌, ◌+◌, ◌-◌, ◌<◌, ◌∙◌, ◌∷◌, ◌≡◌}
-use Rattle.node_pool.proofs.Shared.{eq-eqb, Node, size_of, has, place_of, used, with_children, with_count, IsBoundary, between, moved, since, swapped, until, without}
-use Rattle.node_pool.proofs.{Cuts.{since-append, until-append}, Sizes.used-append}
+use Rattle.node_pool.proofs.Shared.{Bool, List, [], ap, append_assoc, arith, cond, eqb, false, refl, subst, sym, true, ℕ, ◌++◌, ◌+◌, ◌-◌, ◌<◌, ◌∙◌, ◌∷◌, ◌≡◌, eq-eqb, Node, size_of, has, place_of}
+use Rattle.node_pool.proofs.{Shared.{used, with_children, with_count, IsBoundary, between, moved, since, swapped, until, without}, Sizes.used-append, Cuts.{since-append, until-append}}
 
 pub boundary-append : (a b : List Node) (at : ℕ) → at ≡ used a → IsBoundary at (a ++ b)
 boundary-append a b at e = ap (λ (k : ℕ). used (until k (a ++ b))) e ∙ ap used (until-append a b) ∙ sym e

@@ -1,8 +1,7 @@
 -- The node at a place.
-use Rattle.node_pool.proofs.Shared.{Bool, List, [], ap, append_assoc, arith, cond, drop, eqb, false, refl, subst, sym, true, ℕ, ◌++◌, ◌+◌, ◌-◌, ◌<◌, ◌∙◌, ◌∷◌}
-use Rattle.node_pool.proofs.Shared.{◌≡◌, ◌≤◌, ne_eqb, drop_at, IsNode, Node, encoding, node_at, size_of, node_at-encoding, AreNodes, encodings, has, place_of, used, IsBoundary}
-use Rattle.node_pool.proofs.{Shared.{since, until}, Cuts.{since-append, until-append, until-since}, Sizes.{AreNodes-left, AreNodes-right, encodings-append, length-encodings, size_from}}
-use Rattle.node_pool.proofs.Sizes.{used-append}
+use Rattle.node_pool.proofs.Shared.{Bool, List, [], ap, append_assoc, arith, cond, drop, eqb, false, refl, subst, sym, true, ℕ, ◌++◌, ◌+◌, ◌-◌, ◌<◌, ◌∙◌, ◌∷◌, ◌≡◌, ◌≤◌, ne_eqb, drop_at, IsNode, Node}
+use Rattle.node_pool.proofs.{Shared.{encoding, node_at, size_of, node_at-encoding, AreNodes, encodings, has, place_of, used, IsBoundary, since, until}, Cuts.{since-append, until-append, until-since}}
+use Rattle.node_pool.proofs.Sizes.{AreNodes-left, AreNodes-right, encodings-append, length-encodings, size_from, used-append}
 
 -- the node at a place within
 pub record IsHere (n : Node) (at : ℕ) (ns : List Node) (store : List ℕ) : Type 0 where

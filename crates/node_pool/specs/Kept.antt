@@ -1,9 +1,6 @@
 -- A pool's fields.
 use Rattle.std.specs.Prelude.{◌≡◌, ◌/◌, length}
-use Rattle.node_pool.specs.declared.pool.Pool.TheInside.{Inside}
-use Rattle.node_pool.specs.State.{State, IsPool}
-use Rattle.node_pool.specs.Flags.{AreFlagsOf}
-use Rattle.node_pool.specs.Noted.{ArePlacesOf}
+use Rattle.node_pool.specs.{declared.pool.Pool.TheInside.{Inside}, State.{State, IsPool}, Flags.{AreFlagsOf}, Noted.{ArePlacesOf}}
 
 abbrev pub state_of : Inside → State
 state_of p = record { nodes = p.buffer.nodes; size = p.buffer.size; refusals = p.refusals; last_refused = p.last_refused }

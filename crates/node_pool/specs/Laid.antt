@@ -1,8 +1,6 @@
 -- A buffer's fields.
 use Rattle.std.specs.Prelude.{◌≡◌, ◌-◌, ◌++◌, length, replicate}
-use Rattle.node_pool.specs.declared.buffer.Buffer.TheInside.{Inside}
-use Rattle.node_pool.specs.Nodes.{used, encodings}
-use Rattle.node_pool.specs.Contents.{Contents, IsContents, nodes_of}
+use Rattle.node_pool.specs.{declared.buffer.Buffer.TheInside.{Inside}, Nodes.{used, encodings}, Contents.{Contents, IsContents, nodes_of}}
 
 abbrev pub contents_of : Inside → Contents
 contents_of b = record { nodes = nodes_of b.count b.store; size = length b.store }

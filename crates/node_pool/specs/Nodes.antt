@@ -1,9 +1,7 @@
 -- Lists of nodes: their bytes, and the nodes by their identifiers.
 use Rattle.std.specs.Prelude.{ℕ, ◌≡◌, ◌<◌, ◌+◌, ◌==◌, if◌then◌else◌, List, [], ◌∷◌, ◌++◌, Bool, true, false}
 use Rattle.calc_terms.specs.declared.kind.Kind.TheVariants as kind
-use Rattle.calc_terms.specs.declared.kind.Kind.{Kind}
-use Rattle.calc_terms.specs.Payload.{Payload, bare}
-use Rattle.calc_terms.specs.Node.{Node, size_of, encoding, IsNode}
+use Rattle.calc_terms.specs.{declared.kind.Kind.{Kind}, Payload.{Payload, bare}, Node.{Node, size_of, encoding, IsNode}}
 
 -- the bytes that nodes take
 abbrev pub used : List Node → ℕ

@@ -1,8 +1,7 @@
 -- What a pool is to its callers.
 use Rattle.std.specs.Prelude.{ℕ, ◌^◌, ◌≡◌, ◌%◌, min, ◌-◌, ◌+◌, ◌≤◌, List, ◌++◌, replicate}
 use Rattle.calc_terms.specs.Node.{Node}
-use Rattle.node_pool.specs.declared.full.Full.{Full}
-use Rattle.node_pool.specs.Nodes.{used, encodings, AreNodes, AreDistinct}
+use Rattle.node_pool.specs.{declared.full.Full.{Full}, Nodes.{used, encodings, AreNodes, AreDistinct}}
 
 -- its nodes in the order of their bytes, its capacity, and what it refused
 pub record State : Type 0 where

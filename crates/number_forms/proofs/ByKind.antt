@@ -1,7 +1,6 @@
 -- What the kind of a root and the number of its children tell of a tree.
-use Rattle.number_forms.proofs.Shared.{◌≡◌, ℕ, sym, ap, ◌∙◌, true, arith, Fraction, Tree, num, add, mult, root, none, more, count, root_kind, is_mult, classes, value, is_number, IsSumOf}
-use Rattle.number_forms.proofs.Shared.{Same-refl, nth, children_of, plain, IsExpression, Forest, arity, kids, tree_at, kids_of, children_of-plain, count-plains, count_terms}
-use Rattle.number_forms.proofs.Shaped.{added_number}
+use Rattle.number_forms.proofs.Shared.{◌≡◌, ℕ, sym, ap, ◌∙◌, true, arith, Fraction, Tree, num, add, mult, root, none, more, count, root_kind, is_mult, classes, value, is_number, IsSumOf, Same-refl}
+use Rattle.number_forms.proofs.{Shared.{nth, children_of, plain, IsExpression, Forest, arity, kids, tree_at, kids_of, children_of-plain, count-plains, count_terms}, Shaped.{added_number}}
 use Rattle.calc_terms.specs.declared.kind.Kind.TheVariants as kind
 
 pub children_number : (i : ℕ) (f : Forest) → IsExpression i f → arity (kids_of i f) ≡ count (children_of (plain (tree_at i f)))

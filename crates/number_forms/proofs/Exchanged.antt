@@ -1,11 +1,8 @@
 -- A term of a sum that stands last, known by its identifier: another comes in its place.
 use Rattle.number_forms.proofs.Shared.{◌≡◌, ℕ, zero, suc, ◌<◌, ◌≤◌, ◌∷◌, true, refl, sym, ap, ◌∙◌, subst, arith, is_term, terms_of, Term, Tree, Trees, none, more, add, count, term_words, IsSum}
-use Rattle.number_forms.proofs.Shared.{IsSumOf, IsApart, IsPlace, removed, nth, children_of, inserted}
-use Rattle.calc_algebra.specs.Numbers.{term_of}
-use Rattle.number_forms.proofs.Joined.{are_removed, rises_removed}
-use Rattle.number_forms.proofs.LastSums.{sum_is}
-use Rattle.number_forms.proofs.SquareFreeSums.{rises_in_sum}
+use Rattle.number_forms.proofs.{Shared.{IsSumOf, IsApart, IsPlace, removed, nth, children_of, inserted}, Joined.{are_removed, rises_removed}, LastSums.{sum_is}, SquareFreeSums.{rises_in_sum}}
 use Rattle.number_forms.proofs.SumChanges.{inserted_of}
+use Rattle.calc_algebra.specs.Numbers.{term_of}
 
 count_removed : (n : ℕ) (ts : Trees) → n < count ts → count ts ≡ suc (count (removed n ts))
 count_removed n none l = absurd (omega arith)

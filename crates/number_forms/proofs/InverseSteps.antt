@@ -1,12 +1,9 @@
 -- Inverses by terms.
-use Rattle.number_forms.proofs.Shared.{◌≡◌, ℕ, ◌≤◌, [], ◌∷◌, Some, Err, length, true, false, sym, ap, ◌∙◌, arith, slice_get, None, is_number, is_term, value, Rises, are_alike, Inverts, Term}
-use Rattle.number_forms.proofs.Shared.{Surd, Tree, add, more, none, size, sizes, Inverts-Same, value_rises, number_words, term_words, Same-trans, Same-eq, IsNumberOf, Full, inverse_trees}
-use Rattle.number_forms.proofs.Shared.{IsInverseOf, HasInverse, LacksInverse, inverting_calculations, term_tree, sum_of_terms, Calculation, first_misfit, inverse_of, first_of_inverse}
-use Rattle.number_forms.proofs.Shared.{second_of_inverse, building}
+use Rattle.number_forms.proofs.Shared.{◌≡◌, ℕ, ◌≤◌, [], ◌∷◌, Some, Err, length, true, false, sym, ap, ◌∙◌, arith, slice_get, None, is_number, is_term, value, Rises, are_alike, Inverts, Term, Surd}
+use Rattle.number_forms.proofs.Shared.{Tree, add, more, none, size, sizes, Inverts-Same, value_rises, number_words, term_words, Same-trans, Same-eq, IsNumberOf, Full, inverse_trees, IsInverseOf}
+use Rattle.number_forms.proofs.Shared.{HasInverse, LacksInverse, inverting_calculations, term_tree, sum_of_terms, Calculation, first_misfit, inverse_of, first_of_inverse, second_of_inverse, building}
+use Rattle.number_forms.proofs.{Over.{of_over}, Shaped.{single_number, sum_number}, Worth.{Same-sym, some_term}}
 use Rattle.calc_algebra.specs.Numbers.{term_of}
-use Rattle.number_forms.proofs.Over.{of_over}
-use Rattle.number_forms.proofs.Shaped.{single_number, sum_number}
-use Rattle.number_forms.proofs.Worth.{Same-sym, some_term}
 
 pub only_term : (v : Surd) (x : Term) → length v ≡ 1 → slice_get v 0 ≡ Some x → v ≡ x ∷ []
 only_term [] x l e = absurd (omega arith)

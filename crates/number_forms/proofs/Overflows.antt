@@ -1,9 +1,8 @@
 -- What a call on Numbers is refused for, from the call that was refused.
 use Rattle.number_forms.proofs.Shared.{◌≡◌, ℕ, ◌+◌, ◌*◌, ◌/◌, ◌<◌, ◌≤◌, Some, inl, ap, ◌∙◌, subst, arith, value, Same, Term, Surd, surd_times, Tree, count, Same-trans, Same-append, Same-refl}
 use Rattle.number_forms.proofs.Shared.{SharesDenominators, IsNumberOver, IsPowerOver, JoinOverflows, SumOverflows, ProductOverflows, SquareOverflows, PowerOverflows, Overflow, calculation_of}
-use Rattle.number_forms.proofs.Shared.{first_misfit, joining_calculations, children_of, nth}
+use Rattle.number_forms.proofs.{Shared.{first_misfit, joining_calculations, children_of, nth}, Over.{shares_append, squared_power}}
 use Rattle.calc_algebra.specs.Numbers.{term_of}
-use Rattle.number_forms.proofs.Over.{shares_append, squared_power}
 
 -- the term of a sum at a place, once it is read
 pub join_overflow : (sum : Tree) (at : ℕ) (x t : Term) (o : Overflow) → at < count (children_of sum) → x ≡ term_of (nth at (children_of sum))

@@ -1,14 +1,10 @@
 -- No operation overflows on the square or a power of a Number that has few bits.
 use Rattle.number_forms.proofs.Shared.{◌≡◌, ℕ, zero, suc, ◌+◌, ◌*◌, ◌≤◌, [], ◌∷◌, ◌++◌, ◌⊎◌, inl, inr, map, refl, sym, ap, ◌∙◌, subst, arith, append_assoc, mul-le, value, Term, Surd, term_times}
-use Rattle.number_forms.proofs.Shared.{surd_times, IsProper, AreProper, value_proper, number_words, Same-append, Same-refl, IsHeld, held_times, no_larger_power, held_so_far, held_left}
-use Rattle.number_forms.proofs.Shared.{held_right, Tree, terms_from, ProductOverflows, SquareRowOverflows, SquareOverflows, PowerOverflows, twice, square_row, square_terms, IsSum, Overflow}
-use Rattle.number_forms.proofs.Shared.{calculation_of, children_of, nth}
+use Rattle.number_forms.proofs.Shared.{surd_times, IsProper, AreProper, value_proper, number_words, Same-append, Same-refl, IsHeld, held_times, no_larger_power, held_so_far, held_left, held_right}
+use Rattle.number_forms.proofs.Shared.{Tree, terms_from, ProductOverflows, SquareRowOverflows, SquareOverflows, PowerOverflows, twice, square_row, square_terms, IsSum, Overflow, calculation_of}
+use Rattle.number_forms.proofs.{Shared.{children_of, nth}, Over.{shares_append}, Squares.{square_held, held_front}, Twice.{twice_proper}, WithinBits.{so_far, pair_held, no_misfit, no_product_misfit}}
+use Rattle.number_forms.proofs.{WithinBits.{extracted_held, row_within, proper_at, sum_proper, sum_rises, numbers_within}, Worth.{from_next}}
 use Rattle.calc_algebra.specs.Numbers.{term_of}
-use Rattle.number_forms.proofs.Over.{shares_append}
-use Rattle.number_forms.proofs.Squares.{square_held, held_front}
-use Rattle.number_forms.proofs.Twice.{twice_proper}
-use Rattle.number_forms.proofs.WithinBits.{so_far, pair_held, no_misfit, no_product_misfit, extracted_held, row_within, proper_at, sum_proper, sum_rises, numbers_within}
-use Rattle.number_forms.proofs.Worth.{from_next}
 
 -- ---- squares
 

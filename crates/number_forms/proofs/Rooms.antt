@@ -1,16 +1,12 @@
 -- How many bytes stand while Numbers are added, multiplied and raised, and for how few at hand a call is refused.
 use Rattle.number_forms.proofs.Shared.{◌≡◌, ℕ, zero, suc, ◌+◌, ◌*◌, ◌^◌, ◌<◌, ◌≤◌, List, length, [], ◌∷◌, ◌++◌, true, Some, Result, sym, ap, ◌∙◌, subst, arith, IfOk, IfErr, slice_get, pow_pos}
-use Rattle.number_forms.proofs.Shared.{Fraction, plus, times, negative, zero_fraction, one_fraction, plus_comm, plus_assoc, times_comm, times_plus, zero_plus, zero_times, one_times}
-use Rattle.number_forms.proofs.Shared.{plus_negative, Tree, add, size, sizes, is_number, value, terms_of, classes, Same, Term, Surd, surd_scale, surd_times, surd_power, terms_proper}
-use Rattle.number_forms.proofs.Shared.{number_words, Same-Agree, Agree-Same, class_coefficient-append, class_coefficient-surd_scale, sum_need, product_need, power_need, inverse_need, IsSpanned}
-use Rattle.number_forms.proofs.Shared.{Spans, SpansTree, spans_append, spans_scale, spans_same_terms, value_spanned, sum_spanned, product_spanned, power_spanned, inverse_spanned, State, free_of}
-use Rattle.number_forms.proofs.Shared.{Full, IsNumberOf, inverse_trees, IsInverseOf, LacksInverse, OfFull, terms_from, joining_need, raising_need, IsSum, IsSumOf, replaced_free, children_of}
-use Rattle.number_forms.proofs.Shared.{Forest, tree_of, IsHanded, Gives, Stands, forest, NumberFault, given_told, number_bytes, partial_bytes, joint_need, Joint}
-use Rattle.number_forms.proofs.Worth.{some_term}
-use Rattle.number_forms.proofs.LastSums.{sum_is}
-use Rattle.number_forms.proofs.Loops.{IsSumWith, IsJoined}
-use Rattle.number_forms.proofs.Placings.{lacking_below}
-use Rattle.number_forms.proofs.SumChanges.{sum_value}
+use Rattle.number_forms.proofs.Shared.{Fraction, plus, times, negative, zero_fraction, one_fraction, plus_comm, plus_assoc, times_comm, times_plus, zero_plus, zero_times, one_times, plus_negative}
+use Rattle.number_forms.proofs.Shared.{Tree, add, size, sizes, is_number, value, terms_of, classes, Same, Term, Surd, surd_scale, surd_times, surd_power, terms_proper, number_words, Same-Agree}
+use Rattle.number_forms.proofs.Shared.{Agree-Same, class_coefficient-append, class_coefficient-surd_scale, sum_need, product_need, power_need, inverse_need, IsSpanned, Spans, SpansTree, spans_append}
+use Rattle.number_forms.proofs.Shared.{spans_scale, spans_same_terms, value_spanned, sum_spanned, product_spanned, power_spanned, inverse_spanned, State, free_of, Full, IsNumberOf, inverse_trees}
+use Rattle.number_forms.proofs.Shared.{IsInverseOf, LacksInverse, OfFull, terms_from, joining_need, raising_need, IsSum, IsSumOf, replaced_free, children_of, Forest, tree_of, IsHanded, Gives, Stands}
+use Rattle.number_forms.proofs.{Shared.{forest, NumberFault, given_told, number_bytes, partial_bytes, joint_need, Joint}, Worth.{some_term}, LastSums.{sum_is}, Loops.{IsSumWith, IsJoined}}
+use Rattle.number_forms.proofs.{Placings.{lacking_below}, SumChanges.{sum_value}}
 use Rattle.number_forms.specs.declared.calculating.Joint.TheVariants as joint
 
 -- ---- facts of a refusal

@@ -1,9 +1,6 @@
 -- Rows of products, as they are joined or refused.
 use Rattle.number_forms.proofs.Shared.{◌≡◌, ℕ, [], ◌∷◌, ◌++◌, map, refl, ap, subst, Same, value, Term, Surd, term_times, Tree, terms_from, JoinOverflows, ProductJoinOverflows, IsSumOf, Overflow}
-use Rattle.number_forms.proofs.Shared.{IsExtracted}
-use Rattle.number_forms.proofs.Denominators.{parts_extracted}
-use Rattle.number_forms.proofs.Loops.{IsSumWith}
-use Rattle.number_forms.proofs.Worth.{same_first}
+use Rattle.number_forms.proofs.{Shared.{IsExtracted}, Denominators.{parts_extracted}, Loops.{IsSumWith}, Worth.{same_first}}
 
 -- a product of the row is not joined to the sum so far
 pub product_join_overflows : {v w left : Surd} {x y : Term} {at : ℕ} {o : Overflow} → left ≡ terms_from at w → (p : Term) (t : Tree) → IsExtracted p (term_times x y)

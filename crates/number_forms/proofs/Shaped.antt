@@ -1,9 +1,8 @@
 -- Numbers from sums of terms, and sums of terms from Numbers.
 use Rattle.number_forms.proofs.Shared.{◌≡◌, ◌≢◌, ℕ, zero, suc, ◌≤◌, ◌<◌, [], ◌∷◌, Some, Bool, true, if◌then◌else◌, refl, sym, ap, ◌∙◌, subst, arith, slice_get, pos, Fraction, lowest, int_is_zero}
-use Rattle.number_forms.proofs.Shared.{IsNumber, IsTerm, AreTerms, Rises, is_number, terms_of, value, Surd, surd_of, Tree, num, add, Trees, none, more, count, zero_test, whole_numerator}
-use Rattle.number_forms.proofs.Shared.{number_test, number_words, Same-refl, Same-eq, IsNumberOver, IsSum, IsSumOf, nth, children_of, count_terms}
+use Rattle.number_forms.proofs.Shared.{IsNumber, IsTerm, AreTerms, Rises, is_number, terms_of, value, Surd, surd_of, Tree, num, add, Trees, none, more, count, zero_test, whole_numerator, number_test}
+use Rattle.number_forms.proofs.{Shared.{number_words, Same-refl, Same-eq, IsNumberOver, IsSum, IsSumOf, nth, children_of, count_terms}, Denominators.{shares_eq}}
 use Rattle.calc_algebra.specs.Numbers.{term_of}
-use Rattle.number_forms.proofs.Denominators.{shares_eq}
 
 -- ---- from a sum
 

@@ -1,13 +1,10 @@
 -- A sum that stands last: as it is read, with a term more, and with a term less.
 use Rattle.number_forms.proofs.Shared.{arith, ◌≡◌, ℕ, ◌<◌, [], ◌∷◌, ◌++◌, true, sym, ap, ◌∙◌, subst, IsTerm, AreTerms, Rises, is_term, terms_of, value, Same, are_alike, Term, Surd, AreWholeOver}
 use Rattle.number_forms.proofs.Shared.{Parts, SharesDenominators, Tree, Trees, none, more, add, count, IsProper, term_words, Same-trans, Same-refl, Same-eq, Same-cons, Same-append, Same-to_front}
-use Rattle.number_forms.proofs.Shared.{State, IsSum, IsSumOf, IsApart, IsPlace, removed, nth, plain, children_of, inserted, Forest, IsHanded, Gives, tree_at, root_tree, Stands, forest}
-use Rattle.number_forms.proofs.Shared.{given_handed, given_told, seen, IsMatch, Match, term_test}
+use Rattle.number_forms.proofs.Shared.{State, IsSum, IsSumOf, IsApart, IsPlace, removed, nth, plain, children_of, inserted, Forest, IsHanded, Gives, tree_at, root_tree, Stands, forest, given_handed}
+use Rattle.number_forms.proofs.{Shared.{given_told, seen, IsMatch, Match, term_test}, Denominators.{whole_inserted, whole_removed, whole_nth}, Joined.{are_inserted, rises_inserted, same_inserted}}
+use Rattle.number_forms.proofs.{Joined.{are_removed, rises_removed, same_removed, apart_removed, alike_sum}, LastSums.{sum_is}, Shaped.{nth_is_term}}
 use Rattle.calc_algebra.specs.Numbers.{term_of}
-use Rattle.number_forms.proofs.Denominators.{whole_inserted, whole_removed, whole_nth}
-use Rattle.number_forms.proofs.Joined.{are_inserted, rises_inserted, same_inserted, are_removed, rises_removed, same_removed, apart_removed, alike_sum}
-use Rattle.number_forms.proofs.LastSums.{sum_is}
-use Rattle.number_forms.proofs.Shaped.{nth_is_term}
 
 -- ---- as it is read
 

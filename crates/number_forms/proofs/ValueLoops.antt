@@ -1,8 +1,6 @@
 -- Lists to which terms are joined one by one.
-use Rattle.number_forms.proofs.Shared.{◌≡◌, ℕ, zero, suc, ◌+◌, ◌<◌, ◌≤◌, List, [], ◌∷◌, ◌++◌, length, get_or, drop, refl, sym, ap, ◌∙◌, arith, add-one, Same, SharesDenominators, Surd, Term}
-use Rattle.number_forms.proofs.Shared.{term_of, AreListed, AreTermsOf}
-use Rattle.number_forms.proofs.Denominators.{parts_end, parts_part, parts_step}
-use Rattle.number_forms.proofs.Worth.{join_end, join_step, part_step}
+use Rattle.number_forms.proofs.Shared.{◌≡◌, ℕ, zero, suc, ◌+◌, ◌<◌, ◌≤◌, List, [], ◌∷◌, ◌++◌, length, get_or, drop, refl, sym, ap, ◌∙◌, arith, add-one, Same, SharesDenominators, Surd, Term, term_of}
+use Rattle.number_forms.proofs.{Shared.{AreListed, AreTermsOf}, Denominators.{parts_end, parts_part, parts_step}, Worth.{join_end, join_step, part_step}}
 use Rattle.number_forms.specs.Values.{surd_of}
 use Rattle.surd_terms.specs.declared.term.Term.{Term as CodeTerm}
 

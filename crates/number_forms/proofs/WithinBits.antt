@@ -1,16 +1,12 @@
 -- No operation overflows on Numbers whose sum, product, power or inverse has few bits.
-use Rattle.number_forms.proofs.Shared.{◌≡◌, ℕ, zero, suc, ◌+◌, ◌*◌, ◌/◌, ◌^◌, ◌≤◌, ◌<◌, [], ◌∷◌, ◌++◌, Bool, true, false, Some, None, inl, inr, pos, map, max, if◌then◌else◌, refl, sym, ap, ◌∙◌}
-use Rattle.number_forms.proofs.Shared.{subst, arith, append_assoc, slice_get, Rises, is_number, terms_of, value, Same, Term, Surd, term_times, surd_times, IsProper, AreProper, terms_proper}
-use Rattle.number_forms.proofs.Shared.{value_proper, value_rises, number_words, map-append', surd_times-append, HasFewBits, SharesDenominators, magnitude_over, root_above, term_mass, mass}
-use Rattle.number_forms.proofs.Shared.{IsHeld, held_so_far, held_left, held_right, held_pair, gcd, whole_fraction, Tree, add, count, terms_from, SumOverflows, RowOverflows, ProductOverflows}
-use Rattle.number_forms.proofs.Shared.{InverseOverflows, inverting_calculations, IsSum, Overflow, Calculation, calculation, calculation_of, first_misfit, has_rational, radicand_calculations}
-use Rattle.number_forms.proofs.Shared.{joining_calculations, IsProductMisfit, IsExtracted, magnitude_whole, radicands_fit, extracted_fits, extracted_den, children_of, nth, Mul, inverse_fits}
-use Rattle.number_forms.proofs.Shared.{inverse_of_sum_fits, joins_fit, passed}
+use Rattle.number_forms.proofs.Shared.{◌≡◌, ℕ, zero, suc, ◌+◌, ◌*◌, ◌/◌, ◌^◌, ◌≤◌, ◌<◌, [], ◌∷◌, ◌++◌, Bool, true, false, Some, None, inl, inr, pos, map, max, if◌then◌else◌, refl, sym, ap, ◌∙◌, subst}
+use Rattle.number_forms.proofs.Shared.{arith, append_assoc, slice_get, Rises, is_number, terms_of, value, Same, Term, Surd, term_times, surd_times, IsProper, AreProper, terms_proper, value_proper}
+use Rattle.number_forms.proofs.Shared.{value_rises, number_words, map-append', surd_times-append, HasFewBits, SharesDenominators, magnitude_over, root_above, term_mass, mass, IsHeld, held_so_far}
+use Rattle.number_forms.proofs.Shared.{held_left, held_right, held_pair, gcd, whole_fraction, Tree, add, count, terms_from, SumOverflows, RowOverflows, ProductOverflows, InverseOverflows}
+use Rattle.number_forms.proofs.Shared.{inverting_calculations, IsSum, Overflow, Calculation, calculation, calculation_of, first_misfit, has_rational, radicand_calculations, joining_calculations}
+use Rattle.number_forms.proofs.Shared.{IsProductMisfit, IsExtracted, magnitude_whole, radicands_fit, extracted_fits, extracted_den, children_of, nth, Mul, inverse_fits, inverse_of_sum_fits, joins_fit}
+use Rattle.number_forms.proofs.{Shared.{passed}, LastSums.{sum_is}, Shaped.{nth_of_terms}, SumChanges.{sum_value}, Worth.{from_next, products_next}}
 use Rattle.calc_algebra.specs.Numbers.{term_of}
-use Rattle.number_forms.proofs.LastSums.{sum_is}
-use Rattle.number_forms.proofs.Shaped.{nth_of_terms}
-use Rattle.number_forms.proofs.SumChanges.{sum_value}
-use Rattle.number_forms.proofs.Worth.{from_next, products_next}
 
 -- ---- lists by places
 

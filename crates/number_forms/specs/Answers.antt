@@ -1,17 +1,11 @@
 -- What calls on Numbers answer.
 use Rattle.std.specs.Prelude.{ℕ, ◌≡◌, true, Result, Ok, Err}
-use Rattle.calc_algebra.specs.Numbers.{is_number, value}
-use Rattle.calc_measures.specs.PlainValues.{PlainValue}
-use Rattle.calc_algebra.specs.SquareClasses.{Same}
-use Rattle.calc_algebra.specs.Surds.{Surd, surd_power}
-use Rattle.calc_bits.specs.Bounds.{SharesPowers}
-use Rattle.calc_bits.specs.Denominators.{SharesDenominators}
+use Rattle.calc_algebra.specs.{Numbers.{is_number, value}, SquareClasses.{Same}, Surds.{Surd, surd_power}}
+use Rattle.calc_measures.specs.{PlainValues.{PlainValue}, PlainTrees.{IsPlainAnswer, IsPlainOverflow}}
+use Rattle.calc_bits.specs.{Bounds.{SharesPowers}, Denominators.{SharesDenominators}}
 use Rattle.calc_terms.specs.Trees.{Tree}
 use Rattle.node_pool.specs.State.{State}
-use Rattle.calc_measures.specs.PlainTrees.{IsPlainAnswer, IsPlainOverflow}
-use Rattle.tree_handles.specs.Causes.{LacksLongForm}
-use Rattle.tree_handles.specs.Handed.{tree_of}
-use Rattle.tree_handles.specs.declared.fault.NumberFault.{NumberFault}
+use Rattle.tree_handles.specs.{Causes.{LacksLongForm}, Handed.{tree_of}, declared.fault.NumberFault.{NumberFault}}
 use Rattle.tree_handles.specs.declared.fault.NumberFault.TheVariants as fault
 
 -- a Number that is worth v

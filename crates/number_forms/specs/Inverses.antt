@@ -1,20 +1,12 @@
 -- What inverting a Number comes to.
 use Rattle.std.specs.Prelude.{ℕ, ⊤, ◌≡◌, ◌≤◌, true, None, Err, [], ◌∷◌}
-use Rattle.calc_algebra.specs.Numbers.{is_number, value, classes}
-use Rattle.calc_algebra.specs.SquareClasses.{Inverts}
-use Rattle.calc_algebra.specs.Surds.{Surd}
+use Rattle.calc_algebra.specs.{Numbers.{is_number, value, classes}, SquareClasses.{Inverts}, Surds.{Surd}}
 use Rattle.calc_terms.specs.Trees.{Tree, Trees, none, more, sizes}
 use Rattle.node_pool.specs.declared.full.Full.{Full}
-use Rattle.number_forms.specs.Overflows.{inverting_calculations}
-use Rattle.number_forms.specs.Shapes.{term_tree, sum_of_terms}
-use Rattle.number_forms.specs.declared.inverting.Inverse.{Inverse}
+use Rattle.number_forms.specs.{Overflows.{inverting_calculations}, Shapes.{term_tree, sum_of_terms}, declared.inverting.Inverse.{Inverse}}
 use Rattle.number_forms.specs.declared.inverting.Inverse.TheVariants as inverse
-use Rattle.surd_terms.specs.Calculations.{first_misfit}
-use Rattle.surd_terms.specs.Inverses.{inverse_of, first_of_inverse, second_of_inverse}
-use Rattle.tree_handles.specs.Building.{nodes_sizes, taking}
-use Rattle.tree_handles.specs.Forest.{Forest}
-use Rattle.tree_handles.specs.Handed.{Gives}
-use Rattle.tree_handles.specs.Roots.{without_root}
+use Rattle.surd_terms.specs.{Calculations.{first_misfit}, Inverses.{inverse_of, first_of_inverse, second_of_inverse}}
+use Rattle.tree_handles.specs.{Building.{nodes_sizes, taking}, Forest.{Forest}, Handed.{Gives}, Roots.{without_root}}
 
 -- the new tree for the inverse of one term, or of the sum of two; there is none for others
 abbrev pub inverse_trees : Surd → Trees

@@ -1,14 +1,11 @@
 -- How a term meets a sum of terms.
 use Rattle.std.specs.Prelude.{◌<◌, [], ◌∷◌}
-use Rattle.calc_algebra.specs.Numbers.{term_of, terms_of}
-use Rattle.calc_algebra.specs.Surds.{Term}
+use Rattle.calc_algebra.specs.{Numbers.{term_of, terms_of}, Surds.{Term}}
 use Rattle.calc_bits.specs.Denominators.{SharesDenominators}
 use Rattle.calc_terms.specs.Trees.{Trees, count}
-use Rattle.number_forms.specs.Sums.{IsApart, IsPlace}
-use Rattle.number_forms.specs.declared.joining.Match.{Match}
+use Rattle.number_forms.specs.{Sums.{IsApart, IsPlace}, declared.joining.Match.{Match}}
 use Rattle.number_forms.specs.declared.joining.Match.TheVariants as match
-use Rattle.surd_terms.specs.Sums.{Joins}
-use Rattle.surd_terms.specs.Terms.{term_of as term_of_code}
+use Rattle.surd_terms.specs.{Sums.{Joins}, Terms.{term_of as term_of_code}}
 use Rattle.surd_terms.specs.declared.sums.Joined.TheVariants as joined
 use Rattle.tree_handles.specs.Expressions.{nth}
 

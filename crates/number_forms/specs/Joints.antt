@@ -1,21 +1,13 @@
 -- The sum or the product of two Numbers.
 use Rattle.std.specs.Prelude.{ℕ, ◌+◌, Bool, List, ◌++◌}
-use Rattle.calc_algebra.specs.Reduced.{is_num_one}
-use Rattle.calc_algebra.specs.Surds.{Surd, surd_times}
+use Rattle.calc_algebra.specs.{Reduced.{is_num_one}, Surds.{Surd, surd_times}}
 use Rattle.calc_room.specs.Needs.{sum_need, product_need}
-use Rattle.calc_terms.specs.Fits.{Operation}
-use Rattle.calc_terms.specs.Trees.{Tree, size}
+use Rattle.calc_terms.specs.{Fits.{Operation}, Trees.{Tree, size}}
 use Rattle.node_pool.specs.State.{State, free_of}
-use Rattle.number_forms.specs.Overflows.{SumOverflows, ProductOverflows}
-use Rattle.number_forms.specs.Readers.{is_zero}
-use Rattle.number_forms.specs.Rooms.{LacksRoom}
-use Rattle.number_forms.specs.declared.calculating.Joint.{Joint}
+use Rattle.number_forms.specs.{Overflows.{SumOverflows, ProductOverflows}, Readers.{is_zero}, Rooms.{LacksRoom}, declared.calculating.Joint.{Joint}}
 use Rattle.number_forms.specs.declared.calculating.Joint.TheVariants as joint
-use Rattle.rational128.specs.Refusals.{operation_of}
-use Rattle.rational128.specs.declared.overflow.Op.{Op}
-use Rattle.rational128.specs.declared.overflow.Overflow.{Overflow}
-use Rattle.tree_handles.specs.Handed.{tree_of}
-use Rattle.tree_handles.specs.declared.fault.NumberFault.{NumberFault}
+use Rattle.rational128.specs.{Refusals.{operation_of}, declared.overflow.Op.{Op}, declared.overflow.Overflow.{Overflow}}
+use Rattle.tree_handles.specs.{Handed.{tree_of}, declared.fault.NumberFault.{NumberFault}}
 
 -- what two surds are worth together
 abbrev pub both : Joint → Surd → Surd → Surd

@@ -1,16 +1,11 @@
 -- Which operation on terms a call on Numbers is refused for.
 use Rattle.std.specs.Prelude.{ℕ, zero, suc, ◌+◌, ◌≡◌, ◌<◌, ◌≤◌, ◌⊎◌, List, [], ◌∷◌, ◌++◌, map, Some, slice_get}
-use Rattle.calc_algebra.specs.Numbers.{term_of, value}
-use Rattle.calc_algebra.specs.SquareClasses.{Same}
-use Rattle.calc_algebra.specs.Surds.{Term, Surd, term_times, surd_times}
+use Rattle.calc_algebra.specs.{Numbers.{term_of, value}, SquareClasses.{Same}, Surds.{Term, Surd, term_times, surd_times}}
 use Rattle.calc_bits.specs.Denominators.{SharesDenominators}
 use Rattle.calc_terms.specs.Trees.{Tree, count}
-use Rattle.number_forms.specs.Answers.{IsPowerOver}
-use Rattle.number_forms.specs.Squares.{twice, square_terms}
-use Rattle.number_forms.specs.Sums.{IsSum, IsSumOf}
+use Rattle.number_forms.specs.{Answers.{IsPowerOver}, Squares.{twice, square_terms}, Sums.{IsSum, IsSumOf}}
 use Rattle.rational128.specs.declared.overflow.Overflow.{Overflow}
-use Rattle.surd_terms.specs.Calculations.{Calculation, calculation_of, first_misfit, joining_calculations, inverse_calculations, inverse_of_sum_calculations, IsProductMisfit}
-use Rattle.surd_terms.specs.Products.{IsExtracted}
+use Rattle.surd_terms.specs.{Calculations.{Calculation, calculation_of, first_misfit, joining_calculations, inverse_calculations, inverse_of_sum_calculations, IsProductMisfit}, Products.{IsExtracted}}
 use Rattle.tree_handles.specs.Expressions.{children_of, nth}
 
 -- the terms from a place on

@@ -1,7 +1,6 @@
 -- What readers of Numbers tell.
 use Rattle.std.specs.Prelude.{ℤ, pos, Bool, false}
-use Rattle.calc_terms.specs.Fractions.{is_zero_fraction}
-use Rattle.calc_terms.specs.Trees.{Tree, num}
+use Rattle.calc_terms.specs.{Fractions.{is_zero_fraction}, Trees.{Tree, num}}
 
 -- the rational 0
 abbrev pub is_zero : Tree → Bool

@@ -5,8 +5,7 @@ use Rattle.node_pool.specs.State.{State}
 use Rattle.tree_handles.specs.Lacking.{OfFull}
 use Rattle.number_forms.specs.declared.inverting.Inverse.{Inverse}
 use Rattle.number_forms.specs.declared.inverting.Inverse.TheVariants as inverse
-use Rattle.tree_handles.specs.Handed.{tree_of}
-use Rattle.tree_handles.specs.declared.fault.NumberFault.{NumberFault}
+use Rattle.tree_handles.specs.{Handed.{tree_of}, declared.fault.NumberFault.{NumberFault}}
 
 -- bytes are lacking only where fewer than the call's need are at hand for each choice of radicands
 abbrev pub LacksRoom : ℕ → ℕ → List ℕ → NumberFault → Type 0

@@ -1,10 +1,7 @@
 -- The shapes of terms.
 use Rattle.std.specs.Prelude.{Bool, true, false, ◌≡◌, ◌==◌, ◌&&◌, pos, if◌then◌else◌, List, [], ◌∷◌, drop}
-use Rattle.calc_terms.specs.Fractions.{is_one_fraction, whole_fraction}
-use Rattle.calc_terms.specs.Rat.{value_of}
-use Rattle.calc_terms.specs.Trees.{Tree, num, add, mult, root, none, more}
+use Rattle.calc_terms.specs.{Fractions.{is_one_fraction, whole_fraction}, Rat.{value_of}, Trees.{Tree, num, add, mult, root, none, more}, declared.kind.Kind.{Kind}}
 use Rattle.calc_algebra.specs.Surds.{Term}
-use Rattle.calc_terms.specs.declared.kind.Kind.{Kind}
 use Rattle.calc_terms.specs.declared.kind.Kind.TheVariants as kind
 use Rattle.tree_handles.specs.declared.visits.Visit.{Visit}
 use Rattle.number_forms.specs.declared.shape.Shape.{Shape}

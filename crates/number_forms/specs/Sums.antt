@@ -1,10 +1,6 @@
 -- Sums of terms, of any number of them.
-use Rattle.std.specs.Prelude.{ℕ, zero, suc, ◌≡◌, ◌<◌, ◌≤◌, [], ◌∷◌, false, ⊤}
-use Rattle.std.specs.declared.cmp.Ordering.{Ordering}
-use Rattle.std.specs.declared.cmp.Ordering.TheVariants.{Less, Equal, Greater}
-use Rattle.calc_algebra.specs.Numbers.{AreTerms, IsTerm, Rises, term_of, terms_of, value}
-use Rattle.calc_algebra.specs.SquareClasses.{are_alike, Same}
-use Rattle.calc_algebra.specs.Surds.{Surd, Term}
+use Rattle.std.specs.{Prelude.{ℕ, zero, suc, ◌≡◌, ◌<◌, ◌≤◌, [], ◌∷◌, false, ⊤}, declared.cmp.Ordering.{Ordering}, declared.cmp.Ordering.TheVariants.{Less, Equal, Greater}}
+use Rattle.calc_algebra.specs.{Numbers.{AreTerms, IsTerm, Rises, term_of, terms_of, value}, SquareClasses.{are_alike, Same}, Surds.{Surd, Term}}
 use Rattle.calc_bits.specs.Denominators.{SharesDenominators}
 use Rattle.calc_terms.specs.Trees.{Tree, add, Trees, none, more, count}
 pub use Rattle.child_lists.specs.Changes.{removed}

@@ -1,14 +1,10 @@
 -- Terms as values, and the Number that they are.
 use Rattle.std.specs.Prelude.{◌<◌, ◌^◌, ⊤, List, [], ◌∷◌, map}
-use Rattle.calc_algebra.specs.SquareClasses.{Same}
-use Rattle.calc_algebra.specs.Surds.{Surd}
+use Rattle.calc_algebra.specs.{SquareClasses.{Same}, Surds.{Surd}}
 use Rattle.calc_bits.specs.Denominators.{SharesDenominators}
-use Rattle.calc_terms.specs.Fractions.{zero_fraction}
-use Rattle.calc_terms.specs.Trees.{Tree, Trees, num, add, none, more}
-use Rattle.number_forms.specs.Shapes.{term_tree}
-use Rattle.number_forms.specs.Sums.{IsSum}
-use Rattle.surd_terms.specs.Terms.{term_of}
-use Rattle.surd_terms.specs.declared.term.Term.{Term}
+use Rattle.calc_terms.specs.{Fractions.{zero_fraction}, Trees.{Tree, Trees, num, add, none, more}}
+use Rattle.number_forms.specs.{Shapes.{term_tree}, Sums.{IsSum}}
+use Rattle.surd_terms.specs.{Terms.{term_of}, declared.term.Term.{Term}}
 
 abbrev pub surd_of : List Term → Surd
 surd_of ts = map term_of ts

@@ -1,12 +1,9 @@
 -- The numbers by which a C program is answered.
 use Rattle.std.specs.Prelude.{ℕ, ◌+◌, nat_le, if◌then◌else◌}
-use Rattle.calc_session.specs.Answers.{number_of}
-use Rattle.calc_session.specs.declared.answers.LineAnswer.{LineAnswer}
-use Rattle.calc_session.specs.declared.answers.LineAnswer.TheVariants.{Blank, Shown, Stored, Undef, Report, Draw, Refused}
+use Rattle.calc_session.specs.{Answers.{number_of}, declared.answers.LineAnswer.{LineAnswer}, declared.answers.LineAnswer.TheVariants.{Blank, Shown, Stored, Undef, Report, Draw, Refused}}
 use Rattle.poincare_held.specs.declared.held.Drawn.{Drawn}
 use Rattle.poincare_held.specs.declared.held.Drawn.TheVariants as drawn
-use Rattle.poincare_held.specs.declared.held.OpenFault.{OpenFault}
-use Rattle.poincare_held.specs.declared.held.OpenFault.TheVariants.{PoolSize, NoMemory}
+use Rattle.poincare_held.specs.{declared.held.OpenFault.{OpenFault}, declared.held.OpenFault.TheVariants.{PoolSize, NoMemory}}
 
 -- the call did what it says
 abbrev pub done : ℕ

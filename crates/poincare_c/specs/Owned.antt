@@ -2,9 +2,7 @@
 use base.Fml.{Fml, fex, fsep, ftrue}
 use base.Fraction.{full_share}
 use denote.RawPtr.{Ptr, lies_at}
-use Rattle.poincare_c.specs.declared.slot.Slot.{Slot}
-use Rattle.poincare_c.specs.contracts.slot.Slot.{the_row as the_session_row}
-use Rattle.poincare_c.specs.declared.stopper_slot.StopperSlot.{StopperSlot}
+use Rattle.poincare_c.specs.{declared.slot.Slot.{Slot}, contracts.slot.Slot.{the_row as the_session_row}, declared.stopper_slot.StopperSlot.{StopperSlot}}
 use Rattle.poincare_c.specs.contracts.stopper_slot.StopperSlot.{the_row as the_stopper_row}
 
 -- the slot of a session stands at the pointer

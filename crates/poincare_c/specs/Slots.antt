@@ -1,22 +1,13 @@
 -- What calls do to slots.
 use Rattle.std.specs.Prelude.{◌≡◌, ◌↔◌, ⊤, ℕ, List, [], length}
 use Rattle.breakers.specs.Breakers.{TripsRose}
-use Rattle.calc_session.specs.Answers.{Answers}
-use Rattle.calc_session.specs.declared.answers.LineAnswer.{LineAnswer}
-use Rattle.calc_session.specs.declared.answers.LineAnswer.TheVariants.{Refused}
-use Rattle.calc_session.specs.declared.answers.Refusal.TheVariants.{Interrupted}
+use Rattle.calc_session.specs.{Answers.{Answers}, declared.answers.LineAnswer.{LineAnswer}, declared.answers.LineAnswer.TheVariants.{Refused}, declared.answers.Refusal.TheVariants.{Interrupted}}
 use Rattle.node_pool.specs.State.{IsPoolSize}
 use Rattle.poincare_run.specs.Steps.{bits, room}
-use Rattle.poincare_held.specs.Pages.{over}
-use Rattle.poincare_held.specs.Sessions.{IsAnsweredWithin, IsDrawnOn, IsOpened, breakers_in, pool_use_in, state_in, text_in}
-use Rattle.poincare_held.specs.declared.held.Drawn.{Drawn}
-use Rattle.poincare_held.specs.declared.held.Held.{Held}
+use Rattle.poincare_held.specs.{Pages.{over}, Sessions.{IsAnsweredWithin, IsDrawnOn, IsOpened, breakers_in, pool_use_in, state_in, text_in}, declared.held.Drawn.{Drawn}, declared.held.Held.{Held}}
 use Rattle.poincare_held.specs.declared.stopper.Stopper.{Stopper}
-use Rattle.poincare_c.specs.Codes.{bad_pool, closed, code_of_answer, code_of_count, code_of_drawn, count_of_drawn, done, no_memory, not_opened, open_already}
-use Rattle.poincare_c.specs.Standings.{Changes, ClosesStanding}
-use Rattle.poincare_c.specs.declared.slot.Slot.{Slot}
-use Rattle.poincare_c.specs.declared.stopper_slot.StopperSlot.{StopperSlot}
-use Rattle.poincare_c.specs.declared.standing.Standing.{Standing}
+use Rattle.poincare_c.specs.{Codes.{bad_pool, closed, code_of_answer, code_of_count, code_of_drawn, count_of_drawn, done, no_memory, not_opened, open_already}, Standings.{Changes, ClosesStanding}}
+use Rattle.poincare_c.specs.{declared.slot.Slot.{Slot}, declared.stopper_slot.StopperSlot.{StopperSlot}, declared.standing.Standing.{Standing}}
 use Rattle.poincare_c.specs.declared.standing.Standing.TheVariants.{New, Open, Closed}
 
 -- ---- slots

@@ -1,8 +1,6 @@
 -- What stands in slots.
 use Rattle.std.specs.Prelude.{◌≡◌, ℕ, Bool, true, false}
-use Rattle.poincare_c.specs.Codes.{closed, done, not_opened}
-use Rattle.poincare_c.specs.declared.standing.Standing.{Standing}
-use Rattle.poincare_c.specs.declared.standing.Standing.TheVariants.{New, Open, Closed}
+use Rattle.poincare_c.specs.{Codes.{closed, done, not_opened}, declared.standing.Standing.{Standing}, declared.standing.Standing.TheVariants.{New, Open, Closed}}
 
 abbrev pub is_open : {T : Type 0} → Standing T → Bool
 is_open (Open it) = true

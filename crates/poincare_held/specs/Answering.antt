@@ -1,16 +1,9 @@
 -- Whole texts of lines.
-use Rattle.std.specs.Prelude.{ℕ, List, [], ◌∷◌, true, false}
-use Rattle.std.specs.Str.Lines.{strip_carriage_return}
+use Rattle.std.specs.{Prelude.{ℕ, List, [], ◌∷◌, true, false}, Str.Lines.{strip_carriage_return}}
 use Rattle.breakers.specs.State.{fresh}
-use Rattle.calc_session.specs.Replies.{Reply}
-use Rattle.calc_session.specs.States.{first_state}
-use Rattle.poincare_run.specs.Lines.{lines_of}
-use Rattle.poincare_run.specs.Steps.{LineStep, Moment, Steps, Transcript, written}
-use Rattle.poincare_held.specs.Pages.{IsFront}
-use Rattle.poincare_held.specs.Sessions.{breakers_in, state_in}
-use Rattle.poincare_held.specs.Writing.{Writes}
-use Rattle.poincare_held.specs.declared.held.Held.{Held}
-use Rattle.poincare_held.specs.declared.page.Page.{Page}
+use Rattle.calc_session.specs.{Replies.{Reply}, States.{first_state}}
+use Rattle.poincare_run.specs.{Lines.{lines_of}, Steps.{LineStep, Moment, Steps, Transcript, written}}
+use Rattle.poincare_held.specs.{Pages.{IsFront}, Sessions.{breakers_in, state_in}, Writing.{Writes}, declared.held.Held.{Held}, declared.page.Page.{Page}}
 
 -- between two lines, where pictures are drawn only when a line asks for them
 abbrev pub moment_of : Held → Moment

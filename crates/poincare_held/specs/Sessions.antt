@@ -1,25 +1,13 @@
 -- Held sessions as their callers see them.
 use Rattle.std.specs.Prelude.{◌≡◌, ◌↔◌, ℕ, List, [], ◌∷◌, Ok, Err, true}
-use Rattle.breakers.specs.Breakers.{TripsRose, armed_first}
-use Rattle.breakers.specs.SilentBreaker.{silent}
-use Rattle.breakers.specs.State.{State as Breaker, fresh, largest_count}
-use Rattle.breakers.specs.Watch.{states}
-use Rattle.calc_session.specs.Answers.{Answers}
-use Rattle.calc_session.specs.Drawing.{rows_in}
-use Rattle.calc_session.specs.States.{State, first_state, free_bytes}
-use Rattle.calc_session.specs.declared.answers.LineAnswer.{LineAnswer}
-use Rattle.calc_session.specs.declared.answers.LineAnswer.TheVariants.{Refused}
-use Rattle.calc_session.specs.declared.answers.Refusal.TheVariants.{Interrupted}
-use Rattle.node_pool.specs.Nodes.{used}
-use Rattle.node_pool.specs.State.{IsPoolSize}
-use Rattle.node_pool.specs.declared.full.Full.{Full}
+use Rattle.breakers.specs.{Breakers.{TripsRose, armed_first}, SilentBreaker.{silent}, State.{State as Breaker, fresh, largest_count}, Watch.{states}}
+use Rattle.calc_session.specs.{Answers.{Answers}, Drawing.{rows_in}, States.{State, first_state, free_bytes}, declared.answers.LineAnswer.{LineAnswer}}
+use Rattle.calc_session.specs.{declared.answers.LineAnswer.TheVariants.{Refused}, declared.answers.Refusal.TheVariants.{Interrupted}}
+use Rattle.node_pool.specs.{Nodes.{used}, State.{IsPoolSize}, declared.full.Full.{Full}}
 use Rattle.poincare_run.specs.Steps.{bits, room, picture_text}
-use Rattle.poincare_held.specs.Breaking.{state_of}
-use Rattle.poincare_held.specs.Pages.{IsFront}
-use Rattle.poincare_held.specs.declared.held.Drawn.{Drawn}
+use Rattle.poincare_held.specs.{Breaking.{state_of}, Pages.{IsFront}, declared.held.Drawn.{Drawn}}
 use Rattle.poincare_held.specs.declared.held.Drawn.TheVariants as drawn
-use Rattle.poincare_held.specs.declared.held.Held.{Held}
-use Rattle.poincare_held.specs.declared.held.PoolUse.{PoolUse}
+use Rattle.poincare_held.specs.{declared.held.Held.{Held}, declared.held.PoolUse.{PoolUse}}
 
 -- what it keeps from line to line
 abbrev pub state_in : Held → State

@@ -1,7 +1,6 @@
 -- What a clause sees of a breaker that stoppers trip.
 use Rattle.std.specs.Prelude.{ℕ, false}
-use Rattle.breakers.specs.State.{State}
-use Rattle.breakers.specs.declared.breaker.Plan.TheVariants.{Untold}
+use Rattle.breakers.specs.{State.{State}, declared.breaker.Plan.TheVariants.{Untold}}
 use Rattle.poincare_held.specs.declared.stopper.StopBreaker.{StopBreaker}
 
 -- it tells nothing of its coming polls, and can never be armed

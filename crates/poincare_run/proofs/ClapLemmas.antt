@@ -1,12 +1,14 @@
 -- What `clap` makes of the words of the command line, and the settings that they spell.
-use Rattle.std.proofs.Common.{◌≡◌, ◌∙◌, ◌⊎◌, ℕ, zero, suc, ◌+◌, ◌≤◌, ◌&&◌, ◌||◌, ◌==◌, ◌^◌, nat_le, List, [], ◌∷◌, ◌++◌, length, take, drop, map, Bool, true, false, Option, Some, None, nat_lt, if◌then◌else◌, refl, sym, ap, ap₂, subst, inl, inr, codes, arith, append-nil}
-use Rattle.std.specs.Prelude.{slice_get, ⊤}
-use Rattle.poincare_run.proofs.Shared.{fold, list_any, list_all, position_or_len, option_map_or, bytes_eq, chars, append_assoc, bytes_eq-Decides, Held, Outcome, Row, Rule, Step, Text, Waiting, Walk, after_flag, after_step, arg_by_id, arg_by_long, at_row, bundle, bundle_met, bundle_step, has_row, idle, long_or_other, more_values, option, plain, plain_word, positional, settled, settled_rows, short_or_plain, trailing, used, used_by_id, walked, with_values, without, built, filled, Kinds, or_else, bundle_fault, bundle_step_fault, flag_word_fault, flags_fault, long_fault, settle_fault, step_fault, turn_fault, use_fault, walk_fault, Shape, AsWritten, CommandLine, Key, Pool, Interrupt, Generated, IsSpelled, Setting, Spells, value, draw, name_of, command_line, option_named, is_digits, value_of}
-use Rattle.clap.specs.Lexer.{has_byte, long_of, long_of_rest, name_and_value, short_of}
-use Rattle.clap.specs.declared.builder.action.ArgAction.TheVariants.{Set, SetTrue}
+use Rattle.std.proofs.Common.{◌≡◌, ◌∙◌, ◌⊎◌, ℕ, zero, suc, ◌+◌, ◌≤◌, ◌&&◌, ◌||◌, ◌==◌, ◌^◌, nat_le, List, [], ◌∷◌, ◌++◌, length, take, drop, map, Bool, true, false, Option, Some, None, nat_lt}
+use Rattle.std.proofs.Common.{if◌then◌else◌, refl, sym, ap, ap₂, subst, inl, inr, codes, arith, append-nil}
+use Rattle.std.specs.{Prelude.{slice_get, ⊤}, Str.Parse.{digits_value}, Char.{is_ascii_digit}}
+use Rattle.poincare_run.proofs.Shared.{fold, list_any, list_all, position_or_len, option_map_or, bytes_eq, chars, append_assoc, bytes_eq-Decides, Held, Outcome, Row, Rule, Step, Text, Waiting, Walk}
+use Rattle.poincare_run.proofs.Shared.{after_flag, after_step, arg_by_id, arg_by_long, at_row, bundle, bundle_met, bundle_step, has_row, idle, long_or_other, more_values, option, plain, plain_word}
+use Rattle.poincare_run.proofs.Shared.{positional, settled, settled_rows, short_or_plain, trailing, used, used_by_id, walked, with_values, without, built, filled, Kinds, or_else, bundle_fault}
+use Rattle.poincare_run.proofs.Shared.{bundle_step_fault, flag_word_fault, flags_fault, long_fault, settle_fault, step_fault, turn_fault, use_fault, walk_fault, Shape, AsWritten, CommandLine, Key}
+use Rattle.poincare_run.proofs.Shared.{Pool, Interrupt, Generated, IsSpelled, Setting, Spells, value, draw, name_of, command_line, option_named, is_digits, value_of}
 use Rattle.poincare_run.proofs.SettingLemmas.{of_both, of_test}
-use Rattle.std.specs.Str.Parse.{digits_value}
-use Rattle.std.specs.Char.{is_ascii_digit}
+use Rattle.clap.specs.{Lexer.{has_byte, long_of, long_of_rest, name_and_value, short_of}, declared.builder.action.ArgAction.TheVariants.{Set, SetTrue}}
 use Rattle.clap.specs.declared.error.kind.ErrorKind.TheVariants as kind
 
 -- ---- the rows of settings

@@ -1,6 +1,7 @@
 -- Lemmas on the loop over the input, and how it ends.
 use Rattle.std.proofs.Common.{◌≡◌, inl, inr, ℕ, ◌-◌, ◌≤◌, ◌<◌, List, [], ◌++◌, length, Option, refl, subst, arith, append-nil, length-append}
-use Rattle.poincare_run.proofs.Shared.{Appends, Consumes, IsAtEnd, lines_of, whole_lines, rest_of, Moment, Holds, session_limit, Writes, WritesPart, ReadsAll, ReadsLimit, WriteStops, Answered, Continues, Breaks, Goes, IsUnderWay, Place, Appends-nil, Appends-trans, Consumes-nil, Consumes-trans, AppendsPart-after}
+use Rattle.poincare_run.proofs.Shared.{Appends, Consumes, IsAtEnd, lines_of, whole_lines, rest_of, Moment, Holds, session_limit, Writes, WritesPart, ReadsAll, ReadsLimit, WriteStops, Answered}
+use Rattle.poincare_run.proofs.Shared.{Continues, Breaks, Goes, IsUnderWay, Place, Appends-nil, Appends-trans, Consumes-nil, Consumes-trans, AppendsPart-after}
 
 pub begins : (dialog : Place) (t k : Option (List ℕ)) → Holds dialog.line [] → IsUnderWay dialog.now t t k k session_limit dialog
 unfolding whole_lines rest_of

@@ -1,7 +1,6 @@
 -- Lemmas on lines: what one more byte does to them.
-use Rattle.std.proofs.Common.{◌≡◌, ◌∙◌, ℕ, List, [], ◌∷◌, ◌++◌, map, Bool, true, false, refl, sym, ap, append_assoc, append-nil}
+use Rattle.std.proofs.{Common.{◌≡◌, ◌∙◌, ℕ, List, [], ◌∷◌, ◌++◌, map, Bool, true, false, refl, sym, ap, append_assoc, append-nil}, lemmas.List.Splits.{slice_split-cons_yes, slice_split-cons_no}}
 use Rattle.poincare_run.proofs.Shared.{map-append, eqb-true, onto_first, strip_carriage_return, is_newline, parts, all_but_last, last_of, whole_lines, rest_of}
-use Rattle.std.proofs.lemmas.List.Splits.{slice_split-cons_yes, slice_split-cons_no}
 
 -- the parts of the bytes, and those with one more byte behind them
 record Cut (bytes : List ℕ) : Type 0 where

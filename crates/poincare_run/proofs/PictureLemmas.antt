@@ -1,6 +1,7 @@
 -- Lemmas on what is written of pictures.
 use Rattle.std.proofs.Common.{◌≡◌, ℕ, List, Bool, true, Option, Result, Ok, Err, sym, ap, subst}
-use Rattle.poincare_run.proofs.Shared.{Appends, AppendsPart, IsDrawnInPart, rows_in, full, refused, text_of, State, Full, AnswersLine, FailsAtLine, Place, TakesLine, picture_if, picture_text, with_newline, written, LineAnswer}
+use Rattle.poincare_run.proofs.Shared.{Appends, AppendsPart, IsDrawnInPart, rows_in, full, refused, text_of, State, Full, AnswersLine, FailsAtLine, Place, TakesLine, picture_if, picture_text}
+use Rattle.poincare_run.proofs.Shared.{with_newline, written, LineAnswer}
 use Rattle.calc_session.specs.Drawing.{IsDrawn}
 
 abbrev text_for : Result (List ℕ) Full → List ℕ

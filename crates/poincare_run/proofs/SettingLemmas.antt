@@ -1,8 +1,11 @@
 -- The options of words are those that the words ask for.
-use Rattle.std.proofs.Common.{◌≡◌, ◌∙◌, ◌↔◌, ℕ, zero, suc, ◌<◌, ◌^◌, ◌&&◌, List, [], ◌∷◌, ◌++◌, length, drop, Bool, true, false, Option, Some, None, is_some, if◌then◌else◌, refl, sym, ap, subst, inl, inr, codes, arith}
+use Rattle.std.proofs.Common.{◌≡◌, ◌∙◌, ◌↔◌, ℕ, zero, suc, ◌<◌, ◌^◌, ◌&&◌, List, [], ◌∷◌, ◌++◌, length, drop, Bool, true, false, Option, Some, None, is_some, if◌then◌else◌, refl, sym, ap, subst, inl}
+use Rattle.std.proofs.{Common.{inr, codes, arith}, lemmas.Bool.Decides.{Decides-eqb}}
 use Rattle.std.specs.Prelude.{eqb, unwrap_or, IfSome}
-use Rattle.poincare_run.proofs.Shared.{starts_with, option_and_then, option_map, bytes_eq, append_assoc, bytes_eq-Decides, starts_is, value_of, Key, Pool, Interrupt, Generated, Reading, is_pool_size, is_session_number, key_of, named_in, no_values, options_of, options_with, read, size_in, with_draw, with_generated, with_interrupt, with_number, with_pool, with_value, with_word, with_next, Asks, IsDrawn, IsNumber, IsSpelled, OptionsAreAsked, Setting, Spells, OrderIsFree, value, draw, draws_of, name_of, text_in, texts_of, Values, Options}
-use Rattle.std.proofs.lemmas.Bool.Decides.{Decides-eqb}
+use Rattle.poincare_run.proofs.Shared.{starts_with, option_and_then, option_map, bytes_eq, append_assoc, bytes_eq-Decides, starts_is, value_of, Key, Pool, Interrupt, Generated, Reading, is_pool_size}
+use Rattle.poincare_run.proofs.Shared.{is_session_number, key_of, named_in, no_values, options_of, options_with, read, size_in, with_draw, with_generated, with_interrupt, with_number, with_pool}
+use Rattle.poincare_run.proofs.Shared.{with_value, with_word, with_next, Asks, IsDrawn, IsNumber, IsSpelled, OptionsAreAsked, Setting, Spells, OrderIsFree, value, draw, draws_of, name_of, text_in}
+use Rattle.poincare_run.proofs.Shared.{texts_of, Values, Options}
 use Rattle.node_pool.specs.State.{IsPoolSize}
 use Rattle.poincare_run.specs.Options.{settled}
 

@@ -1,10 +1,9 @@
 -- Lemmas on the status of the program, and what it says.
 use Rattle.std.proofs.Common.{◌≡◌, ◌≢◌, ◌∙◌, ◌⊎◌, ℕ, ◌≤◌, List, [], ◌∷◌, ◌++◌, length, Bool, Option, Some, None, Contains, inl, inr, refl, sym, ap, subst, arith, length-append}
-use Rattle.poincare_run.proofs.Shared.{append_cancel_right, Consumes, State, Beginning, reads, generates, IfReads, IfGenerates, Moment, session_limit, ReadsAll, ReadsPart, ReadsLimit, WriteStops, SumsUp, SumsUpInPart, EndsAs, EndsFrom, IfNoMemory, IsSummed, StopsReading, StopsWriting, SumsUpAs, status}
-use Rattle.calc_edges.specs.Faults.{IsCalm, Rose, StopsAtFailure}
-use Rattle.calc_edges.specs.declared.failures.Failures.{Failures}
-use Rattle.poincare_run.specs.declared.dialog.Ending.{Ending}
-use Rattle.poincare_run.specs.declared.dialog.Ending.TheVariants.{ReadToEnd, ReadFailed, WriteFailed, LimitReached, NoMemory}
+use Rattle.poincare_run.proofs.Shared.{append_cancel_right, Consumes, State, Beginning, reads, generates, IfReads, IfGenerates, Moment, session_limit, ReadsAll, ReadsPart, ReadsLimit, WriteStops}
+use Rattle.poincare_run.proofs.Shared.{SumsUp, SumsUpInPart, EndsAs, EndsFrom, IfNoMemory, IsSummed, StopsReading, StopsWriting, SumsUpAs, status}
+use Rattle.calc_edges.specs.{Faults.{IsCalm, Rose, StopsAtFailure}, declared.failures.Failures.{Failures}}
+use Rattle.poincare_run.specs.{declared.dialog.Ending.{Ending}, declared.dialog.Ending.TheVariants.{ReadToEnd, ReadFailed, WriteFailed, LimitReached, NoMemory}}
 use Rattle.breakers.specs.State.{State as Breaker}
 
 -- what was consumed is known where the source tells its bytes

@@ -1,10 +1,12 @@
 -- Lemmas on the steps of a session, and on how far it has come.
 use Rattle.std.proofs.Common.{◌≡◌, ◌∙◌, ◌⊎◌, inl, inr, ℕ, List, [], ◌∷◌, ◌++◌, length, ◌<◌, Bool, true, false, nat_le, Option, refl, sym, ap, subst, arith, append_assoc, append-nil}
-use Rattle.poincare_run.proofs.Shared.{leb-true, leb-false, strip_carriage_return, LineAnswer, Blank, Shown, Stored, Undef, Report, Draw, Refused, Answers, IsAnswer, IsReport, printed, Reason, Reply, report, forgot, State, IsReply, asks_in_vain, is_replied, LineBuffer, is_newline, lines_of, line_of_rest, whole_lines, rest_of, all_written, bits, Chain, LineStep, Moment, Turn, is_drawn, picture_if, picture_text, replies_of, room, Steps, with_newline, written, Holds, StandsFor, Answered, AnswersLine, FailsAtLine, Continues, Breaks, Goes, TakesLine, Place, Appends-nil, Appends-trans, AppendsPart-after}
-use Rattle.breakers.specs.Breakers.{kept}
-use Rattle.breakers.specs.State.{State as Breaker}
+use Rattle.poincare_run.proofs.Shared.{leb-true, leb-false, strip_carriage_return, LineAnswer, Blank, Shown, Stored, Undef, Report, Draw, Refused, Answers, IsAnswer, IsReport, printed, Reason, Reply}
+use Rattle.poincare_run.proofs.Shared.{report, forgot, State, IsReply, asks_in_vain, is_replied, LineBuffer, is_newline, lines_of, line_of_rest, whole_lines, rest_of, all_written, bits, Chain}
+use Rattle.poincare_run.proofs.Shared.{LineStep, Moment, Turn, is_drawn, picture_if, picture_text, replies_of, room, Steps, with_newline, written, Holds, StandsFor, Answered, AnswersLine, FailsAtLine}
+use Rattle.poincare_run.proofs.{Shared.{Continues, Breaks, Goes, TakesLine, Place, Appends-nil, Appends-trans, AppendsPart-after}, LineLemmas.{whole_lines-newline, rest_of-newline, whole_lines-other}}
+use Rattle.poincare_run.proofs.LineLemmas.{rest_of-other, whole_lines-front}
+use Rattle.breakers.specs.{Breakers.{kept}, State.{State as Breaker}}
 use Rattle.calc_session.specs.Asking.{AsksInVain, is_long, is_no_line, is_no_command}
-use Rattle.poincare_run.proofs.LineLemmas.{whole_lines-newline, rest_of-newline, whole_lines-other, rest_of-other, whole_lines-front}
 
 -- what is kept of a line is answered as the line is
 long_vain : {kept : List ℕ} {reason : Reason} (line : List ℕ) → 1024 < length kept → 1024 < length line → AsksInVain kept reason → AsksInVain line reason

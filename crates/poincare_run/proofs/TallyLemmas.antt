@@ -1,10 +1,10 @@
 -- Lemmas on counts of answers.
-use Rattle.std.proofs.Common.{◌≡◌, ◌∙◌, ◌⊎◌, inl, inr, ℕ, ◌+◌, ◌≤◌, List, [], ◌∷◌, ◌++◌, length, false, refl, sym, ap, subst, arith, length-append}
-use Rattle.poincare_run.proofs.Shared.{LineAnswer, Blank, Shown, Stored, Undef, Report, Draw, Refused, IsAnswer, IsReport, Reply, report, forgot, Holds, is_newline, rest_of, whole_lines, Place, TakesLine, Tallied, Chain, Moment, replies_of, Sort, as_shown, as_stored, as_undefined, as_refusal, as_other, sort_of, one_shown, one_stored, one_undefined, one_refusal, how_many, text_length, tally_of}
-use Rattle.std.proofs.lemmas.List.Sums.{sum_by_push}
-use Rattle.poincare_run.specs.declared.tally.Tally.{Tally}
-use Rattle.poincare_run.proofs.LineLemmas.{whole_lines-newline, rest_of-newline, whole_lines-other, rest_of-other}
+use Rattle.std.proofs.{Common.{◌≡◌, ◌∙◌, ◌⊎◌, inl, inr, ℕ, ◌+◌, ◌≤◌, List, [], ◌∷◌, ◌++◌, length, false, refl, sym, ap, subst, arith, length-append}, lemmas.List.Sums.{sum_by_push}}
+use Rattle.poincare_run.proofs.Shared.{LineAnswer, Blank, Shown, Stored, Undef, Report, Draw, Refused, IsAnswer, IsReport, Reply, report, forgot, Holds, is_newline, rest_of, whole_lines, Place}
+use Rattle.poincare_run.proofs.Shared.{TakesLine, Tallied, Chain, Moment, replies_of, Sort, as_shown, as_stored, as_undefined, as_refusal, as_other, sort_of, one_shown, one_stored, one_undefined}
+use Rattle.poincare_run.proofs.{Shared.{one_refusal, how_many, text_length, tally_of}, LineLemmas.{whole_lines-newline, rest_of-newline, whole_lines-other, rest_of-other}}
 use Rattle.poincare_run.proofs.StepLemmas.{chain_more, replies-more}
+use Rattle.poincare_run.specs.declared.tally.Tally.{Tally}
 
 -- the sort that an answer tells
 abbrev pub sort_told : LineAnswer → Sort

@@ -1,12 +1,8 @@
 -- How the program begins, by its words and its breakers.
-use Rattle.std.specs.Prelude.{ℕ, List, map, Option, Some, None, ⊤, String, string_bytes}
-use Rattle.std.specs.Option.{option_map}
-use Rattle.breakers.specs.Breakers.{armed_first}
-use Rattle.breakers.specs.State.{State as Breaker}
+use Rattle.std.specs.{Prelude.{ℕ, List, map, Option, Some, None, ⊤, String, string_bytes}, Option.{option_map}}
+use Rattle.breakers.specs.{Breakers.{armed_first}, State.{State as Breaker}}
 use Rattle.calc_session.specs.States.{first_state}
-use Rattle.poincare_run.specs.declared.words.Options.{Options}
-use Rattle.poincare_run.specs.Options.{options_of}
-use Rattle.poincare_run.specs.Steps.{Moment}
+use Rattle.poincare_run.specs.{declared.words.Options.{Options}, Options.{options_of}, Steps.{Moment}}
 
 -- the first breaker that can be armed is armed where a number of polls is named
 abbrev pub armed : Option ℕ → List Breaker → List Breaker

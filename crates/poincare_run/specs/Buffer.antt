@@ -1,6 +1,5 @@
 -- What is kept of a line while its bytes come.
-use Rattle.std.specs.Prelude.{◌≡◌, ℕ, ◌≤◌, List, [], ◌∷◌, ◌++◌, length, Bool, if◌then◌else◌}
-use Rattle.std.specs.Str.Lines.{strip_carriage_return}
+use Rattle.std.specs.{Prelude.{◌≡◌, ℕ, ◌≤◌, List, [], ◌∷◌, ◌++◌, length, Bool, if◌then◌else◌}, Str.Lines.{strip_carriage_return}}
 use Rattle.poincare_run.specs.declared.buffer.LineBuffer.{LineBuffer}
 
 -- kept is answered like the line: it is the line, or both are over 1,024 bytes

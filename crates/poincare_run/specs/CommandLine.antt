@@ -1,10 +1,6 @@
 -- The command line as `clap` is handed it, and what its matches name.
-use Rattle.std.specs.Prelude.{ℕ, List, Bool, true, Option, Some, None, codes}
-use Rattle.std.specs.Option.{option_and_then, option_map}
-use Rattle.clap.specs.Walk.{Rule}
-use Rattle.clap.specs.Simple.{App, new_app, new_rule, on_top, with_rule}
-use Rattle.clap.specs.declared.builder.action.ArgAction.{ArgAction}
-use Rattle.clap.specs.declared.builder.action.ArgAction.TheVariants.{Set, SetTrue}
+use Rattle.std.specs.{Prelude.{ℕ, List, Bool, true, Option, Some, None, codes}, Option.{option_and_then, option_map}}
+use Rattle.clap.specs.{Walk.{Rule}, Simple.{App, new_app, new_rule, on_top, with_rule}, declared.builder.action.ArgAction.{ArgAction}, declared.builder.action.ArgAction.TheVariants.{Set, SetTrue}}
 use Rattle.calc_commands.specs.Numbers.{value_of}
 use Rattle.poincare_run.specs.declared.words.Values.{Values}
 

@@ -1,12 +1,8 @@
 -- How a session ends: what was read of the source, and what was written to the sink.
 -- Of the source and the sink: the bytes that are left and the bytes that were taken, at the beginning and at the end, where they tell them.
-use Rattle.std.specs.Prelude.{◌≡◌, ◌⊎◌, ℕ, ◌<◌, ◌≤◌, List, [], ◌∷◌, ◌++◌, length, Option}
-use Rattle.std.specs.Io.KnownBytes.{Appends, Consumes, IsAtEnd}
+use Rattle.std.specs.{Prelude.{◌≡◌, ◌⊎◌, ℕ, ◌<◌, ◌≤◌, List, [], ◌∷◌, ◌++◌, length, Option}, Io.KnownBytes.{Appends, Consumes, IsAtEnd}}
 use Rattle.calc_edges.specs.Taken.{AppendsPart}
-use Rattle.poincare_run.specs.Lines.{lines_of, whole_lines}
-use Rattle.poincare_run.specs.Generated.{session_text}
-use Rattle.poincare_run.specs.Summaries.{summary_text, tally_of}
-use Rattle.poincare_run.specs.Steps.{Chain, Moment, Transcript, Turn, replies_of}
+use Rattle.poincare_run.specs.{Lines.{lines_of, whole_lines}, Generated.{session_text}, Summaries.{summary_text, tally_of}, Steps.{Chain, Moment, Transcript, Turn, replies_of}}
 
 -- the most bytes that are read
 abbrev pub session_limit : ℕ

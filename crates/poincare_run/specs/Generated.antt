@@ -1,6 +1,5 @@
 -- The lines of a generated session.
-use Rattle.std.specs.Prelude.{ℕ, suc, zero, ◌+◌, ◌*◌, ◌/◌, ◌%◌, ◌==◌, List, [], ◌∷◌, ◌++◌, if◌then◌else◌, codes}
-use Rattle.std.specs.Fmt.{decimal}
+use Rattle.std.specs.{Prelude.{ℕ, suc, zero, ◌+◌, ◌*◌, ◌/◌, ◌%◌, ◌==◌, List, [], ◌∷◌, ◌++◌, if◌then◌else◌, codes}, Fmt.{decimal}}
 use Rattle.calc_language.specs.Tokens.{arrow_sign, root_sign, times_sign}
 
 abbrev pub next_seed : ℕ → ℕ

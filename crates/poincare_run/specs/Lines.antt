@@ -1,7 +1,5 @@
 -- The lines of an input.
-use Rattle.std.specs.Prelude.{ℕ, List, [], ◌∷◌, ◌++◌, map, Bool, ◌==◌}
-use Rattle.std.specs.List.{slice_split}
-use Rattle.std.specs.Str.Lines.{strip_carriage_return}
+use Rattle.std.specs.{Prelude.{ℕ, List, [], ◌∷◌, ◌++◌, map, Bool, ◌==◌}, List.{slice_split}, Str.Lines.{strip_carriage_return}}
 
 abbrev pub is_newline : ℕ → Bool
 is_newline b = b == 10

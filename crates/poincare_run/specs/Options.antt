@@ -1,10 +1,8 @@
 -- The words of the command line: `--pool N`, `--interrupt K`, `--draw` and `--gen N`, each at most once and in any order.
-use Rattle.std.specs.Prelude.{ℕ, ◌^◌, ◌%◌, List, [], ◌∷◌, drop, Bool, ◌&&◌, ◌==◌, eqb, nat_le, nat_lt, bytes_eq, is_some, true, false, if◌then◌else◌, Option, Some, None, codes}
-use Rattle.std.specs.List.{starts_with}
+use Rattle.std.specs.{Prelude.{ℕ, ◌^◌, ◌%◌, List, [], ◌∷◌, drop, Bool, ◌&&◌, ◌==◌, eqb, nat_le, nat_lt, bytes_eq, is_some, true, false, if◌then◌else◌, Option, Some, None, codes}, List.{starts_with}}
 use Rattle.std.specs.Option.{option_and_then, option_map}
 use Rattle.calc_commands.specs.Numbers.{value_of}
-use Rattle.poincare_run.specs.declared.words.Values.{Values}
-use Rattle.poincare_run.specs.declared.words.Options.{Options}
+use Rattle.poincare_run.specs.{declared.words.Values.{Values}, declared.words.Options.{Options}}
 
 -- ---- what the words name
 

@@ -1,26 +1,12 @@
 -- How far a session has come in the middle of its input.
-use Rattle.std.specs.Prelude.{◌≡◌, ℕ, ◌+◌, List, ◌++◌, length, Option, ⊤}
-use Rattle.std.specs.Str.Lines.{strip_carriage_return}
-use Rattle.std.specs.Io.KnownBytes.{Appends, Consumes}
-use Rattle.breakers.specs.State.{State as Breaker}
-use Rattle.breakers.specs.Watch.{states}
-use Rattle.calc_edges.specs.Faults.{IsCalm, StopsAtFailure}
-use Rattle.calc_edges.specs.declared.failures.Failures.{Failures}
-use Rattle.calc_edges.specs.Taken.{AppendsPart}
-use Rattle.calc_session.specs.Answers.{IsAnswer, printed}
-use Rattle.calc_session.specs.Replies.{Reply, text_of}
-use Rattle.calc_session.specs.declared.answers.LineAnswer.{LineAnswer}
-use Rattle.poincare_run.specs.declared.buffer.LineBuffer.{LineBuffer}
-use Rattle.poincare_run.specs.declared.dialog.Dialog.{Dialog}
-use Rattle.poincare_run.specs.declared.dialog.Ending.{Ending}
-use Rattle.poincare_run.specs.declared.dialog.Ending.TheVariants.{ReadToEnd, ReadFailed, WriteFailed, LimitReached, NoMemory}
-use Rattle.poincare_run.specs.Lines.{whole_lines, rest_of}
-use Rattle.poincare_run.specs.Steps.{Chain, LineStep, Moment, Steps, Transcript, Turn, replies_of, written}
-use Rattle.poincare_run.specs.Beginnings.{Beginning, reads, generates}
-use Rattle.poincare_run.specs.Buffer.{Holds}
-use Rattle.poincare_run.specs.Summaries.{tally_of}
-use Rattle.poincare_run.specs.declared.tally.Tally.{Tally}
-use Rattle.poincare_run.specs.Endings.{session_limit, ReadsAll, ReadsPart, ReadsLimit, WriteStops, SumsUp, SumsUpInPart}
+use Rattle.std.specs.{Prelude.{◌≡◌, ℕ, ◌+◌, List, ◌++◌, length, Option, ⊤}, Str.Lines.{strip_carriage_return}, Io.KnownBytes.{Appends, Consumes}}
+use Rattle.breakers.specs.{State.{State as Breaker}, Watch.{states}}
+use Rattle.calc_edges.specs.{Faults.{IsCalm, StopsAtFailure}, declared.failures.Failures.{Failures}, Taken.{AppendsPart}}
+use Rattle.calc_session.specs.{Answers.{IsAnswer, printed}, Replies.{Reply, text_of}, declared.answers.LineAnswer.{LineAnswer}}
+use Rattle.poincare_run.specs.{declared.buffer.LineBuffer.{LineBuffer}, declared.dialog.Dialog.{Dialog}, declared.dialog.Ending.{Ending}, declared.dialog.Ending.TheVariants.{ReadToEnd, ReadFailed}}
+use Rattle.poincare_run.specs.{declared.dialog.Ending.TheVariants.{WriteFailed, LimitReached, NoMemory}, Lines.{whole_lines, rest_of}, Steps.{Chain, LineStep, Moment, Steps, Transcript, Turn}}
+use Rattle.poincare_run.specs.{Steps.{replies_of, written}, Beginnings.{Beginning, reads, generates}, Buffer.{Holds}, Summaries.{tally_of}, declared.tally.Tally.{Tally}, Endings.{session_limit}}
+use Rattle.poincare_run.specs.Endings.{ReadsAll, ReadsPart, ReadsLimit, WriteStops, SumsUp, SumsUpInPart}
 
 -- a place between two bytes of the input: what is kept from line to line, and what has come of the next line
 pub record Place : Type 0 where

@@ -2,8 +2,7 @@
 use Rattle.std.specs.Prelude.{◌≡◌, ◌⊎◌, ◌↔◌, ℕ, zero, suc, ◌<◌, ◌^◌, List, [], ◌∷◌, ◌++◌, Bool, true, false, Option, Some, None, unwrap_or, IfSome, codes}
 use Rattle.node_pool.specs.State.{IsPoolSize}
 use Rattle.calc_commands.specs.Numbers.{value_of}
-use Rattle.poincare_run.specs.Options.{Key, Pool, Interrupt, Generated, options_of}
-use Rattle.poincare_run.specs.declared.words.Options.{Options}
+use Rattle.poincare_run.specs.{Options.{Key, Pool, Interrupt, Generated, options_of}, declared.words.Options.{Options}}
 
 -- an option with the text of its value, or the option that takes none
 pub data Setting : Type 0 where

@@ -1,11 +1,7 @@
 -- A session as a chain of steps, one for each line.
 use Rattle.std.specs.Prelude.{◌≡◌, ℕ, List, [], ◌∷◌, ◌++◌, map, Bool, true, false, if◌then◌else◌, Option, Some, None, Ok, Err}
-use Rattle.breakers.specs.Breakers.{kept}
-use Rattle.breakers.specs.State.{State as Breaker}
-use Rattle.calc_session.specs.Drawing.{rows_in}
-use Rattle.calc_session.specs.Replies.{Reply, shown, stored, drawn, refused, full, text_of}
-use Rattle.calc_session.specs.States.{State}
-use Rattle.calc_session.specs.Steps.{Step}
+use Rattle.breakers.specs.{Breakers.{kept}, State.{State as Breaker}}
+use Rattle.calc_session.specs.{Drawing.{rows_in}, Replies.{Reply, shown, stored, drawn, refused, full, text_of}, States.{State}, Steps.{Step}}
 use Rattle.calc_measures.specs.Measures.{room as room_of, bits as bits_of}
 use Rattle.calc_terms.specs.Trees.{Tree}
 

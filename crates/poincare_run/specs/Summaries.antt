@@ -1,7 +1,5 @@
 -- A summary of the replies to many lines.
-use Rattle.std.specs.Prelude.{ℕ, ◌≤◌, ◌*◌, ◌^◌, List, ◌++◌, length, Some, None, codes}
-use Rattle.std.specs.List.{sum_by}
-use Rattle.std.specs.Fmt.{decimal}
+use Rattle.std.specs.{Prelude.{ℕ, ◌≤◌, ◌*◌, ◌^◌, List, ◌++◌, length, Some, None, codes}, List.{sum_by}, Fmt.{decimal}}
 use Rattle.calc_session.specs.Replies.{Reply, shown, stored, undefined, refused, text_of}
 use Rattle.poincare_run.specs.declared.tally.Tally.{Tally}
 

@@ -1,17 +1,10 @@
 -- How many terms are listed, and why none is listed any more.
 use Rattle.std.proofs.Common.{◌≡◌, ℕ, zero, suc, ◌+◌, ◌*◌, ◌^◌, ◌<◌, ◌≤◌, max, Bool, true, false, List, [], ◌∷◌, ◌++◌, length, take, ap, arith, length-append}
-use Rattle.std.specs.Prelude.{if◌then◌else◌, IfErr, IsErr, IsErrAnd, Result, Ok, Err}
 use Rattle.std.proofs.Math.Nat.{mul-le-mul_left, mul_comm, pow-le-pow_right, pow-suc, pow-zero}
-use Rattle.calc_terms.specs.Fractions.{is_zero_fraction}
-use Rattle.calc_terms.specs.Rat.{value_of}
-use Rattle.polynomials.specs.declared.term.Term.{Term}
-use Rattle.polynomials.specs.declared.unfit.Unfit.{Unfit}
-use Rattle.polynomials.specs.declared.unfit.Unfit.TheVariants.{Terms, Coefficient}
-use Rattle.polynomials.specs.Rows.{AreBelow}
-use Rattle.polynomials.specs.Unfits.{IsCaused, OfCoefficient}
-use Rattle.polynomials.proofs.MergeLoops.{IsMerged}
-use Rattle.polynomials.proofs.Merges.{pushed}
-use Rattle.polynomials.proofs.Products.{IsPowerTo, IsProductTo}
+use Rattle.std.specs.Prelude.{if◌then◌else◌, IfErr, IsErr, IsErrAnd, Result, Ok, Err}
+use Rattle.calc_terms.specs.{Fractions.{is_zero_fraction}, Rat.{value_of}}
+use Rattle.polynomials.specs.{declared.term.Term.{Term}, declared.unfit.Unfit.{Unfit}, declared.unfit.Unfit.TheVariants.{Terms, Coefficient}, Rows.{AreBelow}, Unfits.{IsCaused, OfCoefficient}}
+use Rattle.polynomials.proofs.{MergeLoops.{IsMerged}, Merges.{pushed}, Products.{IsPowerTo, IsProductTo}}
 
 pub caused_more : {P Q : Type 0} (u : Unfit) → (P → Q) → IsCaused P u → IsCaused Q u
 caused_more Terms f h = f h

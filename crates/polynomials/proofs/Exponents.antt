@@ -1,7 +1,6 @@
 -- Exponents of products, packed and not.
 use Rattle.std.proofs.Common.{◌≡◌, ℕ, zero, suc, ◌+◌, ◌/◌, ◌%◌, ◌^◌, ◌<◌, ◌≤◌, [], ◌∷◌, ◌++◌, refl, ap, ◌∙◌, arith, zero-add, replicate}
-use Rattle.polynomials.specs.Polynomials.{Monomial, Polynomial, Summand, HasExponents, HaveExponents, monomial_times, product, row, one_monomial}
-use Rattle.polynomials.specs.Packed.{monomial_of, unpacked}
+use Rattle.polynomials.specs.{Polynomials.{Monomial, Polynomial, Summand, HasExponents, HaveExponents, monomial_times, product, row, one_monomial}, Packed.{monomial_of, unpacked}}
 
 -- ---- of products
 

@@ -1,12 +1,7 @@
 -- Exponents up to the greatest one.
 use Rattle.std.proofs.Common.{◌≡◌, ℕ, suc, ◌+◌, ◌-◌, ◌/◌, ◌%◌, ◌<◌, ◌≤◌, max, List, [], ◌∷◌, length, get_or, take, sym, ap, ◌∙◌, subst, arith}
-use Rattle.polynomials.specs.declared.term.Term.{Term}
-use Rattle.polynomials.specs.Packed.{unpacked}
-use Rattle.polynomials.specs.Polynomials.{Polynomial, HasExponents, HaveExponents}
-use Rattle.polynomials.specs.Terms.{polynomial_of, summand_of}
-use Rattle.polynomials.proofs.Exponents.{exponents_more, have_append}
-use Rattle.polynomials.proofs.MergeLoops.{take_one_more}
-use Rattle.polynomials.proofs.Merges.{polynomial_append}
+use Rattle.polynomials.specs.{declared.term.Term.{Term}, Packed.{unpacked}, Polynomials.{Polynomial, HasExponents, HaveExponents}, Terms.{polynomial_of, summand_of}}
+use Rattle.polynomials.proofs.{Exponents.{exponents_more, have_append}, MergeLoops.{take_one_more}, Merges.{polynomial_append}}
 
 pub have_more : (d e : ℕ) (v : Polynomial) → d ≤ e → HaveExponents d v → HaveExponents e v
 have_more d e [] h p = tt

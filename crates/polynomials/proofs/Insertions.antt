@@ -1,14 +1,9 @@
 -- A term inserted at its place.
-use Rattle.std.proofs.Common.{◌≡◌, ◌⊎◌, ℕ, zero, suc, ◌<◌, ◌≤◌, Bool, true, false, List, [], ◌∷◌, ◌++◌, length, get_or, take, drop, inl, inr, refl, sym, ap, ◌∙◌, subst, arith, append_assoc, append-nil, take-append-drop}
+use Rattle.std.proofs.Common.{◌≡◌, ◌⊎◌, ℕ, zero, suc, ◌<◌, ◌≤◌, Bool, true, false, List, [], ◌∷◌, ◌++◌, length, get_or, take, drop, inl, inr, refl, sym, ap, ◌∙◌, subst, arith, append_assoc}
+use Rattle.std.proofs.{Common.{append-nil, take-append-drop}, lemmas.List.{length-take-le}}
 use Rattle.std.specs.Prelude.{if◌then◌else◌, insert, remove}
-use Rattle.std.proofs.lemmas.List.{length-take-le}
-use Rattle.calc_terms.specs.Fractions.{is_zero_fraction, plus}
-use Rattle.calc_terms.specs.Rat.{value_of}
-use Rattle.polynomials.specs.declared.term.Term.{Term}
-use Rattle.polynomials.specs.Polynomials.{HaveExponents}
-use Rattle.polynomials.specs.Rows.{AreBelow}
-use Rattle.polynomials.specs.Terms.{AreTermsOf, IsBelowAll, IsNormal, polynomial_of, summand_of}
-use Rattle.polynomials.specs.Unfits.{HasMonomial}
+use Rattle.calc_terms.specs.{Fractions.{is_zero_fraction, plus}, Rat.{value_of}}
+use Rattle.polynomials.specs.{declared.term.Term.{Term}, Polynomials.{HaveExponents}, Rows.{AreBelow}, Terms.{AreTermsOf, IsBelowAll, IsNormal, polynomial_of, summand_of}, Unfits.{HasMonomial}}
 use Rattle.polynomials.proofs.Merges.{exchanged_exponents, exchanged_terms, put_exponents, put_terms, pushed}
 
 -- the list with the term at a place, where its coefficient is not 0

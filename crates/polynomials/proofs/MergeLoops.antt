@@ -1,13 +1,8 @@
 -- Two lists of terms on the way to one.
-use Rattle.std.proofs.Common.{◌≡◌, ℕ, zero, suc, ◌+◌, ◌<◌, ◌≤◌, List, [], ◌∷◌, ◌++◌, length, get_or, take, refl, sym, ap, ◌∙◌, subst, arith, append_assoc, append-nil}
-use Rattle.std.proofs.lemmas.List.{take_more}
-use Rattle.polynomials.specs.declared.term.Term.{Term}
-use Rattle.polynomials.specs.Polynomials.{Polynomial, Summand, AreSame, HasExponents, HaveExponents, row, summand_times}
-use Rattle.polynomials.specs.Rows.{AreBelow}
+use Rattle.std.proofs.{Common.{◌≡◌, ℕ, zero, suc, ◌+◌, ◌<◌, ◌≤◌, List, [], ◌∷◌, ◌++◌, length, get_or, take, refl, sym, ap, ◌∙◌, subst, arith, append_assoc, append-nil}, lemmas.List.{take_more}}
+use Rattle.polynomials.specs.{declared.term.Term.{Term}, Polynomials.{Polynomial, Summand, AreSame, HasExponents, HaveExponents, row, summand_times}, Rows.{AreBelow}}
 use Rattle.polynomials.specs.Terms.{AreTermsOf, IsNormal, polynomial_of, summand_of}
-use Rattle.polynomials.proofs.Merges.{polynomial_append, terms_same}
-use Rattle.polynomials.proofs.Normal.{rises}
-use Rattle.polynomials.proofs.Worth.{same_cons, same_is, same_trans, same_turned}
+use Rattle.polynomials.proofs.{Merges.{polynomial_append, terms_same}, Normal.{rises}, Worth.{same_cons, same_is, same_trans, same_turned}}
 
 -- the sum and the products with the first j terms are merged: the list is done, and below the products to come
 pub record IsMerged (sum terms : List Term) (f : Term) (j : ℕ) (list rest : List Term) : Type 0 where

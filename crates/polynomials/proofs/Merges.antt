@@ -2,15 +2,10 @@
 use Rattle.std.proofs.Common.{◌≡◌, ℕ, ◌<◌, Bool, true, false, List, [], ◌∷◌, ◌++◌, refl, sym, ap, arith, append_assoc}
 use Rattle.std.specs.Prelude.{if◌then◌else◌}
 use Rattle.calc_terms.proofs.FractionFacts.{zero_is}
-use Rattle.calc_terms.specs.Fractions.{plus, is_zero_fraction}
-use Rattle.calc_terms.specs.Rat.{value_of}
-use Rattle.polynomials.specs.declared.term.Term.{Term}
-use Rattle.polynomials.specs.Polynomials.{Polynomial, AreSame, HaveExponents, summand}
-use Rattle.polynomials.specs.Rows.{AreBelow}
-use Rattle.polynomials.specs.Packed.{monomial_of}
+use Rattle.calc_terms.specs.{Fractions.{plus, is_zero_fraction}, Rat.{value_of}}
+use Rattle.polynomials.specs.{declared.term.Term.{Term}, Polynomials.{Polynomial, AreSame, HaveExponents, summand}, Rows.{AreBelow}, Packed.{monomial_of}}
 use Rattle.polynomials.specs.Terms.{AreTermsOf, IsBelowAll, IsNormal, polynomial_of, summand_of}
-use Rattle.polynomials.proofs.Normal.{below_less, below_push, normal_end, normal_insert, normal_remove}
-use Rattle.polynomials.proofs.Worth.{same_cons, same_is, same_joined, same_moved, same_sym, same_trans, same_without}
+use Rattle.polynomials.proofs.{Normal.{below_less, below_push, normal_end, normal_insert, normal_remove}, Worth.{same_cons, same_is, same_joined, same_moved, same_sym, same_trans, same_without}}
 
 pub polynomial_append : (xs ys : List Term) → polynomial_of (xs ++ ys) ≡ polynomial_of xs ++ polynomial_of ys
 polynomial_append [] ys = refl

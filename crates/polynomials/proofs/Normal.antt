@@ -1,11 +1,7 @@
 -- Sorted lists of terms with one more, and with one less.
 use Rattle.std.proofs.Common.{◌≡◌, ◌≢◌, ℕ, zero, suc, ◌-◌, ◌<◌, ◌≤◌, List, [], ◌∷◌, ◌++◌, false, length, get_or, take, drop, inl, inr, sym, ◌∙◌, subst, arith}
-use Rattle.calc_terms.specs.Fractions.{is_zero_fraction}
-use Rattle.calc_terms.specs.Rat.{value_of}
-use Rattle.polynomials.specs.declared.term.Term.{Term}
-use Rattle.polynomials.specs.Rows.{AreBelow, StartsFrom}
-use Rattle.polynomials.specs.Terms.{IsBelowAll, IsNormal}
-use Rattle.polynomials.specs.Unfits.{HasMonomial}
+use Rattle.calc_terms.specs.{Fractions.{is_zero_fraction}, Rat.{value_of}}
+use Rattle.polynomials.specs.{declared.term.Term.{Term}, Rows.{AreBelow, StartsFrom}, Terms.{IsBelowAll, IsNormal}, Unfits.{HasMonomial}}
 
 -- ---- in order
 

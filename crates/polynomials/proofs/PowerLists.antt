@@ -1,20 +1,11 @@
 -- Lists of the powers of a term, and powers of two terms from them.
-use Rattle.std.proofs.Common.{◌≡◌, ℕ, zero, suc, inl, inr, eq-or-lt_of_le, ◌+◌, ◌-◌, ◌*◌, ◌^◌, ◌<◌, ◌≤◌, [], ◌∷◌, ◌++◌, List, length, get_or, ℤ, pos, of_z, to_z, sym, ap, ◌∙◌, subst, arith, length-append, mul-le-mul}
+use Rattle.std.proofs.Common.{◌≡◌, ℕ, zero, suc, inl, inr, eq-or-lt_of_le, ◌+◌, ◌-◌, ◌*◌, ◌^◌, ◌<◌, ◌≤◌, [], ◌∷◌, ◌++◌, List, length, get_or, ℤ, pos, of_z, to_z, sym, ap, ◌∙◌, subst, arith}
+use Rattle.std.proofs.{Common.{length-append, mul-le-mul}, lemmas.Int.{to_z-of_z}, lemmas.List.{get_or_append_left, get_or_push}, Math.Nat.{mul_comm, pow-le-pow_right, pow-suc, pow-zero}}
 use Rattle.std.specs.Int.{w128}
-use Rattle.std.proofs.lemmas.Int.{to_z-of_z}
-use Rattle.std.proofs.lemmas.List.{get_or_append_left, get_or_push}
-use Rattle.std.proofs.Math.Nat.{mul_comm, pow-le-pow_right, pow-suc, pow-zero}
-use Rattle.calc_terms.specs.Fractions.{lowest, one_fraction}
-use Rattle.calc_terms.specs.Rat.{ratio_of, value_of}
-use Rattle.calc_terms.specs.Ratio.{Ratio, whole}
-use Rattle.calc_terms.specs.declared.rat.Rat.{Rat}
-use Rattle.polynomials.specs.Binomials.{ArePowers, choices, summand_power}
-use Rattle.polynomials.specs.declared.term.Term.{Term}
-use Rattle.polynomials.specs.Polynomials.{HasExponents, HaveExponents, Summand, one_monomial, raised, summand, summand_times}
-use Rattle.polynomials.specs.Terms.{AreTermsOf, polynomial_of, summand_of}
-use Rattle.polynomials.proofs.BinomialTheorem.{binomial, choices_bound, mixed, mixed_to, power_exponents}
-use Rattle.polynomials.proofs.Exponents.{exponents_times, one_exponents}
-use Rattle.polynomials.proofs.Merges.{terms_same}
+use Rattle.calc_terms.specs.{Fractions.{lowest, one_fraction}, Rat.{ratio_of, value_of}, Ratio.{Ratio, whole}, declared.rat.Rat.{Rat}}
+use Rattle.polynomials.specs.{Binomials.{ArePowers, choices, summand_power}, declared.term.Term.{Term}, Polynomials.{HasExponents, HaveExponents, Summand, one_monomial, raised, summand}}
+use Rattle.polynomials.specs.{Polynomials.{summand_times}, Terms.{AreTermsOf, polynomial_of, summand_of}}
+use Rattle.polynomials.proofs.{BinomialTheorem.{binomial, choices_bound, mixed, mixed_to, power_exponents}, Exponents.{exponents_times, one_exponents}, Merges.{terms_same}}
 use Rattle.polynomials.proofs.Worth.{same_cons, same_is, same_trans}
 
 -- ---- powers

@@ -1,17 +1,10 @@
 -- Products of lists of terms, row by row, and powers, factor by factor.
-use Rattle.std.proofs.Common.{◌≡◌, ℕ, suc, ◌+◌, ◌*◌, ◌<◌, List, [], ◌∷◌, ◌++◌, length, get_or, take, refl, sym, ap, ◌∙◌, subst, arith, append-nil, pos, ◌≤◌}
-use Rattle.std.proofs.Math.Nat.{mul-le-mul_right}
-use Rattle.calc_terms.specs.Rat.{ratio_of, value_of}
-use Rattle.calc_terms.specs.Ratio.{whole}
-use Rattle.calc_terms.specs.declared.rat.Rat.{Rat}
-use Rattle.polynomials.specs.declared.term.Term.{Term}
-use Rattle.polynomials.specs.Polynomials.{Polynomial, Summand, HasExponents, HaveExponents, one_monomial, product, raised, row, summand}
+use Rattle.std.proofs.{Common.{◌≡◌, ℕ, suc, ◌+◌, ◌*◌, ◌<◌, List, [], ◌∷◌, ◌++◌, length, get_or, take, refl, sym, ap, ◌∙◌, subst, arith, append-nil, pos, ◌≤◌}, Math.Nat.{mul-le-mul_right}}
+use Rattle.calc_terms.specs.{Rat.{ratio_of, value_of}, Ratio.{whole}, declared.rat.Rat.{Rat}}
+use Rattle.polynomials.specs.{declared.term.Term.{Term}, Polynomials.{Polynomial, Summand, HasExponents, HaveExponents, one_monomial, product, raised, row, summand}}
 use Rattle.polynomials.specs.Terms.{AreTermsOf, polynomial_of, summand_of}
-use Rattle.polynomials.proofs.Exponents.{have_row, one_exponents}
-use Rattle.polynomials.proofs.MergeLoops.{have_at, take_one_more}
-use Rattle.polynomials.proofs.Merges.{polynomial_append, terms_same}
-use Rattle.polynomials.proofs.Scaled.{one_terms}
-use Rattle.polynomials.proofs.Worth.{product_append, product_right, same_append, same_is, same_trans}
+use Rattle.polynomials.proofs.{Exponents.{have_row, one_exponents}, MergeLoops.{have_at, take_one_more}, Merges.{polynomial_append, terms_same}, Scaled.{one_terms}, Worth.{product_append}}
+use Rattle.polynomials.proofs.Worth.{product_right, same_append, same_is, same_trans}
 
 -- ---- products
 

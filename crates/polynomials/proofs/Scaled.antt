@@ -1,16 +1,9 @@
 -- A rational times a polynomial, and the polynomial 1.
 use Rattle.std.proofs.Common.{◌≡◌, ℕ, List, [], ◌∷◌, false, refl, ap, ◌∙◌, pos}
 use Rattle.calc_terms.proofs.FractionFacts.{whole_numerator}
-use Rattle.calc_terms.specs.Fractions.{Fraction, is_zero_fraction, lowest, one_fraction, times}
-use Rattle.calc_terms.specs.Integers.{int_is_zero}
-use Rattle.calc_terms.specs.Rat.{ratio_of, value_of}
-use Rattle.calc_terms.specs.Ratio.{Ratio, whole}
-use Rattle.calc_terms.specs.declared.rat.Rat.{Rat}
-use Rattle.polynomials.specs.declared.term.Term.{Term}
-use Rattle.polynomials.specs.Polynomials.{HaveExponents, constant, one_monomial, row, scaled, Summand, summand}
-use Rattle.polynomials.specs.Terms.{AreTermsOf, polynomial_of, summand_of}
-use Rattle.polynomials.proofs.Exponents.{one_times_packed, packed_exponents}
-use Rattle.polynomials.proofs.Worth.{same_is}
+use Rattle.calc_terms.specs.{Fractions.{Fraction, is_zero_fraction, lowest, one_fraction, times}, Integers.{int_is_zero}, Rat.{ratio_of, value_of}, Ratio.{Ratio, whole}, declared.rat.Rat.{Rat}}
+use Rattle.polynomials.specs.{declared.term.Term.{Term}, Polynomials.{HaveExponents, constant, one_monomial, row, scaled, Summand, summand}, Terms.{AreTermsOf, polynomial_of, summand_of}}
+use Rattle.polynomials.proofs.{Exponents.{one_times_packed, packed_exponents}, Worth.{same_is}}
 
 pub row_constant : (q : Fraction) (ts : List Term) → row (summand q one_monomial) (polynomial_of ts) ≡ scaled q (polynomial_of ts)
 row_constant q [] = refl

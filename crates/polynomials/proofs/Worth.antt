@@ -1,7 +1,6 @@
 -- What polynomials are worth, and which are the same.
 use Rattle.std.proofs.Common.{◌≡◌, ℕ, zero, suc, [], ◌∷◌, ◌++◌, refl, sym, ap, ◌∙◌, append_assoc}
-use Rattle.calc_terms.specs.FractionLaws.{times_comm, times_assoc, times_plus, zero_plus, zero_times}
-use Rattle.calc_terms.specs.Fractions.{Fraction, plus, times, zero_fraction, plus_comm, plus_assoc}
+use Rattle.calc_terms.specs.{FractionLaws.{times_comm, times_assoc, times_plus, zero_plus, zero_times}, Fractions.{Fraction, plus, times, zero_fraction, plus_comm, plus_assoc}}
 use Rattle.polynomials.specs.Polynomials.{Monomial, Polynomial, Summand, AreSame, monomial_times, product, raised, row, scaled, summand, worth}
 
 plus_both : {a b c d : Fraction} → a ≡ b → c ≡ d → plus a c ≡ plus b d

@@ -1,9 +1,7 @@
 -- The powers of a summand, and binomial coefficients.
 use Rattle.std.specs.Prelude.{ℕ, zero, suc, ◌+◌, ◌≡◌, ◌≤◌, List, length, slice_index_or}
 use Rattle.calc_terms.specs.Fractions.{one_fraction}
-use Rattle.polynomials.specs.declared.term.Term.{Term}
-use Rattle.polynomials.specs.Polynomials.{Summand, one_monomial, summand, summand_times}
-use Rattle.polynomials.specs.Terms.{summand_of}
+use Rattle.polynomials.specs.{declared.term.Term.{Term}, Polynomials.{Summand, one_monomial, summand, summand_times}, Terms.{summand_of}}
 
 -- n factors s
 abbrev pub summand_power : Summand → ℕ → Summand

@@ -1,10 +1,7 @@
 -- Terms as the code has them, and sorted lists of them.
 use Rattle.std.specs.Prelude.{ℕ, ◌≡◌, ◌<◌, ⊤, false, List, [], ◌∷◌, map}
-use Rattle.calc_terms.specs.Fractions.{is_zero_fraction}
-use Rattle.calc_terms.specs.Rat.{value_of}
-use Rattle.polynomials.specs.declared.term.Term.{Term}
-use Rattle.polynomials.specs.Packed.{monomial_of}
-use Rattle.polynomials.specs.Polynomials.{Summand, Polynomial, AreSame, summand}
+use Rattle.calc_terms.specs.{Fractions.{is_zero_fraction}, Rat.{value_of}}
+use Rattle.polynomials.specs.{declared.term.Term.{Term}, Packed.{monomial_of}, Polynomials.{Summand, Polynomial, AreSame, summand}}
 
 -- a fraction times a monomial
 abbrev pub summand_of : Term → Summand

@@ -1,9 +1,7 @@
 -- Why a polynomial is not made.
 use Rattle.std.specs.Prelude.{ℕ, ◌≡◌, ◌⊎◌, ⊤, List, [], ◌∷◌}
 use Rattle.calc_terms.specs.Rat.{value_of}
-use Rattle.polynomials.specs.declared.term.Term.{Term}
-use Rattle.polynomials.specs.declared.unfit.Unfit.{Unfit}
-use Rattle.polynomials.specs.declared.unfit.Unfit.TheVariants.{Terms, Coefficient}
+use Rattle.polynomials.specs.{declared.term.Term.{Term}, declared.unfit.Unfit.{Unfit}, declared.unfit.Unfit.TheVariants.{Terms, Coefficient}}
 use Rattle.rational128.specs.Refusals.{DoesNotFit}
 
 -- the list has room for too few terms, or the operation does not fit

@@ -1,7 +1,6 @@
 -- Trees below two marks.
 use Rattle.std.proofs.Common.{◌≡◌, ◌≤◌, ap, ◌∙◌, sym, arith, refl}
-use Rattle.tree_handles.specs.Forest.{Forest, empty, tree, join, node_of, first_trees, rest_trees, bytes_in}
-use Rattle.tree_handles.specs.Handed.{Starts}
+use Rattle.tree_handles.specs.{Forest.{Forest, empty, tree, join, node_of, first_trees, rest_trees, bytes_in}, Handed.{Starts}}
 use Rattle.node_pool.proofs.Sizes.{size_from}
 use Rattle.pool_checkpoints.specs.Laws.{MarksNest}
 

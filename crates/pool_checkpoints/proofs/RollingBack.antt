@@ -1,7 +1,6 @@
 -- The trees below a mark, from call to call.
 use Rattle.std.proofs.Common.{◌≡◌, ℕ, List, sym}
-use Rattle.tree_handles.specs.Forest.{Forest, empty, bytes_in}
-use Rattle.tree_handles.specs.Handed.{AreNoRoots, KeepsFront}
+use Rattle.tree_handles.specs.{Forest.{Forest, empty, bytes_in}, Handed.{AreNoRoots, KeepsFront}}
 use Rattle.tree_handles.proofs.Forests.{join-empty}
 use Rattle.pool_checkpoints.specs.Marks.{IsBelow}
 

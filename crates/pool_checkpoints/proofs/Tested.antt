@@ -1,8 +1,7 @@
 -- What tests know of trees that they build and of marks.
 use Rattle.std.proofs.Common.{◌≡◌, ℕ, subst}
 use Rattle.std.specs.Prelude.{⊤, Result, Ok, IfOk}
-use Rattle.tree_handles.specs.Forest.{Forest}
-use Rattle.tree_handles.specs.Handed.{Gives, IsHanded}
+use Rattle.tree_handles.specs.{Forest.{Forest}, Handed.{Gives, IsHanded}}
 use Rattle.tree_handles.proofs.Given.{given_handed, handed_at}
 
 -- a tree that was built is handed wherever the same trees stand

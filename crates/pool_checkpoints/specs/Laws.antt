@@ -1,8 +1,7 @@
 -- What marks and rolling back come to.
 use Rattle.std.specs.Prelude.{ℕ, ◌≡◌, ◌≤◌}
 use Rattle.node_pool.specs.State.{State}
-use Rattle.tree_handles.specs.Forest.{Forest}
-use Rattle.tree_handles.specs.Standing.{Stands, forest}
+use Rattle.tree_handles.specs.{Forest.{Forest}, Standing.{Stands, forest}}
 use Rattle.pool_checkpoints.specs.Marks.{IsBelow, IsRestored}
 
 -- where a pool stands for the trees for which it stood, and its size is the same, it is as it was

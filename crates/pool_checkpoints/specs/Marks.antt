@@ -1,11 +1,7 @@
 -- Marks on a pool that stands for trees, and what a pool is at a moment.
 use Rattle.std.specs.Prelude.{ℕ, ◌≡◌, true}
-use Rattle.node_pool.specs.Nodes.{used, place_of}
-use Rattle.node_pool.specs.State.{State, bytes_of}
-use Rattle.tree_handles.specs.Forest.{Forest, bytes_in}
-use Rattle.tree_handles.specs.Handed.{Starts}
-use Rattle.tree_handles.specs.Inside.{holds}
-use Rattle.tree_handles.specs.Standing.{forest}
+use Rattle.node_pool.specs.{Nodes.{used, place_of}, State.{State, bytes_of}}
+use Rattle.tree_handles.specs.{Forest.{Forest, bytes_in}, Handed.{Starts}, Inside.{holds}, Standing.{forest}}
 
 -- these trees stand first, and their bytes end at the mark
 pub record IsBelow (mark : ℕ) (first f : Forest) : Type 0 where

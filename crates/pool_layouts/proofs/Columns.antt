@@ -1,13 +1,12 @@
 -- Each character of a picture takes one column and joins no other, so that a row takes as many columns as it has characters.
-use Rattle.pool_layouts.proofs.Shared.{⊤, ◌≡◌, ℕ, zero, suc, ◌+◌, ◌-◌, ◌/◌, ◌==◌, if◌then◌else◌, max, List, [], ◌∷◌, ◌++◌, replicate, codes, length}
-use Rattle.pool_layouts.proofs.Shared.{nat_abs, nat_lt, nat_le, Bool, true, false, Option, Some, None, refl, ap, ◌∙◌, arith, list_all, and_from, and_parts, nat_tests, is_digit}
-use Rattle.pool_layouts.proofs.Shared.{is_name_byte, spelled, decimal, IsWritable, AreWritable, decimal_is, Tree, num, symbol, undef, add, mult, power, root, neg, sub, div, Trees, none, more}
-use Rattle.pool_layouts.proofs.Shared.{Layout, number, name, plus, minus, times, row, fraction, raised, radical, paren, Layouts, nothing, beside, unless, layout, layout_of_sum, layout_of_terms}
-use Rattle.pool_layouts.proofs.Shared.{layout_of_product, layout_of_factors, Block, blanks, centred, height, level, level_line, level_lines, line_or_blanks, picture, pictures, root_character}
-use Rattle.pool_layouts.proofs.{Shared.times_character, Lines.lines_long}
-use Rattle.std.proofs.{Common.{sum_by, unwrap_or}, lemmas.List.Sums.sum_by-cons}
+use Rattle.pool_layouts.proofs.Shared.{⊤, ◌≡◌, ℕ, zero, suc, ◌+◌, ◌-◌, ◌/◌, ◌==◌, if◌then◌else◌, max, List, [], ◌∷◌, ◌++◌, replicate, codes, length, nat_abs, nat_lt, nat_le, Bool, true, false, Option}
+use Rattle.pool_layouts.proofs.Shared.{Some, None, refl, ap, ◌∙◌, arith, list_all, and_from, and_parts, nat_tests, is_digit, is_name_byte, spelled, decimal, IsWritable, AreWritable, decimal_is, Tree}
+use Rattle.pool_layouts.proofs.Shared.{num, symbol, undef, add, mult, power, root, neg, sub, div, Trees, none, more, Layout, number, name, plus, minus, times, row, fraction, raised, radical, paren}
+use Rattle.pool_layouts.proofs.Shared.{Layouts, nothing, beside, unless, layout, layout_of_sum, layout_of_terms, layout_of_product, layout_of_factors, Block, blanks, centred, height, level}
+use Rattle.pool_layouts.proofs.{Shared.{level_line, level_lines, line_or_blanks, picture, pictures, root_character}, Shared.times_character, Lines.lines_long}
+use Rattle.std.proofs.{lemmas.List.Sums.sum_by-cons, Common.{sum_by, unwrap_or}}
 use Rattle.unicode_width.specs.Width.{char_width, str_width}
-use Rattle.unicode_width.proofs.{Rules.{is_simple, str_width-simple, width_or_zero}, Computing.unicode_width}
+use Rattle.unicode_width.proofs.{Computing.unicode_width, Rules.{is_simple, str_width-simple, width_or_zero}}
 use Rattle.pool_layouts.specs.Columns.{TakeOneColumnEach}
 
 -- a character of one column that joins no other

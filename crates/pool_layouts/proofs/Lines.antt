@@ -1,9 +1,8 @@
 -- The rows of a picture: how long they are, and how many bytes they take.
-use Rattle.pool_layouts.proofs.Shared.{◌≡◌, ◌≢◌, ◌∙◌, if◌then◌else◌, ℕ, zero, suc, ◌+◌, ◌-◌, ◌*◌, ◌/◌, ◌<◌, ◌≤◌, max, List, [], ◌∷◌}
-use Rattle.pool_layouts.proofs.Shared.{◌++◌, length, replicate, codes, nat_lt, nat_eq, nat_abs, Bool, true, false, Option, encode_utf8_all, refl, sym, ap, arith, length-append}
-use Rattle.pool_layouts.proofs.Shared.{length-replicate, encodes-append, encode_ascii, decimal, times_sign, root_sign, IsBlack, Layout, number, name, plus, minus, times, row, fraction, raised}
-use Rattle.pool_layouts.proofs.Shared.{radical, paren, Layouts, nothing, beside, Block, height, blanks, bar, roof, root_character, level, line_or_blanks, level_line, level_lines, centred}
-use Rattle.pool_layouts.proofs.Shared.{widths, most_above, times_character, picture, pictures, cut, before_cut}
+use Rattle.pool_layouts.proofs.Shared.{◌≡◌, ◌≢◌, ◌∙◌, if◌then◌else◌, ℕ, zero, suc, ◌+◌, ◌-◌, ◌*◌, ◌/◌, ◌<◌, ◌≤◌, max, List, [], ◌∷◌, ◌++◌, length, replicate, codes, nat_lt, nat_eq, nat_abs, Bool}
+use Rattle.pool_layouts.proofs.Shared.{true, false, Option, encode_utf8_all, refl, sym, ap, arith, length-append, length-replicate, encodes-append, encode_ascii, decimal, times_sign, root_sign}
+use Rattle.pool_layouts.proofs.Shared.{IsBlack, Layout, number, name, plus, minus, times, row, fraction, raised, radical, paren, Layouts, nothing, beside, Block, height, blanks, bar, roof}
+use Rattle.pool_layouts.proofs.Shared.{root_character, level, line_or_blanks, level_line, level_lines, centred, widths, most_above, times_character, picture, pictures, cut, before_cut}
 use Rattle.std.specs.Char.{encode_utf8}
 
 -- ---- each row has as many characters as the picture is wide

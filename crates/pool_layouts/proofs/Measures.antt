@@ -1,10 +1,9 @@
 -- The extents of layouts: what they are for each kind of node, and that they are small.
-use Rattle.pool_layouts.proofs.Shared.{◌≡◌, ◌∙◌, ℕ, suc, ◌+◌, ◌*◌, ◌<◌, ◌≤◌, ◌≢◌, max, List, [], ◌∷◌, ◌++◌, length, drop, drop-cons, add-one}
-use Rattle.pool_layouts.proofs.Shared.{get_or, nat_abs, nat_eq, true, refl, sym, ap, subst, arith, append_assoc, eqb-true, length-append, length-drop, drop-drop, drop_at, Kind, Payload}
-use Rattle.pool_layouts.proofs.Shared.{rational, named, bare, is_bare, kind_of_payload, size_of_payload, IsPayload, begins_with_letter, spelled, decimal_is, decimal, numerator_is, size_from}
-use Rattle.pool_layouts.proofs.Shared.{Label, Forest, empty, tree, join, arity, node_of, bytes_in, nodes_in, Extent, composed, drawn, drawings, composes, composes_kind, AllComposed, extent_from}
-use Rattle.pool_layouts.proofs.Shared.{extent_of, extents_of, HasSmall, HasPair, IsOver, IsSmall, AllValid, leaf_width, Layout, Layouts, nothing, beside, leaf_characters, Block, height, picture}
-use Rattle.pool_layouts.proofs.Shared.{pictures, widths, most_above, most_below, side_by_side, lowest}
+use Rattle.pool_layouts.proofs.Shared.{◌≡◌, ◌∙◌, ℕ, suc, ◌+◌, ◌*◌, ◌<◌, ◌≤◌, ◌≢◌, max, List, [], ◌∷◌, ◌++◌, length, drop, drop-cons, add-one, get_or, nat_abs, nat_eq, true, refl, sym, ap, subst}
+use Rattle.pool_layouts.proofs.Shared.{arith, append_assoc, eqb-true, length-append, length-drop, drop-drop, drop_at, Kind, Payload, rational, named, bare, is_bare, kind_of_payload, size_of_payload}
+use Rattle.pool_layouts.proofs.Shared.{IsPayload, begins_with_letter, spelled, decimal_is, decimal, numerator_is, size_from, Label, Forest, empty, tree, join, arity, node_of, bytes_in, nodes_in}
+use Rattle.pool_layouts.proofs.Shared.{Extent, composed, drawn, drawings, composes, composes_kind, AllComposed, extent_from, extent_of, extents_of, HasSmall, HasPair, IsOver, IsSmall, AllValid}
+use Rattle.pool_layouts.proofs.Shared.{leaf_width, Layout, Layouts, nothing, beside, leaf_characters, Block, height, picture, pictures, widths, most_above, most_below, side_by_side, lowest}
 use Rattle.std.proofs.Common.{ℤ}
 use Rattle.calc_terms.specs.Ratio.{Ratio, IsRat}
 use Rattle.line_text.proofs.Lengths.{number_text}

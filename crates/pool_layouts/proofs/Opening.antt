@@ -1,13 +1,11 @@
 -- What the steps of a row open to.
-use Rattle.pool_layouts.proofs.Shared.{◌≡◌, ◌≢◌, ◌∙◌, if◌then◌else◌, ℕ, suc, ◌+◌, ◌-◌, ◌*◌, ◌<◌, ◌≤◌, max, List, [], ◌∷◌, ◌++◌, length}
-use Rattle.pool_layouts.proofs.Shared.{map, drop, get_or, codes, nat_lt, nat_eq, Bool, Option, Some, None, refl, sym, ap, subst, arith, append_assoc, append-nil, lt-ltb, le-ltb, map-append}
-use Rattle.pool_layouts.proofs.Shared.{drop-drop, drop_at, Kind, Node, Payload, bare, kind_of_payload, IsPayload, Label, Forest, empty, tree, flatten, node_of, nodes_in, holds, payload_in}
-use Rattle.pool_layouts.proofs.Shared.{Visit, Extent, Nothing, Leaf, Bar, Roof, Root, Close, Ink, Step, Opened, visit_of, visits_of, extent_of, extents_of, HasSmall, IsOver, IsSmall, IsSpanOf}
-use Rattle.pool_layouts.proofs.Shared.{ShowsPart, ShowsLevel, Shows, ShowsIf, Opens, IsInk, ink_characters, weight, weight_if, count_if, leaf_characters, opened, span_of, part_of, level_if}
-use Rattle.pool_layouts.proofs.Shared.{level_opened, centred_opened, fraction_opened, raised_opened, radical_opened, paren_opened, row_opened, Block, height, blanks, bar, roof, root_character}
-use Rattle.pool_layouts.proofs.Shared.{level, line_or_blanks, level_lines, centred, most_above, visits_length}
-use Rattle.pool_layouts.proofs.Measures.{blocks_of, block_of, others_read, behind_first, first_small, IsOneOver, IsTwoOver, bare_of, leaf_line, leaf_some}
-use Rattle.pool_layouts.proofs.Shown.{first_is, others_are, inside_list}
+use Rattle.pool_layouts.proofs.Shared.{◌≡◌, ◌≢◌, ◌∙◌, if◌then◌else◌, ℕ, suc, ◌+◌, ◌-◌, ◌*◌, ◌<◌, ◌≤◌, max, List, [], ◌∷◌, ◌++◌, length, map, drop, get_or, codes, nat_lt, nat_eq, Bool, Option, Some}
+use Rattle.pool_layouts.proofs.Shared.{None, refl, sym, ap, subst, arith, append_assoc, append-nil, lt-ltb, le-ltb, map-append, drop-drop, drop_at, Kind, Node, Payload, bare, kind_of_payload}
+use Rattle.pool_layouts.proofs.Shared.{IsPayload, Label, Forest, empty, tree, flatten, node_of, nodes_in, holds, payload_in, Visit, Extent, Nothing, Leaf, Bar, Roof, Root, Close, Ink, Step, Opened}
+use Rattle.pool_layouts.proofs.Shared.{visit_of, visits_of, extent_of, extents_of, HasSmall, IsOver, IsSmall, IsSpanOf, ShowsPart, ShowsLevel, Shows, ShowsIf, Opens, IsInk, ink_characters, weight}
+use Rattle.pool_layouts.proofs.Shared.{weight_if, count_if, leaf_characters, opened, span_of, part_of, level_if, level_opened, centred_opened, fraction_opened, raised_opened, radical_opened}
+use Rattle.pool_layouts.proofs.Shared.{paren_opened, row_opened, Block, height, blanks, bar, roof, root_character, level, line_or_blanks, level_lines, centred, most_above, visits_length}
+use Rattle.pool_layouts.proofs.{Measures.{blocks_of, block_of, others_read, behind_first, first_small, IsOneOver, IsTwoOver, bare_of, leaf_line, leaf_some}, Shown.{first_is, others_are, inside_list}}
 use Rattle.std.proofs.Common.{◌^◌}
 use Rattle.pool_layouts.specs.declared.steps.Span.{Span}
 use Rattle.calc_terms.specs.declared.kind.Kind.TheVariants as kind

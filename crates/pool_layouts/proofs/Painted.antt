@@ -1,8 +1,7 @@
 -- A row of a picture as far as it is painted.
-use Rattle.pool_layouts.proofs.Shared.{option_to_list, ◌≡◌, ◌∙◌, ℕ, ◌+◌, ◌<◌, ◌≤◌, List, [], ◌∷◌, ◌++◌, length, Option, Some, None, encode_utf8_all, refl}
-use Rattle.pool_layouts.proofs.Shared.{sym, ap, subst, arith, append_assoc, append-nil, length-append, length-replicate, replicate-append-replicate, encodes-append, Forest, Visit, Extent, Step}
-use Rattle.pool_layouts.proofs.{Shared.{Opened, Shows, ShowsIf, Opens, IsLine, IsBlack, ink_characters, inked, blanks_left, weight, weight_if, count_if, blanks, cut}, Inks.ink_black}
-use Rattle.pool_layouts.proofs.Lines.{cut-append_blanks, cut_kept}
+use Rattle.pool_layouts.proofs.Shared.{option_to_list, ◌≡◌, ◌∙◌, ℕ, ◌+◌, ◌<◌, ◌≤◌, List, [], ◌∷◌, ◌++◌, length, Option, Some, None, encode_utf8_all, refl, sym, ap, subst, arith, append_assoc}
+use Rattle.pool_layouts.proofs.Shared.{append-nil, length-append, length-replicate, replicate-append-replicate, encodes-append, Forest, Visit, Extent, Step, Opened, Shows, ShowsIf, Opens, IsLine}
+use Rattle.pool_layouts.proofs.{Shared.{IsBlack, ink_characters, inked, blanks_left, weight, weight_if, count_if, blanks, cut}, Inks.ink_black, Lines.{cut-append_blanks, cut_kept}}
 use Rattle.pool_layouts.specs.Painting.{count}
 
 -- ---- weights

@@ -1,7 +1,6 @@
 -- The extent of layouts side by side, gathered from the left.
-use Rattle.pool_layouts.proofs.Shared.{◌≡◌, ℕ, suc, ◌+◌, ◌<◌, ◌≤◌, max, List, length, arith, Label, Forest, empty, tree, arity, nodes_in, Extent, drawings, extent_from}
-use Rattle.pool_layouts.proofs.Shared.{extent_of, HasSmall, IsSmall, pictures, widths, most_above, most_below, side_by_side}
-use Rattle.pool_layouts.proofs.Measures.{blocks_of, first_within, behind_first, extent_same, bounded, bytes_nodes, most_heights}
+use Rattle.pool_layouts.proofs.Shared.{◌≡◌, ℕ, suc, ◌+◌, ◌<◌, ◌≤◌, max, List, length, arith, Label, Forest, empty, tree, arity, nodes_in, Extent, drawings, extent_from, extent_of, HasSmall, IsSmall}
+use Rattle.pool_layouts.proofs.{Shared.{pictures, widths, most_above, most_below, side_by_side}, Measures.{blocks_of, first_within, behind_first, extent_same, bounded, bytes_nodes, most_heights}}
 
 -- so many layouts are gathered, and the others are listed from a place on
 pub record IsGathering (k : Forest) (count at : ℕ) (es : List Extent) (row : Extent) : Type 0 where

@@ -1,10 +1,9 @@
 -- A row of the picture of a layout tree.
-use Rattle.pool_layouts.proofs.Shared.{◌≡◌, ◌∙◌, nat_eq, ℕ, zero, suc, ◌+◌, ◌*◌, ◌<◌, ◌≤◌, List, [], ◌∷◌, length, encode_utf8_all, true, sym, ap, subst}
-use Rattle.pool_layouts.proofs.Shared.{arith, append-nil, eqb-true, Kind, Payload, bare, size_of_payload, IsPayload, Content, spare_of, State, Forest, empty, tree, arity, nodes_in, bytes_in}
-use Rattle.pool_layouts.proofs.Shared.{AllNodes, tree_at, Stands, forest, one_at, Visit, Extent, Step, visits_of, drawn, drawing, drawings, composed, composes, composes_kind, part, AllComposed}
-use Rattle.pool_layouts.proofs.Shared.{IsLayout, Layout, Layouts, nothing, beside, AllValid, IsFound, IsLine, span_of, picture, height, widths, visits_length, valid}
-use Rattle.pool_layouts.proofs.{Measures.{blocks_of, block_of, digits_fit, drawn_bounded, bounded, first_small}, Measuring.{IsMeasured, alone}, Inks.{decimal_small, names_small}}
-use Rattle.pool_layouts.proofs.{Lines.{lines_long, lines_bytes, signs, all_signs, HasSmallLeaves, HaveSmallLeaves}, Shown.known}
+use Rattle.pool_layouts.proofs.Shared.{◌≡◌, ◌∙◌, nat_eq, ℕ, zero, suc, ◌+◌, ◌*◌, ◌<◌, ◌≤◌, List, [], ◌∷◌, length, encode_utf8_all, true, sym, ap, subst, arith, append-nil, eqb-true, Kind, Payload}
+use Rattle.pool_layouts.proofs.Shared.{bare, size_of_payload, IsPayload, Content, spare_of, State, Forest, empty, tree, arity, nodes_in, bytes_in, AllNodes, tree_at, Stands, forest, one_at, Visit}
+use Rattle.pool_layouts.proofs.Shared.{Extent, Step, visits_of, drawn, drawing, drawings, composed, composes, composes_kind, part, AllComposed, IsLayout, Layout, Layouts, nothing, beside, AllValid}
+use Rattle.pool_layouts.proofs.{Shared.{IsFound, IsLine, span_of, picture, height, widths, visits_length, valid}, Measures.{blocks_of, block_of, digits_fit, drawn_bounded, bounded, first_small}}
+use Rattle.pool_layouts.proofs.{Measuring.{IsMeasured, alone}, Inks.{decimal_small, names_small}, Shown.known, Lines.{lines_long, lines_bytes, signs, all_signs, HasSmallLeaves, HaveSmallLeaves}}
 use Rattle.calc_terms.specs.declared.kind.Kind.TheVariants as kind
 use Rattle.pool_layouts.specs.declared.steps.Step.TheVariants as step
 

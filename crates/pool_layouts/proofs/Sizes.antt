@@ -1,8 +1,7 @@
 -- The bytes that a layout's nodes take one after another.
-use Rattle.pool_layouts.proofs.Shared.{◌≡◌, ◌∙◌, if◌then◌else◌, ℕ, suc, ◌+◌, ◌-◌, ◌≤◌, List, [], ◌∷◌, ◌++◌, nat_le, nat_eq, Bool, true, Option, Some}
-use Rattle.pool_layouts.proofs.Shared.{None, Result, Ok, Err, refl, sym, ap, arith, append_assoc, append-nil, eqb-true, le-leb, Kind, Payload, bare, size_of_payload, Full, taking, Forest, empty}
-use Rattle.pool_layouts.proofs.Shared.{tree, join, arity, Place, part_sizes, parts_sizes, composed, drawn, drawings, composes, composes_kind, Layout, Layouts, nothing, beside, one_part}
-use Rattle.pool_layouts.proofs.Shared.{join_parts, around_sizes, IsAround, mark_before, marks, within}
+use Rattle.pool_layouts.proofs.Shared.{◌≡◌, ◌∙◌, if◌then◌else◌, ℕ, suc, ◌+◌, ◌-◌, ◌≤◌, List, [], ◌∷◌, ◌++◌, nat_le, nat_eq, Bool, true, Option, Some, None, Result, Ok, Err, refl, sym, ap, arith}
+use Rattle.pool_layouts.proofs.Shared.{append_assoc, append-nil, eqb-true, le-leb, Kind, Payload, bare, size_of_payload, Full, taking, Forest, empty, tree, join, arity, Place, part_sizes, parts_sizes}
+use Rattle.pool_layouts.proofs.Shared.{composed, drawn, drawings, composes, composes_kind, Layout, Layouts, nothing, beside, one_part, join_parts, around_sizes, IsAround, mark_before, marks, within}
 use Rattle.calc_terms.specs.declared.kind.Kind.TheVariants as kind
 
 pub join_parts-nothing : (ls : Layouts) → join_parts ls nothing ≡ ls

@@ -1,8 +1,7 @@
 -- How the nodes of a layout find room where it is built from its leaves up.
 use Rattle.std.specs.Prelude.{ℕ, List, [], ◌∷◌, ◌++◌, Result}
 use Rattle.calc_terms.specs.declared.kind.Kind.TheVariants as kind
-use Rattle.calc_terms.specs.Payload.{bare, size_of_payload}
-use Rattle.calc_terms.specs.Trees.{num, symbol, root_size}
+use Rattle.calc_terms.specs.{Payload.{bare, size_of_payload}, Trees.{num, symbol, root_size}}
 use Rattle.node_pool.specs.declared.full.Full.{Full}
 use Rattle.tree_handles.specs.Building.{taking}
 use Rattle.pool_layouts.specs.Layouts.{Layout, number, name, plus, minus, times, row, fraction, raised, radical, paren, Layouts, nothing, beside}

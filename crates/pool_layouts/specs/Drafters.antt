@@ -1,7 +1,6 @@
 -- A drafter's fields.
 use Rattle.std.specs.Prelude.{◌<◌, ◌*◌, vec_capacity}
-use Rattle.pool_layouts.specs.declared.drafter.Drafter.TheInside.{Inside}
-use Rattle.pool_layouts.specs.Drafts.{Draft}
+use Rattle.pool_layouts.specs.{declared.drafter.Drafter.TheInside.{Inside}, Drafts.{Draft}}
 
 abbrev pub draft_of : Inside → Draft
 draft_of d = record { pool_size = d.pool_size; nodes = d.cells.items; extents = d.extents.items }

@@ -1,11 +1,7 @@
 -- What a drafter is to its callers.
 use Rattle.std.specs.Prelude.{ℕ, ◌≡◌, ◌≤◌, ◌^◌, List, length}
-use Rattle.tree_handles.specs.declared.visits.Visit.{Visit}
-use Rattle.tree_handles.specs.Forest.{Forest}
-use Rattle.tree_handles.specs.Inside.{tree_at}
-use Rattle.tree_handles.specs.Visits.{visits_of}
-use Rattle.pool_layouts.specs.declared.extents.Extent.{Extent}
-use Rattle.pool_layouts.specs.Extents.{HasExtents}
+use Rattle.tree_handles.specs.{declared.visits.Visit.{Visit}, Forest.{Forest}, Inside.{tree_at}, Visits.{visits_of}}
+use Rattle.pool_layouts.specs.{declared.extents.Extent.{Extent}, Extents.{HasExtents}}
 
 -- the most bytes of the pools that it serves, the nodes of the tree that was listed last, and the extents of these
 pub record Draft : Type 0 where

@@ -2,11 +2,8 @@
 use Rattle.std.specs.Prelude.{ℕ, zero, suc, ◌≡◌, ◌==◌, Bool, true, false}
 use Rattle.calc_terms.specs.declared.kind.Kind.{Kind}
 use Rattle.calc_terms.specs.declared.kind.Kind.TheVariants as kind
-use Rattle.calc_terms.specs.Fractions.{lowest}
-use Rattle.calc_terms.specs.Payload.{Payload, rational, named, bare}
-use Rattle.tree_handles.specs.Forest.{Label, Forest, empty, tree, AllNodes}
-use Rattle.tree_handles.specs.Handed.{Ends, AllOnce}
-use Rattle.tree_handles.specs.Inside.{holds, tree_at}
+use Rattle.calc_terms.specs.{Fractions.{lowest}, Payload.{Payload, rational, named, bare}}
+use Rattle.tree_handles.specs.{Forest.{Label, Forest, empty, tree, AllNodes}, Handed.{Ends, AllOnce}, Inside.{holds, tree_at}}
 use Rattle.pool_layouts.specs.Layouts.{Layout, number, name, plus, minus, times, row, fraction, raised, radical, paren, Layouts, nothing, beside}
 
 -- the part at a place among others, counted from 0

@@ -3,9 +3,7 @@ use Rattle.std.specs.Prelude.{ℕ, suc, ◌≡◌, ◌≤◌, ◌^◌, List, [],
 use Rattle.calc_terms.specs.Payload.{Payload, rational, named, bare, IsPayload}
 use Rattle.calc_language.specs.Texts.{decimal}
 use Rattle.tree_handles.specs.Forest.{Label, Forest, empty, tree, arity, nodes_in, bytes_in, AllNodes}
-use Rattle.pool_layouts.specs.declared.extents.Extent.{Extent}
-use Rattle.pool_layouts.specs.Drawings.{drawn, drawings, composes, AllComposed}
-use Rattle.pool_layouts.specs.Pictures.{Block, picture}
+use Rattle.pool_layouts.specs.{declared.extents.Extent.{Extent}, Drawings.{drawn, drawings, composes, AllComposed}, Pictures.{Block, picture}}
 
 -- the extent of a picture, for a layout of so many nodes
 abbrev pub extent_from : ℕ → Block → Extent

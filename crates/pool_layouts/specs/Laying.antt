@@ -1,15 +1,9 @@
 -- What is placed for a face's node, and how it may be refused.
 use Rattle.std.specs.Prelude.{ℕ, ◌≡◌, ◌≤◌, List, [], ◌∷◌, Option, Some, None, Err, Bool, true, false}
-use Rattle.calc_terms.specs.declared.kind.Kind.{Kind}
-use Rattle.calc_terms.specs.Payload.{Payload, rational, named, bare, is_bare, size_of_payload}
-use Rattle.node_pool.specs.declared.full.Full.{Full}
-use Rattle.node_pool.specs.State.{State, free_of}
-use Rattle.tree_handles.specs.Building.{taking}
-use Rattle.tree_handles.specs.Forest.{Forest, join, arity, bytes_in, one_tree, last_trees, before_last}
-use Rattle.tree_handles.specs.Handed.{Ends, Starts, AllOnce}
-use Rattle.tree_handles.specs.Standing.{forest, Refuses, LacksBytes}
-use Rattle.pool_layouts.specs.Drawings.{AllComposed, composes_kind, drawings}
-use Rattle.pool_layouts.specs.Places.{laid, marks}
+use Rattle.calc_terms.specs.{declared.kind.Kind.{Kind}, Payload.{Payload, rational, named, bare, is_bare, size_of_payload}}
+use Rattle.node_pool.specs.{declared.full.Full.{Full}, State.{State, free_of}}
+use Rattle.tree_handles.specs.{Building.{taking}, Forest.{Forest, join, arity, bytes_in, one_tree, last_trees, before_last}, Handed.{Ends, Starts, AllOnce}, Standing.{forest, Refuses, LacksBytes}}
+use Rattle.pool_layouts.specs.{Drawings.{AllComposed, composes_kind, drawings}, Places.{laid, marks}}
 
 -- a number or a name
 abbrev pub is_leaf : Payload → Bool

@@ -1,7 +1,6 @@
 -- Layouts: how the parts of a face stand to one another when it is drawn.
 use Rattle.std.specs.Prelude.{ℕ, List, Bool, ◌||◌, nat_le, if◌then◌else◌}
-use Rattle.calc_terms.specs.Fractions.{Fraction}
-use Rattle.calc_terms.specs.Trees.{Tree, num, symbol, undef, add, mult, power, root, neg, sub, div, Trees, none, more, is_div}
+use Rattle.calc_terms.specs.{Fractions.{Fraction}, Trees.{Tree, num, symbol, undef, add, mult, power, root, neg, sub, div, Trees, none, more, is_div}}
 use Rattle.calc_language.specs.Texts.{Place, left_of_difference, first_of_sum, later_of_sum, first_of_product, later_of_product, level, admits}
 
 -- a number, a name by its bytes, a mark, or a node over its parts: side by side in a row, one above the other with a bar between, raised, under a root sign, in parentheses

@@ -3,20 +3,13 @@ use Rattle.std.specs.Prelude.{ℕ, ◌+◌, ◌*◌, ◌-◌, ◌/◌, max, nat_
 use Rattle.calc_terms.specs.declared.kind.Kind.TheVariants as kind
 use Rattle.calc_terms.specs.Payload.{Payload, rational, named, bare, IsPayload}
 use Rattle.calc_language.specs.Texts.{decimal}
-use Rattle.tree_handles.specs.Forest.{Label, Forest, empty, tree, nodes_in, AllNodes}
-use Rattle.tree_handles.specs.Inside.{holds, payload_in}
-use Rattle.tree_handles.specs.declared.visits.Visit.{Visit}
-use Rattle.pool_layouts.specs.declared.extents.Extent.{Extent}
-use Rattle.pool_layouts.specs.declared.ink.Ink.{Ink}
-use Rattle.pool_layouts.specs.declared.ink.Ink.TheVariants.{Nothing, Leaf, Bar, Roof, Root, Open, Close}
-use Rattle.pool_layouts.specs.declared.steps.Span.{Span}
+use Rattle.tree_handles.specs.{Forest.{Label, Forest, empty, tree, nodes_in, AllNodes}, Inside.{holds, payload_in}, declared.visits.Visit.{Visit}}
+use Rattle.pool_layouts.specs.{declared.extents.Extent.{Extent}, declared.ink.Ink.{Ink}, declared.ink.Ink.TheVariants.{Nothing, Leaf, Bar, Roof, Root, Open, Close}, declared.steps.Span.{Span}}
 use Rattle.pool_layouts.specs.declared.steps.Step.{Step}
 use Rattle.pool_layouts.specs.declared.steps.Step.TheVariants as step
-use Rattle.pool_layouts.specs.declared.steps.Opened.{Opened}
+use Rattle.pool_layouts.specs.{declared.steps.Opened.{Opened}, Drawings.{drawn, drawings}, Extents.{HasSmall}, Pictures.{blanks, bar, roof, root_character, times_character, level, picture, pictures}}
+use Rattle.pool_layouts.specs.Pictures.{level_lines}
 use Rattle.tree_handles.specs.Visits.{visits_of}
-use Rattle.pool_layouts.specs.Drawings.{drawn, drawings}
-use Rattle.pool_layouts.specs.Extents.{HasSmall}
-use Rattle.pool_layouts.specs.Pictures.{blanks, bar, roof, root_character, times_character, level, picture, pictures, level_lines}
 
 -- ---- ink
 

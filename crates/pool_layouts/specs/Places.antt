@@ -2,13 +2,10 @@
 use Rattle.std.specs.Prelude.{Bool, if◌then◌else◌, Option, Some, None}
 use Rattle.calc_terms.specs.declared.kind.Kind.{Kind}
 use Rattle.calc_terms.specs.declared.kind.Kind.TheVariants as kind
-use Rattle.calc_terms.specs.Payload.{Payload, rational, named, bare}
-use Rattle.calc_terms.specs.Trees.{Tree, Trees, none, more, root_kind}
-use Rattle.line_text.specs.Places.{next_place, is_div_kind, deciding_kind, admits_kind}
-use Rattle.line_text.specs.declared.place.Place.{Place}
-use Rattle.line_text.specs.declared.place.Place.TheVariants.{WholeText, LaterOfSum, RightOfDifference, UnderSign, LaterOfProduct, LeftOfQuotient, RightOfQuotient, Base, Exponent, UnderRoot}
-use Rattle.pool_layouts.specs.Layouts.{Layout, Layouts, nothing, beside, one_part, join_parts, layout}
-use Rattle.pool_layouts.specs.Drawings.{composed}
+use Rattle.calc_terms.specs.{Payload.{Payload, rational, named, bare}, Trees.{Tree, Trees, none, more, root_kind}}
+use Rattle.line_text.specs.{Places.{next_place, is_div_kind, deciding_kind, admits_kind}, declared.place.Place.{Place}, declared.place.Place.TheVariants.{WholeText, LaterOfSum, RightOfDifference}}
+use Rattle.line_text.specs.declared.place.Place.TheVariants.{UnderSign, LaterOfProduct, LeftOfQuotient, RightOfQuotient, Base, Exponent, UnderRoot}
+use Rattle.pool_layouts.specs.{Layouts.{Layout, Layouts, nothing, beside, one_part, join_parts, layout}, Drawings.{composed}}
 
 -- the mark before a tree there
 abbrev pub mark_before : Place → Option Kind

@@ -1,7 +1,6 @@
 -- The serial text of a layout: one line, with parentheses round whatever does not stand side by side.
 use Rattle.std.specs.Prelude.{ℕ, List, [], ◌++◌, nat_abs, codes}
-use Rattle.calc_language.specs.Texts.{decimal}
-use Rattle.calc_language.specs.Tokens.{times_sign, root_sign}
+use Rattle.calc_language.specs.{Texts.{decimal}, Tokens.{times_sign, root_sign}}
 use Rattle.pool_layouts.specs.Layouts.{Layout, number, name, plus, minus, times, row, fraction, raised, radical, paren, Layouts, nothing, beside}
 
 abbrev mutual

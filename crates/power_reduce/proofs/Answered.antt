@@ -1,8 +1,9 @@
 -- The answers to the powers that no rule rewrites.
 use Rattle.std.proofs.Common.{◌≡◌, ◌<◌, Bool, true, false, ◌&&◌, ◌||◌, [], ◌++◌, length, inl, inr, refl, sym, ap, ◌∙◌, arith}
-use Rattle.power_reduce.proofs.Shared.{and_parts, Contains-append_left, Fraction, zero_fraction, one_fraction, nest, nest_of, load, is_number, IsNumber, IsTerm, AreTerms, is_reduced, HasForm, IsPowerForm, num_one, Tree, num, undef, power, Trees, none, more, names, names_of, AllParts, AllPartsOf, is_undef, itself, in_base, in_exponent, number_words, number_test, power_one_is_base, power_zero_is_one, reduced_test, undef_part, reduced_parts, HasNoNewName, KeepsMeanings, keeps, is_zero, has_no_power, has_number_power, IsWrittenPower, IsPowerAnswer, is_zero_or_one}
-use Rattle.power_reduce.proofs.Written.{zero_written, one_written, kept_written}
-use Rattle.power_reduce.proofs.Bounds.{load_at_most_weight}
+use Rattle.power_reduce.proofs.Shared.{and_parts, Contains-append_left, Fraction, zero_fraction, one_fraction, nest, nest_of, load, is_number, IsNumber, IsTerm, AreTerms, is_reduced, HasForm}
+use Rattle.power_reduce.proofs.Shared.{IsPowerForm, num_one, Tree, num, undef, power, Trees, none, more, names, names_of, AllParts, AllPartsOf, is_undef, itself, in_base, in_exponent, number_words}
+use Rattle.power_reduce.proofs.Shared.{number_test, power_one_is_base, power_zero_is_one, reduced_test, undef_part, reduced_parts, HasNoNewName, KeepsMeanings, keeps, is_zero, has_no_power}
+use Rattle.power_reduce.proofs.{Shared.{has_number_power, IsWrittenPower, IsPowerAnswer, is_zero_or_one}, Written.{zero_written, one_written, kept_written}, Bounds.{load_at_most_weight}}
 use Rattle.calc_algebra.proofs.Names.{names_of_term, names_of_terms}
 use Rattle.calc_measures.proofs.Nests.{nest_term, nest_terms}
 use Rattle.coefficients.proofs.Forms.{term_parts, terms_parts}

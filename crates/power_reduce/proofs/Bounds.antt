@@ -1,6 +1,7 @@
 -- Loads and weights of powers.
 use Rattle.std.proofs.Common.{◌≡◌, ℕ, ◌+◌, ◌≤◌, Bool, true, false, ◌||◌, if◌then◌else◌, refl, arith, add-le-add}
-use Rattle.power_reduce.proofs.Shared.{load, weight, weight_of_factors, load_of_factor, load_of_factors, has_coefficient, is_number, IsNumber, number_test, number_words, is_opaque_exponent, base_of, Tree, num, symbol, undef, add, mult, power, root, neg, sub, div, Trees, none, more, is_undef}
+use Rattle.power_reduce.proofs.Shared.{load, weight, weight_of_factors, load_of_factor, load_of_factors, has_coefficient, is_number, IsNumber, number_test, number_words, is_opaque_exponent, base_of}
+use Rattle.power_reduce.proofs.Shared.{Tree, num, symbol, undef, add, mult, power, root, neg, sub, div, Trees, none, more, is_undef}
 
 -- a test that leaves nothing or a number
 at_most : (t : Bool) (x n : ℕ) → x ≤ n → (if t then 0 else x) ≤ n

@@ -1,6 +1,7 @@
 -- Whole exponents, and those that are half of an odd whole number.
 use Rattle.std.proofs.Common.{◌≡◌, ℕ, ℤ, true, false, ◌==◌, Some, None, refl, arith}
-use Rattle.power_reduce.proofs.Shared.{and_parts, eqb-true, false_from_ne_true, whole_fraction, Tree, num, is_undef, fraction_whole, is_half_num, is_whole_num, goes_inside, power_of_root, rewritten, rewritten_whole}
+use Rattle.power_reduce.proofs.Shared.{and_parts, eqb-true, false_from_ne_true, whole_fraction, Tree, num, is_undef, fraction_whole, is_half_num, is_whole_num, goes_inside, power_of_root, rewritten}
+use Rattle.power_reduce.proofs.Shared.{rewritten_whole}
 pub use Rattle.calc_algebra.proofs.ReducedLaws.{one_and_two as one_is_not_two}
 
 -- ---- whole exponents

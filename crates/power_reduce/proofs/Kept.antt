@@ -1,6 +1,9 @@
 -- Powers that no rule changes are reduced.
 use Rattle.std.proofs.Common.{◌≡◌, ◌≤◌, Bool, true, false, ◌&&◌, ◌||◌, not, if◌then◌else◌, inr, Some, None, pos, refl, ap, arith}
-use Rattle.power_reduce.proofs.Shared.{and_from, eq-eqb, not_from_false, Fraction, zero_fraction, one_fraction, is_zero_fraction, is_one_fraction, int_is_zero, int_is_one, int_is_even, int_is_negative, is_number, classes, is_reduced, is_whole_num, is_transparent_power, HasForm, IsPowerForm, IsWholePowerForm, Tree, num, symbol, undef, add, mult, power, root, neg, sub, div, AllParts, is_undef, is_mult, is_root, whole_numerator, whole_denominator, reduced_words, reduced_test, is_zero_or_one, goes_inside, is_even_whole, rewritten, rewritten_whole}
+use Rattle.power_reduce.proofs.Shared.{and_from, eq-eqb, not_from_false, Fraction, zero_fraction, one_fraction, is_zero_fraction, is_one_fraction, int_is_zero, int_is_one, int_is_even}
+use Rattle.power_reduce.proofs.Shared.{int_is_negative, is_number, classes, is_reduced, is_whole_num, is_transparent_power, HasForm, IsPowerForm, IsWholePowerForm, Tree, num, symbol, undef, add, mult}
+use Rattle.power_reduce.proofs.Shared.{power, root, neg, sub, div, AllParts, is_undef, is_mult, is_root, whole_numerator, whole_denominator, reduced_words, reduced_test, is_zero_or_one, goes_inside}
+use Rattle.power_reduce.proofs.Shared.{is_even_whole, rewritten, rewritten_whole}
 use Rattle.tree_bits.proofs.ExponentBits.{nothing_is}
 use Rattle.number_forms.proofs.Placings.{one_test}
 use Rattle.coefficients.proofs.Forms.{reduced_parts}

@@ -1,7 +1,9 @@
 -- Trees that the tests build.
 use Rattle.std.proofs.Common.{arith, ◌≡◌, ℕ, List, true, pos, Result, inl, inr, refl, ap, ◌∙◌, subst}
 use Rattle.std.specs.Prelude.{IfOk}
-use Rattle.power_reduce.proofs.Shared.{is_clean, left_of, Fraction, lowest, whole_fraction, zero_fraction, one_fraction, gcd, is_number, ratio_of, value_of, Ratio, whole, is_reduced, square_root, Tree, num, symbol, mult, root, none, more, Rat, number_words, reduced_test, parts_reduced, number_parts, State, IsStep, tree_of, IsHanded, IfDone, Step, NumberFault, Forest, forest, given_handed, given_told}
+use Rattle.power_reduce.proofs.Shared.{is_clean, left_of, Fraction, lowest, whole_fraction, zero_fraction, one_fraction, gcd, is_number, ratio_of, value_of, Ratio, whole, is_reduced, square_root}
+use Rattle.power_reduce.proofs.Shared.{Tree, num, symbol, mult, root, none, more, Rat, number_words, reduced_test, parts_reduced, number_parts, State, IsStep, tree_of, IsHanded, IfDone, Step}
+use Rattle.power_reduce.proofs.Shared.{NumberFault, Forest, forest, given_handed, given_told}
 use Rattle.reduce_port.specs.declared.step.Step.TheVariants as step
 
 pub number_reduced : (q : Fraction) → is_reduced (num q) ≡ true

@@ -1,8 +1,9 @@
 -- The parts of a product: its coefficient, where it is not 1, before its factors.
 use Rattle.std.proofs.Common.{◌≡◌, ℕ, ◌≤◌, true, false, Some, refl, sym, ap, ◌∙◌, subst, arith}
-use Rattle.power_reduce.proofs.Shared.{is_number, is_reduced, is_num_one, split_product, Tree, mult, Trees, more, count, is_mult, GivesTwo, seen, State, goes_inside, parts_of, raised, rewritten, plain, children_of, Forest, IsHanded, Gives, tree_at, root_tree, Stands, forest, given_handed, given_other, given_root, given_same, given_told}
-use Rattle.coefficients.proofs.Lengths.{some_factors}
+use Rattle.power_reduce.proofs.Shared.{is_number, is_reduced, is_num_one, split_product, Tree, mult, Trees, more, count, is_mult, GivesTwo, seen, State, goes_inside, parts_of, raised, rewritten}
+use Rattle.power_reduce.proofs.Shared.{plain, children_of, Forest, IsHanded, Gives, tree_at, root_tree, Stands, forest, given_handed, given_other, given_root, given_same, given_told}
 use Rattle.power_reduce.proofs.Exponents.{as_whole, inside_whole, whole_no_half}
+use Rattle.coefficients.proofs.Lengths.{some_factors}
 
 -- with a coefficient 1, and with another
 pub led_by_one : (ts : Trees) → is_num_one (split_product ts).coefficient ≡ true → parts_of ts ≡ (split_product ts).factors

@@ -1,11 +1,13 @@
 -- Whole powers of rationals.
 use Rattle.std.proofs.Common.{◌≡◌, ◌≢◌, ℕ, ◌<◌, ◌^◌, ◌≤ℤ◌, ◌<ℤ◌, ℤ, pos, negsuc, neg_ℤ, ◌-ℤ◌, zero, suc, Bool, true, false, if◌then◌else◌, Result, refl, sym, ap, ◌∙◌, subst, arith, to_z, of_z}
 use Rattle.std.specs.Prelude.{nat_abs, IfErr}
-use Rattle.power_reduce.proofs.Shared.{ints, w128, IsErrAnd, Operation, pow_op, fraction_power, operation_fits, result_of, Fraction, lowest, whole_fraction, zero_fraction, one_fraction, inverse, is_zero_fraction, int_is_zero, PlainValue, calculated, powered, exactly, undefined, overflow, plain_value, Rat, ratio_of, value_of, Ratio, whole, Tree, num, undef, power, whole_numerator, whole_denominator, zero_is, KeepsMeanings-eq, number_test, power_of_rational, negative_power_of_rational, power_zero_is_one, zero_to_nothing, State, plain_overflow, AnswersRationals, IsPowerAnswer, has_no_power, is_at_most_zero, IsWrittenPower, ratio_parts, told, Overflow, IsPlainAnswer, IsPlainOverflow, keeps, NumberFault, by_test}
-use Rattle.power_reduce.proofs.Answered.{number_answer, undefined_answer}
-use Rattle.power_reduce.proofs.Written.{zero_exponent, one_exponent, number_power, few_classes, rational_classes, first_power}
-use Rattle.rational128.specs.Refusals.{operation_of}
-use Rattle.rational128.specs.declared.overflow.Op.TheVariants.{Pow}
+use Rattle.power_reduce.proofs.Shared.{ints, w128, IsErrAnd, Operation, pow_op, fraction_power, operation_fits, result_of, Fraction, lowest, whole_fraction, zero_fraction, one_fraction, inverse}
+use Rattle.power_reduce.proofs.Shared.{is_zero_fraction, int_is_zero, PlainValue, calculated, powered, exactly, undefined, overflow, plain_value, Rat, ratio_of, value_of, Ratio, whole, Tree, num}
+use Rattle.power_reduce.proofs.Shared.{undef, power, whole_numerator, whole_denominator, zero_is, KeepsMeanings-eq, number_test, power_of_rational, negative_power_of_rational, power_zero_is_one}
+use Rattle.power_reduce.proofs.Shared.{zero_to_nothing, State, plain_overflow, AnswersRationals, IsPowerAnswer, has_no_power, is_at_most_zero, IsWrittenPower, ratio_parts, told, Overflow}
+use Rattle.power_reduce.proofs.{Shared.{IsPlainAnswer, IsPlainOverflow, keeps, NumberFault, by_test}, Answered.{number_answer, undefined_answer}, Written.{zero_exponent, one_exponent, number_power}}
+use Rattle.power_reduce.proofs.Written.{few_classes, rational_classes, first_power}
+use Rattle.rational128.specs.{Refusals.{operation_of}, declared.overflow.Op.TheVariants.{Pow}}
 use Rattle.calc_algebra.proofs.MeaningRewrites as rewrites
 use Rattle.tree_handles.specs.declared.fault.NumberFault.TheVariants as fault
 use lib.Signed.{lt_z, le_z}

@@ -1,10 +1,12 @@
 -- The rewritings of a power keep meanings and have no new names.
 use Rattle.std.proofs.Common.{◌≡◌, ℕ, ℤ, ◌+ℤ◌, List, ◌++◌, [], Bool, true, false, if◌then◌else◌, ◌⊎◌, inl, inr, Some, None, refl, sym, ap, ◌∙◌, subst, arith, append_assoc, append-nil}
-use Rattle.power_reduce.proofs.Shared.{and_parts, eqb-true, Contains-append_left, Contains-append_right, Contains-append_cases, Fraction, whole_fraction, int_is_even, is_half_num, is_num_one, is_whole_num, split_product, num_one, Tree, num, mult, power, root, Trees, none, more, names, names_of, is_undef, one_is, KeepsMeanings-trans, KeepsMeanings-refl, KeepsMeanings-eq, KeepsMeanings-power, one_factor_of_product, fraction_whole, split_keeps, powers, power_of_power, power_of_product, half_power, Rewrites, HasNoNewName, keeps, is_even_whole, half, raised, parts_of, rewritten, rewritten_whole}
+use Rattle.power_reduce.proofs.Shared.{and_parts, eqb-true, Contains-append_left, Contains-append_right, Contains-append_cases, Fraction, whole_fraction, int_is_even, is_half_num, is_num_one}
+use Rattle.power_reduce.proofs.Shared.{is_whole_num, split_product, num_one, Tree, num, mult, power, root, Trees, none, more, names, names_of, is_undef, one_is, KeepsMeanings-trans}
+use Rattle.power_reduce.proofs.Shared.{KeepsMeanings-refl, KeepsMeanings-eq, KeepsMeanings-power, one_factor_of_product, fraction_whole, split_keeps, powers, power_of_power, power_of_product}
+use Rattle.power_reduce.proofs.{Shared.{half_power, Rewrites, HasNoNewName, keeps, is_even_whole, half, raised, parts_of, rewritten, rewritten_whole}, Exponents.{inside_whole, whole_exponent}}
 use Rattle.std.specs.List.{Contains}
 use Rattle.calc_algebra.proofs.PowerRewrites.{power_of_root}
 use Rattle.power_reduce.specs.PowerSteps.{power_of_root as root_power}
-use Rattle.power_reduce.proofs.Exponents.{inside_whole, whole_exponent}
 use Rattle.calc_algebra.proofs.MeaningRewrites as rewrites
 
 -- ---- even powers of roots

@@ -1,9 +1,8 @@
 -- Whole exponents, as the program tests them.
 use Rattle.std.proofs.Common.{arith, ◌≡◌, ◌≢◌, ◌<◌, ◌^◌, ℤ, pos, Bool, true, false, ◌&&◌, sym, ap, ◌∙◌, to_z, of_z, nat_eq}
 use Rattle.std.specs.Prelude.{nat_abs}
-use Rattle.power_reduce.proofs.Shared.{w128, eq-eqb, whole_fraction, int_is_one, is_number, is_reduced, is_num_one, is_whole_num, is_opaque_exponent, Tree, num, whole_numerator, whole_denominator, reduced_parts, parts_reduced, is_power, exponent_in, told, nth, children_of}
-use Rattle.power_reduce.proofs.ByRule.{transparent_whole}
-use Rattle.power_reduce.proofs.Powers.{power_children}
+use Rattle.power_reduce.proofs.Shared.{w128, eq-eqb, whole_fraction, int_is_one, is_number, is_reduced, is_num_one, is_whole_num, is_opaque_exponent, Tree, num, whole_numerator, whole_denominator}
+use Rattle.power_reduce.proofs.{Shared.{reduced_parts, parts_reduced, is_power, exponent_in, told, nth, children_of}, ByRule.{transparent_whole}, Powers.{power_children}}
 
 -- ---- 1
 

@@ -1,12 +1,11 @@
 -- A whole power of a Number that is held within few bits does not overflow.
 use Rattle.std.proofs.Common.{◌≡◌, ◌≢◌, ℕ, zero, suc, ◌+◌, ◌*◌, ◌≤◌, ℤ, pos, negsuc, [], Bool, true, false, not, Result, Ok, Err, refl, ap, ◌∙◌, subst, arith}
 use Rattle.std.specs.Prelude.{if◌then◌else◌, nat_abs, IfErr}
-use Rattle.power_reduce.proofs.Shared.{is_number, value, term, surd_of, IsHeld, IsPlainOverflow, PlainValue, calculated, exactly, overflow, powered, undefined, no_zero, whole_numerator, one_times, times_comm, pow_op, fraction_fits, fraction_power, result_of, Fraction, inverse, one_fraction, times, whole_fraction, zero_fraction, is_zero_fraction, Tree, num, power, rational_power, rational_power_over, IsFactorHeld, HasFewBitsRaised, IsPowerMisfit, inverting, raising, NamesPower, RaisingOverflows, WholeOverflows, has_number_power, Overflow, factor_as_tree, held_number, nothing_held, OfOverflow, NumberFault}
-use Rattle.number_forms.proofs.InverseBits.{inverse_no_larger}
-use Rattle.number_forms.proofs.RationalBits.{power_no_larger, power_parts, rational_power_fits}
-use Rattle.number_forms.proofs.PowersWithin.{power_within}
-use Rattle.number_forms.proofs.WithinBits.{inverse_within}
-use Rattle.power_reduce.proofs.RationalPowers.{plain_power}
+use Rattle.power_reduce.proofs.Shared.{is_number, value, term, surd_of, IsHeld, IsPlainOverflow, PlainValue, calculated, exactly, overflow, powered, undefined, no_zero, whole_numerator, one_times}
+use Rattle.power_reduce.proofs.Shared.{times_comm, pow_op, fraction_fits, fraction_power, result_of, Fraction, inverse, one_fraction, times, whole_fraction, zero_fraction, is_zero_fraction, Tree, num}
+use Rattle.power_reduce.proofs.Shared.{power, rational_power, rational_power_over, IsFactorHeld, HasFewBitsRaised, IsPowerMisfit, inverting, raising, NamesPower, RaisingOverflows, WholeOverflows}
+use Rattle.power_reduce.proofs.{Shared.{has_number_power, Overflow, factor_as_tree, held_number, nothing_held, OfOverflow, NumberFault}, RationalPowers.{plain_power}}
+use Rattle.number_forms.proofs.{InverseBits.{inverse_no_larger}, RationalBits.{power_no_larger, power_parts, rational_power_fits}, PowersWithin.{power_within}, WithinBits.{inverse_within}}
 use Rattle.surd_bits.proofs.Inverted.{one_no_larger}
 use Rattle.tree_handles.specs.declared.fault.NumberFault.TheVariants as fault
 

@@ -1,7 +1,8 @@
 -- Which tree stands for a power, where a rule names it.
 use Rattle.std.proofs.Common.{◌≡◌, ◌≢◌, ◌≤◌, ◌≤ℤ◌, ℤ, pos, Bool, true, false, ◌||◌, not, refl, sym, ap, ◌∙◌, arith}
 use Rattle.std.specs.Prelude.{nat_le}
-use Rattle.power_reduce.proofs.Shared.{le-leb, whole_numerator, whole_denominator, one_times, times_comm, Fraction, whole_fraction, zero_fraction, one_fraction, fraction_power, int_is_negative, Tree, num, power, number_test, is_number, classes, num_one, has_number_power, IsWrittenPower, is_zero_or_one}
+use Rattle.power_reduce.proofs.Shared.{le-leb, whole_numerator, whole_denominator, one_times, times_comm, Fraction, whole_fraction, zero_fraction, one_fraction, fraction_power, int_is_negative, Tree}
+use Rattle.power_reduce.proofs.Shared.{num, power, number_test, is_number, classes, num_one, has_number_power, IsWrittenPower, is_zero_or_one}
 use Rattle.number_forms.proofs.RationalCalls.{num_same}
 
 -- ---- exponents

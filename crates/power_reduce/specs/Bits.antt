@@ -2,9 +2,7 @@
 use Rattle.std.specs.Prelude.{ℕ, ℤ, ◌+◌, ◌*◌, ◌≤◌, ◌≡◌, [], ◌∷◌, true, false}
 use Rattle.calc_algebra.specs.Numbers.{is_number, value}
 use Rattle.calc_terms.specs.Trees.{Tree, is_undef}
-use Rattle.tree_bits.specs.Children.{IsSumHeld}
-use Rattle.tree_bits.specs.Factors.{as_factor}
-use Rattle.tree_bits.specs.Powers.{raised_high, raised_low, IsHeldAsPower}
+use Rattle.tree_bits.specs.{Children.{IsSumHeld}, Factors.{as_factor}, Powers.{raised_high, raised_low, IsHeldAsPower}}
 
 -- as a factor the tree is held by (h, l)
 abbrev pub IsFactorHeld : Tree → ℕ → ℕ → Type 0

@@ -1,13 +1,9 @@
 -- Which operation does not fit where a Number is raised to a whole power.
 use Rattle.std.specs.Prelude.{ℕ, suc, ◌≡◌, ℤ, pos, negsuc, true}
 use Rattle.calc_algebra.specs.Numbers.{value}
-use Rattle.calc_measures.specs.PlainTrees.{IsPlainOverflow}
-use Rattle.calc_measures.specs.PlainValues.{calculated, plain_value}
-use Rattle.calc_terms.specs.Fits.{pow_op}
-use Rattle.calc_terms.specs.Fractions.{whole_fraction}
-use Rattle.calc_terms.specs.Trees.{Tree, num, power}
-use Rattle.number_forms.specs.Inverses.{IsInverseOf}
-use Rattle.number_forms.specs.Overflows.{InverseOverflows, PowerOverflows}
+use Rattle.calc_measures.specs.{PlainTrees.{IsPlainOverflow}, PlainValues.{calculated, plain_value}}
+use Rattle.calc_terms.specs.{Fits.{pow_op}, Fractions.{whole_fraction}, Trees.{Tree, num, power}}
+use Rattle.number_forms.specs.{Inverses.{IsInverseOf}, Overflows.{InverseOverflows, PowerOverflows}}
 use Rattle.power_reduce.specs.PowerAnswers.{has_number_power}
 use Rattle.rational128.specs.declared.overflow.Overflow.{Overflow}
 

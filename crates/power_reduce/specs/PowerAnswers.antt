@@ -1,20 +1,14 @@
 -- What a step on a power of reduced trees answers.
 use Rattle.std.specs.Prelude.{◌≡◌, ◌≤◌, ◌+◌, Bool, true, false, ◌&&◌, ◌||◌, ◌==◌, not, nat_le, Some, None}
-use Rattle.calc_terms.specs.Integers.{int_is_negative, int_is_zero}
+use Rattle.calc_terms.specs.{Integers.{int_is_negative, int_is_zero}, Fractions.{zero_fraction, one_fraction}, Trees.{Tree, num, power, undef, is_undef}}
 use Rattle.calc_measures.specs.Loads.{nest, load, weight}
-use Rattle.calc_algebra.specs.Numbers.{is_number, classes}
-use Rattle.calc_algebra.specs.Reduced.{is_opaque_exponent, is_reduced, num_one}
-use Rattle.calc_terms.specs.Fractions.{zero_fraction, one_fraction}
-use Rattle.calc_terms.specs.Trees.{Tree, num, power, undef, is_undef}
+use Rattle.calc_algebra.specs.{Numbers.{is_number, classes}, Reduced.{is_opaque_exponent, is_reduced, num_one}, Rewritings.{Reduces, Rewrites}}
 use Rattle.node_pool.specs.State.{State}
 use Rattle.number_forms.specs.Readers.{is_zero}
 use Rattle.power_reduce.specs.PowerSteps.{is_zero_or_one, rewritten}
-use Rattle.calc_algebra.specs.Rewritings.{Reduces, Rewrites}
 use Rattle.reduce_port.specs.declared.step.Step.{Step}
 use Rattle.reduce_port.specs.declared.step.Step.TheVariants as step
-use Rattle.tree_handles.specs.Forest.{Forest}
-use Rattle.tree_handles.specs.Handed.{Gives}
-use Rattle.tree_handles.specs.Standing.{forest}
+use Rattle.tree_handles.specs.{Forest.{Forest}, Handed.{Gives}, Standing.{forest}}
 
 abbrev pub is_power : Tree → Bool
 is_power (power b e) = true

@@ -1,12 +1,9 @@
 -- What the rewritings of a whole power of reduced trees are, rule by rule, and why going on from each ends.
 use Rattle.std.specs.Prelude.{◌≡◌, ◌≤◌, ◌<◌, ◌+◌, ◌⊎◌, ⊤, true, false, ◌&&◌}
-use Rattle.calc_terms.specs.Fractions.{Fraction}
+use Rattle.calc_terms.specs.{Fractions.{Fraction}, Trees.{Tree, num, mult, power, root, Trees, none, more, is_undef}}
 use Rattle.calc_measures.specs.Loads.{nest, load, weight}
-use Rattle.calc_algebra.specs.Numbers.{is_number}
-use Rattle.calc_algebra.specs.Reduced.{is_reduced, is_opaque_exponent}
-use Rattle.calc_terms.specs.Trees.{Tree, num, mult, power, root, Trees, none, more, is_undef}
-use Rattle.power_reduce.specs.PowerAnswers.{has_no_power, has_number_power}
-use Rattle.power_reduce.specs.PowerSteps.{parts_of, raised}
+use Rattle.calc_algebra.specs.{Numbers.{is_number}, Reduced.{is_reduced, is_opaque_exponent}}
+use Rattle.power_reduce.specs.{PowerAnswers.{has_no_power, has_number_power}, PowerSteps.{parts_of, raised}}
 
 -- each tree of a list
 abbrev pub EachTree : (Tree → Type 0) → Trees → Type 0

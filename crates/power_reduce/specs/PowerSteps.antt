@@ -1,10 +1,7 @@
 -- One step on a power of reduced trees.
 use Rattle.std.specs.Prelude.{suc, ◌/◌, ℤ, pos, negsuc, neg_ℤ, Bool, false, ◌&&◌, ◌||◌, ◌==◌, not, if◌then◌else◌, Option, Some, None}
-use Rattle.calc_terms.specs.Fractions.{Fraction, whole_fraction, is_zero_fraction, is_one_fraction}
-use Rattle.calc_terms.specs.Integers.{int_is_even}
-use Rattle.calc_algebra.specs.Numbers.{is_number}
-use Rattle.calc_algebra.specs.Reduced.{is_half_num, is_opaque_exponent, is_num_one, is_whole_num, split_product}
-use Rattle.calc_terms.specs.Trees.{Tree, num, mult, power, root, is_undef, Trees, none, more}
+use Rattle.calc_terms.specs.{Fractions.{Fraction, whole_fraction, is_zero_fraction, is_one_fraction}, Integers.{int_is_even}, Trees.{Tree, num, mult, power, root, is_undef, Trees, none, more}}
+use Rattle.calc_algebra.specs.{Numbers.{is_number}, Reduced.{is_half_num, is_opaque_exponent, is_num_one, is_whole_num, split_product}}
 use Rattle.number_forms.specs.Readers.{numerator}
 
 -- the rational 0 or 1

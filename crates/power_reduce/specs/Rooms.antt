@@ -1,16 +1,13 @@
 -- For how few bytes a step on a power may be refused, and what spans its tree.
 use Rattle.std.specs.Prelude.{ℕ, ◌+◌, ◌^◌, ◌<◌, List, length}
-use Rattle.calc_room.specs.Counts.{counted}
-use Rattle.calc_room.specs.Spans.{SpansTree}
+use Rattle.calc_room.specs.{Counts.{counted}, Spans.{SpansTree}}
 use Rattle.calc_terms.specs.Trees.{Tree, size}
 use Rattle.node_pool.specs.State.{State}
 use Rattle.tree_handles.specs.Lacking.{OfFull}
-use Rattle.power_reduce.specs.PowerAnswers.{base_in, exponent_in}
-use Rattle.power_reduce.specs.PowerSteps.{power_of_root}
+use Rattle.power_reduce.specs.{PowerAnswers.{base_in, exponent_in}, PowerSteps.{power_of_root}}
 use Rattle.reduce_port.specs.declared.step.Step.{Step}
 use Rattle.reduce_port.specs.declared.step.Step.TheVariants as step
-use Rattle.tree_handles.specs.Handed.{tree_of}
-use Rattle.tree_handles.specs.declared.fault.NumberFault.{NumberFault}
+use Rattle.tree_handles.specs.{Handed.{tree_of}, declared.fault.NumberFault.{NumberFault}}
 use Rattle.tree_room.specs.Needs.{power_step_room}
 
 -- so many free bytes, and those of the power t, are fewer than a step on it needs for each choice of radicands

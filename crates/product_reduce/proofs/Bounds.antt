@@ -1,6 +1,7 @@
 -- Nest and Load of the factors of a product.
 use Rattle.std.proofs.Common.{ℕ, ◌+◌, ◌≤◌, ◌≡◌, Bool, true, false, ◌||◌, refl, if◌then◌else◌, sym, ap, ◌∙◌, arith}
-use Rattle.product_reduce.proofs.Shared.{factors_of, nest, nest_of, load, load_of_factor, load_of_factors, is_number, IsNumber, product_tree, Tree, mult, Trees, none, more, append, Permuted, permuted_none, permuted_more, permuted_swap, permuted_trans, number_words, number_test, opened, others_in, coefficient_before, nest-append, nest_number}
+use Rattle.product_reduce.proofs.Shared.{factors_of, nest, nest_of, load, load_of_factor, load_of_factors, is_number, IsNumber, product_tree, Tree, mult, Trees, none, more, append, Permuted}
+use Rattle.product_reduce.proofs.Shared.{permuted_none, permuted_more, permuted_swap, permuted_trans, number_words, number_test, opened, others_in, coefficient_before, nest-append, nest_number}
 
 -- ---- Nest
 

@@ -1,13 +1,15 @@
 -- The trees that a step on a product gives.
 use Rattle.std.proofs.Common.{◌≡◌, Bool, true, false, ◌&&◌, ◌||◌, refl, if◌then◌else◌, sym, ap, ◌∙◌, subst, arith, ℕ, zero, suc, ◌<◌, not}
-use Rattle.std.specs.Prelude.{ℤ, Option, MatchOption}
-use Rattle.product_reduce.proofs.Shared.{has_undef, are_rationals, Tree, num, undef, mult, power, Trees, none, more, append, names, names_of, is_undef, in_mult, root_kind, count, are_numbers, is_number, are_reduced, is_reduced, has_form, all_parts, is_whole_num, is_opaque_exponent, factors_of, is_zero, and_parts, and_from, or_right, zero_fraction, lowest, whole_fraction, gcd, load, load_of_factor, Same-eq, nth, children_of, whole_denominator, zero_is, Same-sym, KeepsMeanings, KeepsMeanings-refl, KeepsMeanings-eq, KeepsMeanings-trans, KeepsMeanings-product_more, zero_product, number_zero, number_words, numbers_defined, Same-trans, keeps, reduces_after, IsFinished, IsEnding, IsStop, at_zero, at_end, opened, others_in, IsCoefficient, coefficient_before, have_partners, Within, within_eq, within_none, within_both, within_trans, number_names, no_new_name, nest_number}
-use Rattle.std.specs.Option.{is_some}
+use Rattle.std.specs.{Prelude.{ℤ, Option, MatchOption}, Option.{is_some}}
+use Rattle.product_reduce.proofs.Shared.{has_undef, are_rationals, Tree, num, undef, mult, power, Trees, none, more, append, names, names_of, is_undef, in_mult, root_kind, count, are_numbers}
+use Rattle.product_reduce.proofs.Shared.{is_number, are_reduced, is_reduced, has_form, all_parts, is_whole_num, is_opaque_exponent, factors_of, is_zero, and_parts, and_from, or_right, zero_fraction}
+use Rattle.product_reduce.proofs.Shared.{lowest, whole_fraction, gcd, load, load_of_factor, Same-eq, nth, children_of, whole_denominator, zero_is, Same-sym, KeepsMeanings, KeepsMeanings-refl}
+use Rattle.product_reduce.proofs.Shared.{KeepsMeanings-eq, KeepsMeanings-trans, KeepsMeanings-product_more, zero_product, number_zero, number_words, numbers_defined, Same-trans, keeps, reduces_after}
+use Rattle.product_reduce.proofs.Shared.{IsFinished, IsEnding, IsStop, at_zero, at_end, opened, others_in, IsCoefficient, coefficient_before, have_partners, Within, within_eq, within_none}
+use Rattle.product_reduce.proofs.{Shared.{within_both, within_trans, number_names, no_new_name, nest_number}, Opened.{opened_keeps, collected, coefficient_in_front}}
+use Rattle.product_reduce.proofs.{NoNewNames.{names_opened, names_others, names_with_coefficient}, Forms.{IsFormed, AllFormed, formed, number_formed, opened_formed}, Bounds.{nest_opened, nest_others}}
+use Rattle.product_reduce.proofs.Bounds.{load_opened, load_others, load_product}
 use Rattle.calc_algebra.proofs.UndefRewrites.{undef_part}
-use Rattle.product_reduce.proofs.Opened.{opened_keeps, collected, coefficient_in_front}
-use Rattle.product_reduce.proofs.NoNewNames.{names_opened, names_others, names_with_coefficient}
-use Rattle.product_reduce.proofs.Forms.{IsFormed, AllFormed, formed, number_formed, opened_formed}
-use Rattle.product_reduce.proofs.Bounds.{nest_opened, nest_others, load_opened, load_others, load_product}
 use Rattle.tree_handles.proofs.UndefChildren.{undef_inside}
 use Rattle.calc_terms.specs.declared.kind.Kind.TheVariants as kind
 use Rattle.number_forms.proofs.Kept.{zero_value}

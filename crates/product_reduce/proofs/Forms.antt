@@ -1,7 +1,8 @@
 -- A coefficient before factors that are no Numbers, sorted by their bases, is a product in its form.
 use Rattle.std.specs.Prelude.{⊤}
 use Rattle.std.proofs.Common.{arith, ◌≡◌, Bool, true, false, refl}
-use Rattle.product_reduce.proofs.Shared.{factors_of, is_zero, and_parts, and_from, or_left, is_number, IsNumber, IsTerm, AreTerms, num_one, split, split_product, NoneIs, RisesBy, base_of, has_form, HasForm, all_parts, all_parts_of, Tree, num, add, mult, root, Trees, none, more, append, is_mult, number_words, number_test, opened, others_in}
+use Rattle.product_reduce.proofs.Shared.{factors_of, is_zero, and_parts, and_from, or_left, is_number, IsNumber, IsTerm, AreTerms, num_one, split, split_product, NoneIs, RisesBy, base_of, has_form}
+use Rattle.product_reduce.proofs.Shared.{HasForm, all_parts, all_parts_of, Tree, num, add, mult, root, Trees, none, more, append, is_mult, number_words, number_test, opened, others_in}
 use Rattle.calc_algebra.proofs.ReducedLaws.{form_words}
 pub use Rattle.like_children.proofs.NumbersIn.{none_number as others_no_numbers}
 

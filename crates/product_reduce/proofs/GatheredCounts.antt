@@ -1,12 +1,10 @@
 -- The factors of a product are gathered to what counts no more.
 use Rattle.std.proofs.Common.{◌≡◌, ℕ, ◌≤◌, max, Bool, true, false, if◌then◌else◌, refl, sym, ap, subst, arith}
-use Rattle.product_reduce.proofs.Shared.{Tree, num, mult, Trees, none, more, append, has_undef, IsNumber, is_number, is_whole_num, base_of, NoneIs, is_num_one, are_reduced, Permuted, permuted_none, permuted_more, number_words, counted, counted_among, factors_of, IsMonic, factors_monic, IsSorting, is_zero, children_of, numbers_among, product_count, appended, flat_product, number_counts_one, AreOthers, IsWritten, IsWrittenProduct, opened, others_in, coefficient_before, coefficient_times, IsGathered}
-use Rattle.like_children.proofs.Counted.{number_factors, permuted_counted, put_counted}
-use Rattle.product_reduce.proofs.Forms.{others_no_numbers}
-use Rattle.product_reduce.proofs.Gathered.{others_permuted}
-use Rattle.product_reduce.proofs.LastSteps.{sorted_factors}
-use Rattle.like_children.proofs.Permutations.{none_permuted, of_lists}
-use Rattle.product_reduce.proofs.Stepped.{others_are}
+use Rattle.product_reduce.proofs.Shared.{Tree, num, mult, Trees, none, more, append, has_undef, IsNumber, is_number, is_whole_num, base_of, NoneIs, is_num_one, are_reduced, Permuted, permuted_none}
+use Rattle.product_reduce.proofs.Shared.{permuted_more, number_words, counted, counted_among, factors_of, IsMonic, factors_monic, IsSorting, is_zero, children_of, numbers_among, product_count}
+use Rattle.product_reduce.proofs.Shared.{appended, flat_product, number_counts_one, AreOthers, IsWritten, IsWrittenProduct, opened, others_in, coefficient_before, coefficient_times, IsGathered}
+use Rattle.product_reduce.proofs.{Forms.{others_no_numbers}, Gathered.{others_permuted}, LastSteps.{sorted_factors}, Stepped.{others_are}}
+use Rattle.like_children.proofs.{Counted.{number_factors, permuted_counted, put_counted}, Permutations.{none_permuted, of_lists}}
 
 -- ---- factors that are opened, parted, and change places
 

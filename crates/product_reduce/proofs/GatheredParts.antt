@@ -1,11 +1,10 @@
 -- What holds of each part of the factors of a product holds of each part of what they are gathered to.
 use Rattle.std.proofs.Common.{arith, ◌≡◌, ℕ, List, Bool, true, false, if◌then◌else◌, refl, sym, subst}
-use Rattle.product_reduce.proofs.Shared.{Fraction, Tree, num, add, mult, Trees, none, more, AllParts, AllPartsOf, is_number, value, base_of, product_tree, number_words, IsPowerOf, HasPowersOf, Spans, SpansRoot, SpansTree, SpansTrees, factors_of, AllPartsOf-append, IsSorting, is_zero, IsWritten, IsWrittenProduct, opened, numbers_in, others_in, product_of_values, IsCoefficient, coefficient_before, coefficient_times, IsGathered}
-use Rattle.calc_room.proofs.NumberSpans.{spans_times, spans_same, tree_spanned, value_spanned}
-use Rattle.calc_room.proofs.SpanLaws.{one_spanned}
-use Rattle.like_children.proofs.OwnPowers.{number_powers, own_powers_of}
-use Rattle.like_children.proofs.Parts.{factors_parts, permuted_parts, product_tree_parts, with_parts}
-use Rattle.like_children.proofs.Permutations.{of_lists}
+use Rattle.product_reduce.proofs.Shared.{Fraction, Tree, num, add, mult, Trees, none, more, AllParts, AllPartsOf, is_number, value, base_of, product_tree, number_words, IsPowerOf, HasPowersOf, Spans}
+use Rattle.product_reduce.proofs.Shared.{SpansRoot, SpansTree, SpansTrees, factors_of, AllPartsOf-append, IsSorting, is_zero, IsWritten, IsWrittenProduct, opened, numbers_in, others_in}
+use Rattle.product_reduce.proofs.Shared.{product_of_values, IsCoefficient, coefficient_before, coefficient_times, IsGathered}
+use Rattle.calc_room.proofs.{NumberSpans.{spans_times, spans_same, tree_spanned, value_spanned}, SpanLaws.{one_spanned}}
+use Rattle.like_children.proofs.{OwnPowers.{number_powers, own_powers_of}, Parts.{factors_parts, permuted_parts, product_tree_parts, with_parts}, Permutations.{of_lists}}
 
 -- ---- factors that are opened, parted, and change places
 

@@ -1,19 +1,15 @@
 -- What holds the factors of a product one by one holds what they are gathered to.
-use Rattle.std.proofs.Common.{◌≡◌, ◌≤◌, ◌+◌, ℕ, List, [], ◌∷◌, Bool, true, false, not, if◌then◌else◌, refl, sym, ap, ◌∙◌, subst, arith}
-use Rattle.product_reduce.proofs.Shared.{Fraction, zero_fraction, is_zero_fraction, is_one_fraction, no_zero, Tree, num, add, mult, Trees, none, more, append, count, is_mult, has_undef, is_number, value, NoneIs, Split, split, split_product, product_tree, num_one, are_reduced, Surd, surd_of, IsHeld, factors_of, rational_before, with_coefficient, IsMonic, mapped, rational_times_term, monic_sum, monic_parts, IsFactor, not_one_is, factors_no_number, is_zero, IsSumHeld, as_factor, distributed, Addend, addend, addend_of, addends, none_weighted, more_weighted, IsPartHeld, weighted, AreHeld, distributed_held, factor_as_tree, factor_is_held, wider, held_wider, one_counts, one_weighted, wider_held, put_before, children_of, AreOthers, IsWritten, IsWrittenProduct, IsFactorHeld, AreFactorsHeld, opened, others_in, coefficient_times, IsGathered}
+use Rattle.std.proofs.{Common.{◌≡◌, ◌≤◌, ◌+◌, ℕ, List, [], ◌∷◌, Bool, true, false, not, if◌then◌else◌, refl, sym, ap, ◌∙◌, subst, arith}, lemmas.Bool.{true≢false}}
+use Rattle.product_reduce.proofs.Shared.{Fraction, zero_fraction, is_zero_fraction, is_one_fraction, no_zero, Tree, num, add, mult, Trees, none, more, append, count, is_mult, has_undef, is_number}
+use Rattle.product_reduce.proofs.Shared.{value, NoneIs, Split, split, split_product, product_tree, num_one, are_reduced, Surd, surd_of, IsHeld, factors_of, rational_before, with_coefficient, IsMonic}
+use Rattle.product_reduce.proofs.Shared.{mapped, rational_times_term, monic_sum, monic_parts, IsFactor, not_one_is, factors_no_number, is_zero, IsSumHeld, as_factor, distributed, Addend, addend}
+use Rattle.product_reduce.proofs.Shared.{addend_of, addends, none_weighted, more_weighted, IsPartHeld, weighted, AreHeld, distributed_held, factor_as_tree, factor_is_held, wider, held_wider}
+use Rattle.product_reduce.proofs.Shared.{one_counts, one_weighted, wider_held, put_before, children_of, AreOthers, IsWritten, IsWrittenProduct, IsFactorHeld, AreFactorsHeld, opened, others_in}
+use Rattle.product_reduce.proofs.{Shared.{coefficient_times, IsGathered}, Finished.{reduced_formed}, Forms.{AllFormed, number_formed, opened_flat, opened_formed, split_of_number, split_of_others}}
+use Rattle.product_reduce.proofs.{Gathered.{others_permuted}, GatheredCounts.{single_monic}, HeldFactors.{AreHeldApart, before_held, held_apart, opened_held, part_permuted, part_single}}
+use Rattle.product_reduce.proofs.{HeldNumbers.{number_as_factor}, Leads.{factors_again}, Progress.{one_value}, Stepped.{others_are}}
 use Rattle.tree_bits.proofs.Children.{tree_as_sum, sum_as_tree}
-use Rattle.product_reduce.proofs.Finished.{reduced_formed}
-use Rattle.product_reduce.proofs.Forms.{AllFormed, number_formed, opened_flat, opened_formed, split_of_number, split_of_others}
-use Rattle.product_reduce.proofs.Gathered.{others_permuted}
-use Rattle.product_reduce.proofs.GatheredCounts.{single_monic}
-use Rattle.product_reduce.proofs.HeldFactors.{AreHeldApart, before_held, held_apart, opened_held, part_permuted, part_single}
-use Rattle.like_children.proofs.Addends.{multiple_addends, rational_value, split_sum}
-use Rattle.product_reduce.proofs.HeldNumbers.{number_as_factor}
-use Rattle.product_reduce.proofs.Leads.{factors_again}
-use Rattle.product_reduce.proofs.Progress.{one_value}
-use Rattle.like_children.proofs.Permutations.{of_lists}
-use Rattle.product_reduce.proofs.Stepped.{others_are}
-use Rattle.std.proofs.lemmas.Bool.{true≢false}
+use Rattle.like_children.proofs.{Addends.{multiple_addends, rational_value, split_sum}, Permutations.{of_lists}}
 
 -- ---- a product as one factor
 

@@ -1,11 +1,11 @@
 -- The first factor of a pair becomes a power in its place, once the exponent of the second is out.
 use Rattle.std.proofs.Common.{ℕ, ◌<◌, ◌≤◌, ◌≡◌, eqb, false, refl, ap, ◌∙◌}
-use Rattle.product_reduce.proofs.Shared.{removed, Tree, Trees, mult, none, more, count, nth, plain, children_of, inserted, Forest, kids, with_nth, Gives, root_tree, without_root, put, eqb-sym, given_handed, given_rest, given_same, given_told, represents_handed, represents_with, represents_as, Becomes, IsTakenOut}
-use Rattle.product_reduce.proofs.Beside.{beside_apart, beside_product, beside_given}
+use Rattle.product_reduce.proofs.Shared.{removed, Tree, Trees, mult, none, more, count, nth, plain, children_of, inserted, Forest, kids, with_nth, Gives, root_tree, without_root, put, eqb-sym}
+use Rattle.product_reduce.proofs.Shared.{given_handed, given_rest, given_same, given_told, represents_handed, represents_with, represents_as, Becomes, IsTakenOut}
+use Rattle.product_reduce.proofs.{Beside.{beside_apart, beside_product, beside_given}, Products.{becomes_put, becomes_after, product_kids}}
 use Rattle.coefficients.proofs.Loops.{set_removed}
 use Rattle.tree_handles.proofs.Filling.{IsAsBefore, as_before, changes_front, changes_rest}
 use Rattle.tree_handles.specs.Holes.{ChangesTree, IsHole, Place, set_child}
-use Rattle.product_reduce.proofs.Products.{becomes_put, becomes_after, product_kids}
 
 -- ---- the first of a pair is rewritten, once the exponent of the second is out
 

@@ -1,11 +1,12 @@
 -- A product with two factors joined is bounded by the product before.
 use Rattle.std.proofs.Common.{ℕ, suc, ◌+◌, ◌≤◌, ◌<◌, max, ◌≡◌, inl, Bool, true, false, if◌then◌else◌, refl, sym, ap, ◌∙◌, subst, arith}
-use Rattle.product_reduce.proofs.Shared.{and_parts, nest, nest_of, weight, load, load_of_factor, load_of_factors, Fraction, is_number, are_numbers, is_num_one, is_reduced, is_opaque_exponent, num_one, NoneIs, base_of, are_reduced, Tree, num, add, mult, power, undef, Trees, none, more, append, count, is_mult, factors_of, reduced_parts, parts_reduced, removed, nth, children_of, IsJoined, opened, others_in, coefficient_before, exponent_of, has_partner, first_partner, without_partner, joint, have_partners, joined, nest_number, nest_permuted}
-use Rattle.product_reduce.proofs.Bounds.{nest_factors, nest_others, nest_opened, load_with, load_others, load_opened, load_product, load_permuted}
-use Rattle.product_reduce.proofs.Finished.{reduced_formed}
-use Rattle.product_reduce.proofs.Forms.{AllFormed, opened_formed, others_formed, opened_flat, others_none, others_no_numbers}
-use Rattle.product_reduce.proofs.Joined.{one_base, partner_is, partner_first}
-use Rattle.product_reduce.proofs.Joints.{IsSmall, is_within, is_over, AllSmall, all_within, joint_small, small_at, small_removed, joint_of_numbers_is_not_reduced, sum_is_no_number, exponent_words, flat_load, joint_load, load_split, base_weight}
+use Rattle.product_reduce.proofs.Shared.{and_parts, nest, nest_of, weight, load, load_of_factor, load_of_factors, Fraction, is_number, are_numbers, is_num_one, is_reduced, is_opaque_exponent, num_one}
+use Rattle.product_reduce.proofs.Shared.{NoneIs, base_of, are_reduced, Tree, num, add, mult, power, undef, Trees, none, more, append, count, is_mult, factors_of, reduced_parts, parts_reduced, removed}
+use Rattle.product_reduce.proofs.Shared.{nth, children_of, IsJoined, opened, others_in, coefficient_before, exponent_of, has_partner, first_partner, without_partner, joint, have_partners, joined}
+use Rattle.product_reduce.proofs.{Shared.{nest_number, nest_permuted}, Bounds.{nest_factors, nest_others, nest_opened, load_with, load_others, load_opened, load_product, load_permuted}}
+use Rattle.product_reduce.proofs.{Finished.{reduced_formed}, Forms.{AllFormed, opened_formed, others_formed, opened_flat, others_none, others_no_numbers}, Joined.{one_base, partner_is, partner_first}}
+use Rattle.product_reduce.proofs.Joints.{IsSmall, is_within, is_over, AllSmall, all_within, joint_small, small_at, small_removed, joint_of_numbers_is_not_reduced, sum_is_no_number, exponent_words}
+use Rattle.product_reduce.proofs.Joints.{flat_load, joint_load, load_split, base_weight}
 use Rattle.like_children.proofs.Permutations.{none_permuted}
 
 -- ---- the factors after a joining

@@ -1,8 +1,7 @@
 -- Places in lists, and what stands before factors.
 use Rattle.std.proofs.Common.{ℕ, zero, suc, ◌+◌, ◌≤◌, ◌≡◌, true, if◌then◌else◌, refl, ap, ◌∙◌, arith}
-use Rattle.product_reduce.proofs.Shared.{and_parts, and_from, is_number, is_num_one, is_reduced, are_reduced, Tree, Trees, none, more, append, count, factors_of, removed, nth, count_append, coefficient_before}
-use Rattle.product_reduce.proofs.Finished.{formed_reduced}
-use Rattle.product_reduce.proofs.Forms.{AllFormed, formed_factors, number_formed}
+use Rattle.product_reduce.proofs.Shared.{and_parts, and_from, is_number, is_num_one, is_reduced, are_reduced, Tree, Trees, none, more, append, count, factors_of, removed, nth, count_append}
+use Rattle.product_reduce.proofs.{Shared.{coefficient_before}, Finished.{formed_reduced}, Forms.{AllFormed, formed_factors, number_formed}}
 
 -- ---- places in lists
 

@@ -1,11 +1,11 @@
 -- The joint of two factors: its exponents, its nest and its load.
-use Rattle.std.proofs.Common.{ℕ, zero, suc, ◌+◌, ◌≤◌, ◌<◌, max, ◌≡◌, inl, inr, Bool, true, false, ◌&&◌, not, if◌then◌else◌, refl, ap, ◌∙◌, arith}
+use Rattle.std.proofs.{Common.{ℕ, zero, suc, ◌+◌, ◌≤◌, ◌<◌, max, ◌≡◌, inl, inr, Bool, true, false, ◌&&◌, not, if◌then◌else◌, refl, ap, ◌∙◌, arith}, lemmas.Bool.{true≢false}}
 use Rattle.std.specs.Prelude.{⊤}
-use Rattle.product_reduce.proofs.Shared.{and_parts, Fraction, one_fraction, nest, nest_of, weight, weight_of_factors, load_of_factor, load_of_factors, is_number, IsNumber, is_opaque_exponent, is_whole_num, is_reduced, has_form, all_parts, HasForm, IsSumForm, base_of, Tree, num, add, mult, power, root, Trees, none, more, count, is_mult, number_words, number_test, reduced_parts, removed, nth, exponent_of, joint}
-use Rattle.product_reduce.proofs.Forms.{IsFormed, formed}
+use Rattle.product_reduce.proofs.Shared.{and_parts, Fraction, one_fraction, nest, nest_of, weight, weight_of_factors, load_of_factor, load_of_factors, is_number, IsNumber, is_opaque_exponent}
+use Rattle.product_reduce.proofs.Shared.{is_whole_num, is_reduced, has_form, all_parts, HasForm, IsSumForm, base_of, Tree, num, add, mult, power, root, Trees, none, more, count, is_mult, number_words}
+use Rattle.product_reduce.proofs.{Shared.{number_test, reduced_parts, removed, nth, exponent_of, joint}, Forms.{IsFormed, formed}}
 use Rattle.calc_measures.proofs.Weights.{some_weight}
 use Rattle.tree_room.proofs.PowerCounts.{power_no_number}
-use Rattle.std.proofs.lemmas.Bool.{true≢false}
 
 -- ---- the exponents of a joint
 

@@ -1,10 +1,12 @@
 -- A coefficient and sorted factors whose bases differ make a reduced tree.
 use Rattle.std.proofs.Common.{◌≡◌, ◌≤◌, [], true, false, refl, ap, arith}
-use Rattle.product_reduce.proofs.Shared.{is_number, is_reduced, product_tree, RisesBy, HasForm, base_of, are_reduced, Tree, mult, Trees, none, more, count, names, names_of, is_undef, AllPartsOf, has_undef, KeepsMeanings, KeepsMeanings-refl, KeepsMeanings-trans, KeepsMeanings-product_more, Permuted, permuted_none, permuted_more, permuted_swap, permuted_trans, permuted_product, single_product, to_single_product, number_words, product_tree_keeps, with_coefficient, put_formed, put_reduces, AreFactors, factors_monic, reduced_parts, parts_defined, keeps, reduces_after, and_parts, IsPermutation-refl, IsSorting, AreOthers, IsEnding, coefficient_times, nest_number, nest_permuted, Within, within_left, within_same, within_trans, within_both, within_beside, within_none, names_permuted, no_new_name}
+use Rattle.product_reduce.proofs.Shared.{is_number, is_reduced, product_tree, RisesBy, HasForm, base_of, are_reduced, Tree, mult, Trees, none, more, count, names, names_of, is_undef, AllPartsOf}
+use Rattle.product_reduce.proofs.Shared.{has_undef, KeepsMeanings, KeepsMeanings-refl, KeepsMeanings-trans, KeepsMeanings-product_more, Permuted, permuted_none, permuted_more, permuted_swap}
+use Rattle.product_reduce.proofs.Shared.{permuted_trans, permuted_product, single_product, to_single_product, number_words, product_tree_keeps, with_coefficient, put_formed, put_reduces, AreFactors}
+use Rattle.product_reduce.proofs.Shared.{factors_monic, reduced_parts, parts_defined, keeps, reduces_after, and_parts, IsPermutation-refl, IsSorting, AreOthers, IsEnding, coefficient_times}
+use Rattle.product_reduce.proofs.Shared.{nest_number, nest_permuted, Within, within_left, within_same, within_trans, within_both, within_beside, within_none, names_permuted, no_new_name}
+use Rattle.product_reduce.proofs.{Bounds.{nest_tree, load_tree, load_permuted}, Finished.{or_none, formed_reduced, formed_defined, load_of_number}, Forms.{number_formed}}
 use Rattle.coefficients.proofs.Bounds.{coefficient_nest, coefficient_load}
-use Rattle.product_reduce.proofs.Bounds.{nest_tree, load_tree, load_permuted}
-use Rattle.product_reduce.proofs.Finished.{or_none, formed_reduced, formed_defined, load_of_number}
-use Rattle.product_reduce.proofs.Forms.{number_formed}
 use Rattle.like_children.proofs.Permutations.{none_permuted}
 
 -- ---- the coefficient alone

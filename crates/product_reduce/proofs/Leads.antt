@@ -1,20 +1,16 @@
 -- A coefficient that stands first as it is written, and factors put in order behind it.
 use Rattle.std.specs.Prelude.{take, Option, MatchOption, is_some}
-use Rattle.std.proofs.Common.{ℕ, zero, suc, ◌+◌, ◌≤◌, ◌≡◌, ◌≢◌, Bool, true, false, if◌then◌else◌, refl, sym, ap, ◌∙◌, subst, arith}
-use Rattle.product_reduce.proofs.Shared.{is_number, value, base_of, is_num_one, is_one_add, num_one, product_tree, NoneIs, HasForm, are_reduced, Same-sym, Permuted, Permuted-sym, Same-trans, Agree-Same, surd_times-one, Same-eq, one_fraction, lowest, gcd, Tree, mult, Trees, none, more, append, count, is_add, is_mult, factors_of, with_coefficient, IsNextNumber, NoNumberBetween, IsSorting, list_of, is_zero, removed, nth, AreOthers, IsStop, at_end, IsEnding, AreFactorsHeld, opened, numbers_in, others_in, product_of_values, coefficient_times, IsLead, IsOrdered, have_partners, IsPairAt, IsNextPair, NoPairBetween, no_numbers, count_append, no_numbers_none, no_numbers_others}
-use Rattle.product_reduce.proofs.Forms.{AllFormed}
-use Rattle.product_reduce.proofs.Fronts.{one_in_front, other_in_front, single_factor}
-use Rattle.product_reduce.proofs.Gathered.{others_permuted, reduced_permuted}
-use Rattle.product_reduce.proofs.HeldNumbers.{alone_held, no_factors_held}
-use Rattle.product_reduce.proofs.LastSteps.{ending, permuted_none_is, times_written}
-use Rattle.product_reduce.proofs.Misfits.{permuted_one_is}
-use Rattle.product_reduce.proofs.Neighbours.{pair_partners, sorted_apart, apart_before}
-use Rattle.product_reduce.proofs.Progress.{one_value}
+use Rattle.std.proofs.{Common.{ℕ, zero, suc, ◌+◌, ◌≤◌, ◌≡◌, ◌≢◌, Bool, true, false, if◌then◌else◌, refl, sym, ap, ◌∙◌, subst, arith}, lemmas.Bool.{true≢false}}
+use Rattle.product_reduce.proofs.Shared.{is_number, value, base_of, is_num_one, is_one_add, num_one, product_tree, NoneIs, HasForm, are_reduced, Same-sym, Permuted, Permuted-sym, Same-trans}
+use Rattle.product_reduce.proofs.Shared.{Agree-Same, surd_times-one, Same-eq, one_fraction, lowest, gcd, Tree, mult, Trees, none, more, append, count, is_add, is_mult, factors_of, with_coefficient}
+use Rattle.product_reduce.proofs.Shared.{IsNextNumber, NoNumberBetween, IsSorting, list_of, is_zero, removed, nth, AreOthers, IsStop, at_end, IsEnding, AreFactorsHeld, opened, numbers_in, others_in}
+use Rattle.product_reduce.proofs.Shared.{product_of_values, coefficient_times, IsLead, IsOrdered, have_partners, IsPairAt, IsNextPair, NoPairBetween, no_numbers, count_append, no_numbers_none}
+use Rattle.product_reduce.proofs.{Shared.{no_numbers_others}, Forms.{AllFormed}, Fronts.{one_in_front, other_in_front, single_factor}, Gathered.{others_permuted, reduced_permuted}}
+use Rattle.product_reduce.proofs.{HeldNumbers.{alone_held, no_factors_held}, LastSteps.{ending, permuted_none_is, times_written}, Misfits.{permuted_one_is}}
+use Rattle.product_reduce.proofs.{Neighbours.{pair_partners, sorted_apart, apart_before}, Progress.{one_value}, Sorted.{sorted_rising}}
 use Rattle.like_children.proofs.Permutations.{none_permuted, of_lists}
-use Rattle.product_reduce.proofs.Sorted.{sorted_rising}
 pub use Rattle.calc_algebra.proofs.ReducedLaws.{from_not as off}
 use Rattle.calc_algebra.proofs.MeaningRewrites.{Permuted-append_right}
-use Rattle.std.proofs.lemmas.Bool.{true≢false}
 
 -- ---- opened factors are some
 

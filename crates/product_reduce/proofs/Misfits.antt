@@ -1,12 +1,12 @@
 -- Which operation of a product does not fit, from the call that was refused.
 use Rattle.std.proofs.Common.{arith, ◌≡◌, ℕ, eqb, ◌&&◌, false, Result, Ok, Err, ap, ◌∙◌}
 use Rattle.std.specs.Prelude.{IfErr, IsErrAnd}
-use Rattle.product_reduce.proofs.Shared.{Permuted, permuted_none, permuted_more, permuted_swap, permuted_trans, Permuted-sym, value, product_tree, IsPlainOverflow, calculated, mul_op, Fraction, Tree, num, Trees, none, more, is_num, NamesPut, State, AnswersRationals, OfOverflow, NamesProduct, SpreadingOverflows, factors_in, Overflow, given_same, given_told, plain, Forest, Gives, root_tree, without_root, NumberFault}
+use Rattle.product_reduce.proofs.Shared.{Permuted, permuted_none, permuted_more, permuted_swap, permuted_trans, Permuted-sym, value, product_tree, IsPlainOverflow, calculated, mul_op, Fraction, Tree}
+use Rattle.product_reduce.proofs.Shared.{num, Trees, none, more, is_num, NamesPut, State, AnswersRationals, OfOverflow, NamesProduct, SpreadingOverflows, factors_in, Overflow, given_same, given_told}
+use Rattle.product_reduce.proofs.{Shared.{plain, Forest, Gives, root_tree, without_root, NumberFault}, LastSteps.{permuted_none_is}, Readied.{AreReadied, alone_handed, alone_tree}}
 use Rattle.coefficients.proofs.Named.{put_as}
 use Rattle.node_pool.specs.declared.full.Full.{Full}
 use Rattle.number_forms.specs.Overflows.{ProductOverflows}
-use Rattle.product_reduce.proofs.LastSteps.{permuted_none_is}
-use Rattle.product_reduce.proofs.Readied.{AreReadied, alone_handed, alone_tree}
 use Rattle.tree_handles.specs.declared.fault.NumberFault.TheVariants as fault
 
 -- ---- two Numbers

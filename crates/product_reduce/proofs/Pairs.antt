@@ -1,6 +1,7 @@
 -- Factors with identical bases, by their places.
 use Rattle.std.proofs.Common.{◌⊎◌, inl, inr, subst, nat_lt, ◌+◌, ℕ, zero, suc, ◌<◌, ◌≡◌, Bool, true, false, refl, if◌then◌else◌, sym, ap, ◌∙◌, arith}
-use Rattle.product_reduce.proofs.Shared.{by_test, removed, ltb-true, ltb-false, Tree, Trees, none, more, count, nth, inserted, is_partner, has_partner, first_partner, without_partner, joint, have_partners, joined, HasNoPartner, IsFirstPair}
+use Rattle.product_reduce.proofs.Shared.{by_test, removed, ltb-true, ltb-false, Tree, Trees, none, more, count, nth, inserted, is_partner, has_partner, first_partner, without_partner, joint}
+use Rattle.product_reduce.proofs.Shared.{have_partners, joined, HasNoPartner, IsFirstPair}
 
 -- ---- one factor and those behind it
 

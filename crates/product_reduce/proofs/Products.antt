@@ -1,6 +1,9 @@
 -- Roots that are products.
 use Rattle.std.proofs.Common.{ℕ, ◌<◌, ◌≡◌, eqb, true, false, refl, ap, ◌∙◌, subst, arith}
-use Rattle.product_reduce.proofs.Shared.{removed, mult, Trees, count, is_mult, IsOver, over_product, over_put, over_handed, over_plain, without_put, once_count, nth, plain, inserted, children_of, IsExpression, Forest, arity, kids, root_count, tree_nth, merged_nth, Represents, root_tree, without_root, put, all-tree_nth, arity-tree_nth, behind_first, front_same, front_put, front_at, front_after_one, handed_at, handed_beside, holds, tree_at, kids_of, Stands, forest, State, kids_of_root, plain_root, expression_root, root_held, tree-without, represents_merged, factors_in, IsProduct, Becomes}
+use Rattle.product_reduce.proofs.Shared.{removed, mult, Trees, count, is_mult, IsOver, over_product, over_put, over_handed, over_plain, without_put, once_count, nth, plain, inserted, children_of}
+use Rattle.product_reduce.proofs.Shared.{IsExpression, Forest, arity, kids, root_count, tree_nth, merged_nth, Represents, root_tree, without_root, put, all-tree_nth, arity-tree_nth, behind_first}
+use Rattle.product_reduce.proofs.Shared.{front_same, front_put, front_at, front_after_one, handed_at, handed_beside, holds, tree_at, kids_of, Stands, forest, State, kids_of_root, plain_root}
+use Rattle.product_reduce.proofs.Shared.{expression_root, root_held, tree-without, represents_merged, factors_in, IsProduct, Becomes}
 use Rattle.tree_handles.proofs.Cuts.{represents_count}
 use Rattle.calc_terms.specs.declared.kind.Kind.TheVariants as kind
 

@@ -1,8 +1,12 @@
 -- The Numbers among the factors are multiplied from left to right.
 use Rattle.std.specs.Prelude.{Result}
 use Rattle.std.proofs.Common.{ℕ, zero, suc, ◌<◌, ◌≤◌, ◌≡◌, true, refl, sym, ap, ◌∙◌, subst, arith}
-use Rattle.product_reduce.proofs.Shared.{and_parts, and_from, one_fraction, lowest, gcd, Tree, mult, Trees, none, more, append, count, is_number, are_numbers, value, are_reduced, num_one, is_reduced, Same, surd_one, surd_times, Same-sym, Same-trans, Agree-Same, surd_times_assoc, surd_times-one, surd_times-surd_one, Same-refl, Same-eq, Same-surd_times, HasFewBits, PlainValue, plain_value, SpansRoot, AnswersTotal, AreJoined, IsNextOf, IsNextNumber, NoNumberBetween, first_of, fold_begun, plain_product, no_numbers, some_number, sizes_taken, append_one, append_none, trees_assoc, count_append, front_numbers, numbers_are, numbers_removed, others_removed, no_numbers_none, parts_taken, State, AnswersRationals, removed, Overflow, nth, NumberFault, AreFactorsHeld, numbers_in, product_of_values, IsCoefficient, NamesProduct, MultiplyingOverflows, IsProductOf, IsBegun, AreFewBits}
-use Rattle.product_reduce.proofs.HeldNumbers.{alone_held, front_held, next_held, no_factors_held}
+use Rattle.product_reduce.proofs.Shared.{and_parts, and_from, one_fraction, lowest, gcd, Tree, mult, Trees, none, more, append, count, is_number, are_numbers, value, are_reduced, num_one, is_reduced}
+use Rattle.product_reduce.proofs.Shared.{Same, surd_one, surd_times, Same-sym, Same-trans, Agree-Same, surd_times_assoc, surd_times-one, surd_times-surd_one, Same-refl, Same-eq, Same-surd_times}
+use Rattle.product_reduce.proofs.Shared.{HasFewBits, PlainValue, plain_value, SpansRoot, AnswersTotal, AreJoined, IsNextOf, IsNextNumber, NoNumberBetween, first_of, fold_begun, plain_product}
+use Rattle.product_reduce.proofs.Shared.{no_numbers, some_number, sizes_taken, append_one, append_none, trees_assoc, count_append, front_numbers, numbers_are, numbers_removed, others_removed}
+use Rattle.product_reduce.proofs.Shared.{no_numbers_none, parts_taken, State, AnswersRationals, removed, Overflow, nth, NumberFault, AreFactorsHeld, numbers_in, product_of_values, IsCoefficient}
+use Rattle.product_reduce.proofs.{Shared.{NamesProduct, MultiplyingOverflows, IsProductOf, IsBegun, AreFewBits}, HeldNumbers.{alone_held, front_held, next_held, no_factors_held}}
 
 -- ---- the first Number
 

@@ -1,10 +1,10 @@
 -- Factors that were sorted beside their coefficient.
 use Rattle.std.proofs.Common.{ℕ, ◌≤◌, ◌≡◌, eqb, true, false, refl, sym, ap, ◌∙◌, subst}
 use Rattle.std.specs.Prelude.{IsSortedByKey}
-use Rattle.product_reduce.proofs.Shared.{is_number, is_reduced, product_tree, RisesBy, base_of, Tree, Trees, none, count, Permuted, Permuted-refl, Permuted-sym, with_coefficient, factors_monic, IsPermutation-refl, tree_cmp, IsSorting, list_of, plain, children_of, Forest, IsHanded, Ends, Gives, root_tree, without_root, gives, gives_as, given_rest, given_same, given_told, handed_beside, represents_handed, ends_as, eqb-sym, tree-without, without-swap, AreOthers, IsEnding, have_partners, IsProduct, factors_in}
-use Rattle.product_reduce.proofs.LastSteps.{coefficient_alone, ending, permuted_none_is, sorted_factors}
-use Rattle.product_reduce.proofs.Products.{factors_are}
-use Rattle.product_reduce.proofs.Sorted.{sorted_rising}
+use Rattle.product_reduce.proofs.Shared.{is_number, is_reduced, product_tree, RisesBy, base_of, Tree, Trees, none, count, Permuted, Permuted-refl, Permuted-sym, with_coefficient, factors_monic}
+use Rattle.product_reduce.proofs.Shared.{IsPermutation-refl, tree_cmp, IsSorting, list_of, plain, children_of, Forest, IsHanded, Ends, Gives, root_tree, without_root, gives, gives_as, given_rest}
+use Rattle.product_reduce.proofs.Shared.{given_same, given_told, handed_beside, represents_handed, ends_as, eqb-sym, tree-without, without-swap, AreOthers, IsEnding, have_partners, IsProduct}
+use Rattle.product_reduce.proofs.{Shared.{factors_in}, LastSteps.{coefficient_alone, ending, permuted_none_is, sorted_factors}, Products.{factors_are}, Sorted.{sorted_rising}}
 
 -- the factors stand sorted, and the coefficient as before
 pub record AreReadied (i c : ℕ) (old now : Forest) : Type 0 where

@@ -1,12 +1,11 @@
 -- Small trees that are reduced.
 use Rattle.std.proofs.Common.{arith, ℕ, zero, suc, ℤ, List, ◌≤◌, ◌≡◌, inr, true, refl, sym, ap, subst}
-use Rattle.std.specs.Prelude.{pos, negsuc}
-use Rattle.product_reduce.proofs.Shared.{and_from, and_parts, nat_cmp, Less, is_clean, left_of, square_root, ratio_of, value_of, Ratio, whole, lowest, zero_fraction, one_fraction, gcd, is_number, is_reduced, are_reduced, Tree, num, symbol, undef, add, mult, power, root, Trees, none, more, count, is_mult, number_words, IsMonic, parts_reduced, number_parts, plain, inserted, children_of, Forest, kids, with_nth, IsHanded, Ends, Gives, root_tree, without_root, put, given_handed, given_told, last_tree, Step, IfDone, IfAgain, IsProduct, Becomes, factors_in}
-use Rattle.std.specs.Cmp.Lexicographic.{slice_cmp}
+use Rattle.std.specs.{Prelude.{pos, negsuc}, Cmp.Lexicographic.{slice_cmp}}
+use Rattle.product_reduce.proofs.Shared.{and_from, and_parts, nat_cmp, Less, is_clean, left_of, square_root, ratio_of, value_of, Ratio, whole, lowest, zero_fraction, one_fraction, gcd, is_number}
+use Rattle.product_reduce.proofs.Shared.{is_reduced, are_reduced, Tree, num, symbol, undef, add, mult, power, root, Trees, none, more, count, is_mult, number_words, IsMonic, parts_reduced}
+use Rattle.product_reduce.proofs.Shared.{number_parts, plain, inserted, children_of, Forest, kids, with_nth, IsHanded, Ends, Gives, root_tree, without_root, put, given_handed, given_told, last_tree}
+use Rattle.product_reduce.proofs.{Shared.{Step, IfDone, IfAgain, IsProduct, Becomes, factors_in}, Beside.{beside_given, beside_product}, Joins.{put_back}, Products.{becomes_as, factors_are}}
 use Rattle.calc_terms.specs.declared.rat.Rat.{Rat}
-use Rattle.product_reduce.proofs.Beside.{beside_given, beside_product}
-use Rattle.product_reduce.proofs.Joins.{put_back}
-use Rattle.product_reduce.proofs.Products.{becomes_as, factors_are}
 use Rattle.reduce_port.specs.declared.step.Step.TheVariants as step
 
 pub number_reduced : (t : Tree) → is_number t ≡ true → is_reduced t ≡ true

@@ -1,7 +1,8 @@
 -- Factors in the order of their bases, no two of which are identical.
 use Rattle.std.specs.Prelude.{⊤, IsPermutation, IsSortedByKey}
 use Rattle.std.proofs.Common.{suc, arith, add-one, ◌≡◌, false, sym, ap, ◌∙◌}
-use Rattle.product_reduce.proofs.Shared.{Ordering, Less, is_eq, is_lt, ordering_reverse, base_of, NoneIs, RisesBy, tree_cmp, Tree, Trees, none, more, Permuted, permuted_none, permuted_more, permuted_swap, permuted_trans, tree_cmp_total, list_of, is_partner, has_partner, have_partners}
+use Rattle.product_reduce.proofs.Shared.{Ordering, Less, is_eq, is_lt, ordering_reverse, base_of, NoneIs, RisesBy, tree_cmp, Tree, Trees, none, more, Permuted, permuted_none, permuted_more}
+use Rattle.product_reduce.proofs.Shared.{permuted_swap, permuted_trans, tree_cmp_total, list_of, is_partner, has_partner, have_partners}
 use Rattle.like_children.proofs.Permutations.{none_permuted, of_lists}
 
 -- ---- no two factors with one base

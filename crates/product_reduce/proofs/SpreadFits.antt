@@ -1,20 +1,21 @@
 -- Where what holds the factors one by one is little, a coefficient goes into the terms of a sum without an overflow.
 use Rattle.std.proofs.Common.{◌≡◌, ◌≢◌, ◌≤◌, ◌<◌, ◌+◌, ◌*◌, ◌^◌, ℕ, inl, inr, List, [], ◌∷◌, Bool, true, false, not, if◌then◌else◌, Result, refl, sym, ap, ◌∙◌, subst, arith}
-use Rattle.std.specs.Prelude.{IfErr}
-use Rattle.product_reduce.proofs.Shared.{mul-le, pow_pos, gcd, Fraction, lowest, times, zero_fraction, one_fraction, is_zero_fraction, fraction_fits, operation_fits, zero_times, value_of, Tree, num, add, mult, root, Trees, none, more, AllParts, AllPartsOf, has_undef, no_zero, zero_is, is_number, is_radicand, is_term, natural_of, value, term_of, terms_of, IsTerm, AreTerms, HasForm, NoneIs, split, split_product, num_one, number_terms, other_terms, are_reduced, Term, Surd, term, surd_of, surd_times, term_times, term_proper, number_words, term_words, mass, IsHeld, IsMonic, LeadsIn, LeadsTerm, NamesPut, monic_sum, product_form_of, monic_parts, State, Overflow, distributed, Addend, addend, addend_of, addends, addends_of, AreWeighted, more_weighted, IsPartHeld, Weighted, weighted, AreHeld, weighted_mass, lows, OfOverflow, NumberFault, AreOthers, AreFactorsHeld, opened, others_in, IsCoefficient, SpreadingOverflows, AreFewBits}
-use Rattle.calc_bits.proofs.Parts.{held_left, held_right}
 use Rattle.std.proofs.Math.Nat.{pow-le-pow_right}
+use Rattle.std.specs.Prelude.{IfErr}
+use Rattle.product_reduce.proofs.Shared.{mul-le, pow_pos, gcd, Fraction, lowest, times, zero_fraction, one_fraction, is_zero_fraction, fraction_fits, operation_fits, zero_times, value_of, Tree, num}
+use Rattle.product_reduce.proofs.Shared.{add, mult, root, Trees, none, more, AllParts, AllPartsOf, has_undef, no_zero, zero_is, is_number, is_radicand, is_term, natural_of, value, term_of, terms_of}
+use Rattle.product_reduce.proofs.Shared.{IsTerm, AreTerms, HasForm, NoneIs, split, split_product, num_one, number_terms, other_terms, are_reduced, Term, Surd, term, surd_of, surd_times, term_times}
+use Rattle.product_reduce.proofs.Shared.{term_proper, number_words, term_words, mass, IsHeld, IsMonic, LeadsIn, LeadsTerm, NamesPut, monic_sum, product_form_of, monic_parts, State, Overflow}
+use Rattle.product_reduce.proofs.Shared.{distributed, Addend, addend, addend_of, addends, addends_of, AreWeighted, more_weighted, IsPartHeld, Weighted, weighted, AreHeld, weighted_mass, lows}
+use Rattle.product_reduce.proofs.{Shared.{OfOverflow, NumberFault, AreOthers, AreFactorsHeld, opened, others_in, IsCoefficient, SpreadingOverflows, AreFewBits}, GatheredCounts.{single_monic}}
+use Rattle.product_reduce.proofs.{HeldFactors.{AreHeldApart}, HeldProducts.{apart, sum_addends}, Stepped.{others_are}}
+use Rattle.calc_bits.proofs.Parts.{held_left, held_right}
 use Rattle.coefficients.specs.Overflows.{Leads}
-use Rattle.rational128.specs.Refusals.{operation_of}
-use Rattle.rational128.specs.declared.overflow.Op.TheVariants.{Mul}
+use Rattle.rational128.specs.{Refusals.{operation_of}, declared.overflow.Op.TheVariants.{Mul}}
 use Rattle.surd_bits.specs.Proper.{IsProper}
 use Rattle.surd_bits.proofs.ProductsFit.{coefficients_fit}
 use Rattle.tree_handles.specs.Causes.{IsCaused, Overflows}
-use Rattle.product_reduce.proofs.GatheredCounts.{single_monic}
-use Rattle.product_reduce.proofs.HeldFactors.{AreHeldApart}
-use Rattle.product_reduce.proofs.HeldProducts.{apart, sum_addends}
 use Rattle.like_children.proofs.Addends.{rational_value}
-use Rattle.product_reduce.proofs.Stepped.{others_are}
 use Rattle.calc_algebra.proofs.NumberClasses as numbers
 use Rattle.std.proofs.lemmas.Bool.{true≢false}
 

@@ -1,9 +1,9 @@
 -- From the handed product to its other factors, and from one answer to another.
 use Rattle.std.proofs.Common.{arith, ℕ, ◌≡◌, Result, true, false, refl, ap, ◌∙◌}
 use Rattle.std.specs.Prelude.{IfOk}
-use Rattle.product_reduce.proofs.Shared.{and_from, Tree, mult, Trees, none, more, is_mult, has_undef, are_rationals, are_reduced, NumberFault, plain, children_of, Forest, IsHanded, root_tree, Joining, AreOthers, IfFinished, IfJoined, opened, others_in, IsProduct, factors_in}
-use Rattle.product_reduce.proofs.Finished.{formed_defined, formed_reduced, reduced_formed, opened_rationals, rationals_alone}
-use Rattle.product_reduce.proofs.Forms.{AllFormed, opened_formed, others_formed, others_no_numbers, others_none, opened_flat}
+use Rattle.product_reduce.proofs.Shared.{and_from, Tree, mult, Trees, none, more, is_mult, has_undef, are_rationals, are_reduced, NumberFault, plain, children_of, Forest, IsHanded, root_tree, Joining}
+use Rattle.product_reduce.proofs.{Shared.{AreOthers, IfFinished, IfJoined, opened, others_in, IsProduct, factors_in}, Finished.{formed_defined, formed_reduced, reduced_formed, opened_rationals}}
+use Rattle.product_reduce.proofs.{Finished.{rationals_alone}, Forms.{AllFormed, opened_formed, others_formed, others_no_numbers, others_none, opened_flat}}
 
 -- ---- the handed product
 

@@ -1,22 +1,16 @@
 -- What one step on a product makes of it.
 use Rattle.std.specs.Prelude.{ℕ, ◌≡◌, ◌≤◌, ⊤, true, false, Result, Ok, Err}
-use Rattle.calc_measures.specs.Loads.{nest, nest_of, load, load_of_factors}
-use Rattle.calc_algebra.specs.Numbers.{is_number, are_numbers}
-use Rattle.calc_measures.specs.PlainValues.{PlainValue}
-use Rattle.calc_algebra.specs.Reduced.{NoneIs, base_of, are_reduced}
+use Rattle.calc_measures.specs.{Loads.{nest, nest_of, load, load_of_factors}, PlainValues.{PlainValue}}
+use Rattle.calc_algebra.specs.{Numbers.{is_number, are_numbers}, Reduced.{NoneIs, base_of, are_reduced}}
 use Rattle.calc_terms.specs.Trees.{Tree, mult, Trees, none, more, is_mult, is_undef, has_undef}
 use Rattle.node_order.specs.Sorting.{IsSorting}
 use Rattle.node_pool.specs.State.{State}
 use Rattle.number_forms.specs.Readers.{is_zero}
-use Rattle.product_reduce.specs.Factors.{opened, others_in, IsCoefficient, coefficient_before, coefficient_times}
-use Rattle.product_reduce.specs.Joining.{have_partners, joined}
-use Rattle.product_reduce.specs.declared.gathering.Joining.{Joining}
+use Rattle.product_reduce.specs.{Factors.{opened, others_in, IsCoefficient, coefficient_before, coefficient_times}, Joining.{have_partners, joined}, declared.gathering.Joining.{Joining}}
 use Rattle.product_reduce.specs.declared.gathering.Joining.TheVariants as joining
 use Rattle.calc_measures.specs.PlainTrees.{IsPlainAnswer, IsPlainOverflow}
 use Rattle.calc_algebra.specs.Rewritings.{Rewrites, Reduces}
-use Rattle.tree_handles.specs.Causes.{LacksLongForm}
-use Rattle.tree_handles.specs.Handed.{tree_of}
-use Rattle.tree_handles.specs.declared.fault.NumberFault.{NumberFault}
+use Rattle.tree_handles.specs.{Causes.{LacksLongForm}, Handed.{tree_of}, declared.fault.NumberFault.{NumberFault}}
 use Rattle.tree_handles.specs.declared.fault.NumberFault.TheVariants as fault
 
 -- factors to be joined: none is Undef, the coefficient is not 0, and two of the others have identical bases

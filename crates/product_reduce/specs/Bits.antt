@@ -1,12 +1,9 @@
 -- By how many bits the factors of a product are held together.
 use Rattle.std.specs.Prelude.{ℕ, ◌+◌, ◌≤◌, [], ◌∷◌}
-use Rattle.calc_algebra.specs.Numbers.{natural_of}
-use Rattle.calc_algebra.specs.Surds.{term}
+use Rattle.calc_algebra.specs.{Numbers.{natural_of}, Surds.{term}}
 use Rattle.calc_bits.specs.Masses.{IsHeld}
-use Rattle.calc_terms.specs.Fractions.{Fraction}
-use Rattle.calc_terms.specs.Trees.{Tree, num, root, Trees, none, more}
-use Rattle.tree_bits.specs.Children.{IsSumHeld}
-use Rattle.tree_bits.specs.Factors.{as_factor}
+use Rattle.calc_terms.specs.{Fractions.{Fraction}, Trees.{Tree, num, root, Trees, none, more}}
+use Rattle.tree_bits.specs.{Children.{IsSumHeld}, Factors.{as_factor}}
 
 -- as a factor the tree is held by (h, l)
 abbrev pub IsFactorHeld : Tree → ℕ → ℕ → Type 0

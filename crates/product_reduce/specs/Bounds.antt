@@ -1,8 +1,6 @@
 -- What a product's answer and its gathered factors keep of the bounds on bytes and bits.
 use Rattle.std.specs.Prelude.{ℕ, ◌≡◌, ◌≤◌, List, false}
-use Rattle.calc_room.specs.Counts.{counted, counted_among}
-use Rattle.calc_room.specs.Powers.{HasPowersOf}
-use Rattle.calc_room.specs.Spans.{SpansTree, SpansTrees}
+use Rattle.calc_room.specs.{Counts.{counted, counted_among}, Powers.{HasPowersOf}, Spans.{SpansTree, SpansTrees}}
 use Rattle.calc_terms.specs.Trees.{Tree, mult, Trees, has_undef}
 use Rattle.product_reduce.specs.Bits.{AreFactorsHeld, IsFactorHeld}
 use Rattle.tree_handles.specs.Expressions.{children_of}

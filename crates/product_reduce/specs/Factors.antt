@@ -1,9 +1,6 @@
 -- The factors of a product: products in it opened, its Numbers as one coefficient, and the others.
 use Rattle.std.specs.Prelude.{ℕ, ◌≡◌, true, if◌then◌else◌}
-use Rattle.calc_algebra.specs.Numbers.{is_number, value}
-use Rattle.calc_algebra.specs.Reduced.{is_num_one, product_tree}
-use Rattle.calc_algebra.specs.SquareClasses.{Same}
-use Rattle.calc_algebra.specs.Surds.{Surd, surd_one, surd_times}
+use Rattle.calc_algebra.specs.{Numbers.{is_number, value}, Reduced.{is_num_one, product_tree}, SquareClasses.{Same}, Surds.{Surd, surd_one, surd_times}}
 use Rattle.calc_bits.specs.Masses.{IsHeld}
 use Rattle.calc_terms.specs.Trees.{Tree, Trees, none, more, append, opened_into}
 use Rattle.coefficients.specs.Coefficients.{factors_of, with_coefficient}

@@ -2,8 +2,7 @@
 use Rattle.std.specs.Prelude.{ℕ, ◌≡◌, ◌<◌, true, false}
 use Rattle.calc_terms.specs.Trees.{Tree, mult, Trees, count}
 use Rattle.number_forms.specs.Readers.{is_zero}
-use Rattle.product_reduce.specs.Factors.{coefficient_before}
-use Rattle.product_reduce.specs.Joining.{have_partners, is_partner, joined}
+use Rattle.product_reduce.specs.{Factors.{coefficient_before}, Joining.{have_partners, is_partner, joined}}
 use Rattle.tree_handles.specs.Expressions.{nth}
 
 -- none of the factors behind one and before another place has its base

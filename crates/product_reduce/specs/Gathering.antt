@@ -1,14 +1,11 @@
 -- A product whose Numbers are gathered, and whose other factors are in order.
 use Rattle.std.specs.Prelude.{ℕ, ◌≡◌, ◌≤◌, true, false}
-use Rattle.calc_algebra.specs.Reduced.{base_of, are_reduced, product_tree}
-use Rattle.calc_algebra.specs.Rewritings.{Rewrites}
+use Rattle.calc_algebra.specs.{Reduced.{base_of, are_reduced, product_tree}, Rewritings.{Rewrites}}
 use Rattle.calc_measures.specs.Loads.{nest_of, load_of_factors}
 use Rattle.calc_terms.specs.Trees.{Tree, mult, Trees, append, count}
 use Rattle.node_order.specs.Sorting.{IsSorting}
 use Rattle.number_forms.specs.Readers.{is_zero}
-use Rattle.product_reduce.specs.Answers.{AreJoinable}
-use Rattle.product_reduce.specs.Factors.{opened, others_in, IsCoefficient, coefficient_before, coefficient_times}
-use Rattle.product_reduce.specs.Joining.{have_partners}
+use Rattle.product_reduce.specs.{Answers.{AreJoinable}, Factors.{opened, others_in, IsCoefficient, coefficient_before, coefficient_times}, Joining.{have_partners}}
 use Rattle.tree_handles.specs.Expressions.{children_of}
 
 -- factors to be joined: the coefficient, which is not 0, and behind it the others in the order of their bases

@@ -1,8 +1,6 @@
 -- Factors with identical bases, joined.
-use Rattle.std.specs.Prelude.{ℕ, ◌≡◌, ◌<◌, Bool, true, false, if◌then◌else◌}
-use Rattle.std.specs.Ordering.{is_eq}
-use Rattle.calc_algebra.specs.Reduced.{is_opaque_exponent, is_reduced, base_of, num_one, are_reduced}
-use Rattle.calc_algebra.specs.TreeOrder.{tree_cmp}
+use Rattle.std.specs.{Prelude.{ℕ, ◌≡◌, ◌<◌, Bool, true, false, if◌then◌else◌}, Ordering.{is_eq}}
+use Rattle.calc_algebra.specs.{Reduced.{is_opaque_exponent, is_reduced, base_of, num_one, are_reduced}, TreeOrder.{tree_cmp}}
 use Rattle.calc_terms.specs.Trees.{Tree, undef, add, power, Trees, none, more, count}
 use Rattle.number_forms.specs.Sums.{removed}
 use Rattle.tree_handles.specs.Expressions.{nth}

@@ -1,13 +1,10 @@
 -- Which operation does not fit where factors are multiplied.
 use Rattle.std.specs.Prelude.{◌≡◌, ◌≤◌}
 use Rattle.calc_algebra.specs.Numbers.{value}
-use Rattle.calc_measures.specs.PlainTrees.{IsPlainOverflow}
-use Rattle.calc_measures.specs.PlainValues.{calculated}
-use Rattle.calc_terms.specs.Fits.{mul_op}
-use Rattle.calc_terms.specs.Trees.{Tree, num, Trees, none, more, append, count}
+use Rattle.calc_measures.specs.{PlainTrees.{IsPlainOverflow}, PlainValues.{calculated}}
+use Rattle.calc_terms.specs.{Fits.{mul_op}, Trees.{Tree, num, Trees, none, more, append, count}}
 use Rattle.coefficients.specs.Overflows.{NamesPut}
-use Rattle.number_forms.specs.Answers.{IsNumberOf}
-use Rattle.number_forms.specs.Overflows.{ProductOverflows}
+use Rattle.number_forms.specs.{Answers.{IsNumberOf}, Overflows.{ProductOverflows}}
 use Rattle.product_reduce.specs.Factors.{opened, numbers_in, others_in, IsCoefficient, product_of_values}
 use Rattle.rational128.specs.declared.overflow.Overflow.{Overflow}
 

@@ -1,20 +1,13 @@
 -- The first Number among the factors, which the others are multiplied into.
 use Rattle.std.specs.Prelude.{ℕ, List, ◌≡◌, ◌≤◌, true}
-use Rattle.calc_terms.specs.Fits.{mul_op}
-use Rattle.calc_algebra.specs.Numbers.{is_number, value}
-use Rattle.calc_algebra.specs.Reduced.{are_reduced}
-use Rattle.calc_algebra.specs.SquareClasses.{Same}
+use Rattle.calc_terms.specs.{Fits.{mul_op}, Trees.{Tree, mult, Trees, append, count, are_rationals, sizes}}
+use Rattle.calc_algebra.specs.{Numbers.{is_number, value}, Reduced.{are_reduced}, SquareClasses.{Same}}
 use Rattle.calc_bits.specs.Masses.{IsHeld}
 use Rattle.calc_measures.specs.PlainValues.{plain_value}
 use Rattle.calc_room.specs.Spans.{SpansTree, SpansTrees}
-use Rattle.calc_terms.specs.Trees.{Tree, mult, Trees, append, count, are_rationals, sizes}
-use Rattle.like_children.specs.Children.{LeavesChildren}
-use Rattle.like_children.specs.Folds.{AreFolded}
-use Rattle.tree_handles.specs.Expressions.{plain}
-use Rattle.tree_handles.specs.Forest.{Forest}
-use Rattle.tree_handles.specs.Roots.{root_tree}
-use Rattle.product_reduce.specs.Bits.{AreFactorsHeld}
-use Rattle.product_reduce.specs.Factors.{numbers_in, others_in, product_of_values}
+use Rattle.like_children.specs.{Children.{LeavesChildren}, Folds.{AreFolded}}
+use Rattle.tree_handles.specs.{Expressions.{plain}, Forest.{Forest}, Roots.{root_tree}}
+use Rattle.product_reduce.specs.{Bits.{AreFactorsHeld}, Factors.{numbers_in, others_in, product_of_values}}
 
 -- a Number that is worth these multiplied, and is held by what holds them one by one
 pub record IsProductOf (ns : Trees) (d : Tree) : Type 0 where

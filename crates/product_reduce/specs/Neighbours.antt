@@ -1,7 +1,6 @@
 -- Neighbours among the factors that have identical bases.
 use Rattle.std.specs.Prelude.{ℕ, Bool, ◌&&◌, not}
-use Rattle.calc_algebra.specs.Numbers.{is_number}
-use Rattle.calc_algebra.specs.Reduced.{base_of}
+use Rattle.calc_algebra.specs.{Numbers.{is_number}, Reduced.{base_of}}
 use Rattle.calc_terms.specs.Trees.{Tree, Trees, none, more, is_mult}
 use Rattle.like_children.specs.Neighbours as alike
 use Rattle.like_children.specs.Neighbours.{are_alike}

@@ -1,10 +1,7 @@
 -- A root that is a product, and what is taken out of it.
 use Rattle.std.specs.Prelude.{ℕ, ◌≡◌, [], ◌∷◌, false}
 use Rattle.calc_terms.specs.Trees.{Tree, mult, Trees}
-use Rattle.tree_handles.specs.Expressions.{plain, children_of}
-use Rattle.tree_handles.specs.Forest.{Forest}
-use Rattle.tree_handles.specs.Handed.{IsHanded, KeepsFront}
-use Rattle.tree_handles.specs.Roots.{has_root, root_tree, without_root}
+use Rattle.tree_handles.specs.{Expressions.{plain, children_of}, Forest.{Forest}, Handed.{IsHanded, KeepsFront}, Roots.{has_root, root_tree, without_root}}
 use Rattle.calc_algebra.specs.Reduced.{base_of}
 use Rattle.product_reduce.specs.Joining.{exponent_of}
 

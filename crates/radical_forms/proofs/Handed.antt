@@ -3,13 +3,8 @@ use Rattle.std.proofs.Common.{◌≡◌, ◌≢◌, ℕ, ◌<◌, true, false, s
 use Rattle.calc_terms.specs.declared.kind.Kind.TheVariants as kind
 use Rattle.calc_terms.specs.Trees.{Tree, undef, root, is_num, is_undef, is_root, root_kind, count}
 use Rattle.node_pool.specs.State.{State}
-use Rattle.tree_handles.specs.Expressions.{plain, nth, children_of, IsExpression}
-use Rattle.tree_handles.specs.Forest.{arity}
-use Rattle.tree_handles.specs.Handed.{IsHanded, tree_of}
-use Rattle.tree_handles.specs.Inside.{kids_of, tree_at}
-use Rattle.tree_handles.specs.Standing.{Stands, forest}
-use Rattle.tree_handles.proofs.Lasts.{expression_root, plain_root}
-use Rattle.tree_handles.proofs.Readings.{expression_children}
+use Rattle.tree_handles.specs.{Expressions.{plain, nth, children_of, IsExpression}, Forest.{arity}, Handed.{IsHanded, tree_of}, Inside.{kids_of, tree_at}, Standing.{Stands, forest}}
+use Rattle.tree_handles.proofs.{Lasts.{expression_root, plain_root}, Readings.{expression_children}}
 use Rattle.radical_forms.specs.RootAnswers.{argument_of}
 
 -- a root is over its argument

@@ -1,14 +1,10 @@
 -- Numbers that no bits hold are rationals.
-use Rattle.std.proofs.Common.{◌≡◌, ◌≢◌, ℕ, ◌*◌, ◌^◌, ◌≤◌, ◌<◌, [], ◌∷◌, length, true, refl, sym, ap, ◌∙◌, subst, arith}
-use Rattle.std.proofs.lemmas.Nat.{mul-le}
+use Rattle.std.proofs.{Common.{◌≡◌, ◌≢◌, ℕ, ◌*◌, ◌^◌, ◌≤◌, ◌<◌, [], ◌∷◌, length, true, refl, sym, ap, ◌∙◌, subst, arith}, lemmas.Nat.{mul-le}}
 use Rattle.calc_algebra.proofs.NumberClasses.{one_not_zero}
-use Rattle.calc_algebra.specs.Numbers.{IsNumber, IsRadicand, value, natural_of, terms_of, term_of}
-use Rattle.calc_algebra.specs.Surds.{Term, Surd}
+use Rattle.calc_algebra.specs.{Numbers.{IsNumber, IsRadicand, value, natural_of, terms_of, term_of}, Surds.{Term, Surd}}
 use Rattle.calc_bits.proofs.Parts.{term_held}
-use Rattle.calc_bits.specs.Denominators.{Parts, magnitude_over}
-use Rattle.calc_bits.specs.Masses.{mass, IsHeld}
-use Rattle.calc_terms.specs.Fractions.{Fraction, zero_fraction}
-use Rattle.calc_terms.specs.Trees.{Tree, num, add, mult, root, none, more, is_num}
+use Rattle.calc_bits.specs.{Denominators.{Parts, magnitude_over}, Masses.{mass, IsHeld}}
+use Rattle.calc_terms.specs.{Fractions.{Fraction, zero_fraction}, Trees.{Tree, num, add, mult, root, none, more, is_num}}
 use Rattle.surd_bits.proofs.Bounds.{magnitude_positive}
 
 one_denominator : (d : ℕ) → 0 < d → d ≤ 2 ^ 0 → d ≡ 1

@@ -1,41 +1,20 @@
 -- What each root of a reduced tree reduces to.
-use Rattle.std.proofs.Common.{◌≡◌, ◌≢◌, ◌==◌, ℕ, ◌<◌, ◌≤◌, Bool, true, false, ℤ, pos, ◌<ℤ◌, [], ◌∷◌, inl, inr, refl, sym, ap, ◌∙◌, subst, arith}
-use Rattle.std.proofs.lemmas.Bool.{eqb-true, eq-eqb}
-use Rattle.std.proofs.lemmas.Int.{ints}
-use Rattle.std.specs.Prelude.{List, length, Result, Err, if◌then◌else◌}
-use Rattle.calc_terms.specs.Fractions.{Fraction, zero_fraction, one_fraction, is_one_fraction, whole_fraction}
-use Rattle.calc_terms.specs.Integers.{int_is_negative, int_is_zero}
+use Rattle.std.proofs.{Common.{◌≡◌, ◌≢◌, ◌==◌, ℕ, ◌<◌, ◌≤◌, Bool, true, false, ℤ, pos, ◌<ℤ◌, [], ◌∷◌, inl, inr, refl, sym, ap, ◌∙◌, subst, arith}, lemmas.Bool.{eqb-true, eq-eqb}, lemmas.Int.{ints}}
+use Rattle.std.specs.{Prelude.{List, length, Result, Err, if◌then◌else◌}, Result.{IsErrAnd}}
+use Rattle.calc_terms.specs.{Fractions.{Fraction, zero_fraction, one_fraction, is_one_fraction, whole_fraction}, Integers.{int_is_negative, int_is_zero}, Trees.{Tree, num, symbol, undef, root, names}}
+use Rattle.calc_terms.specs.Trees.{is_num, is_undef, itself, in_root}
 use Rattle.calc_terms.proofs.FractionFacts.{one_is}
-use Rattle.calc_algebra.specs.Clean.{IsClean}
+use Rattle.calc_algebra.specs.{Clean.{IsClean}, Meanings.{IsRootOf}, Numbers.{is_number, is_term, term_of, value, IsTerm}, Reduced.{is_reduced, IsReduced}, SquareClasses.{Same}}
+use Rattle.calc_algebra.specs.{Surds.{Term, Surd, surd_of}, Rewritings.{HasNoNewName}}
 use Rattle.calc_measures.specs.Loads.{nest, load}
-use Rattle.calc_algebra.specs.Meanings.{IsRootOf}
-use Rattle.calc_algebra.specs.Numbers.{is_number, is_term, term_of, value, IsTerm}
-use Rattle.calc_algebra.specs.Reduced.{is_reduced, IsReduced}
-use Rattle.calc_algebra.specs.SquareClasses.{Same}
-use Rattle.calc_algebra.specs.Surds.{Term, Surd, surd_of}
-use Rattle.calc_terms.specs.Trees.{Tree, num, symbol, undef, root, names, is_num, is_undef, itself, in_root}
-use Rattle.calc_algebra.proofs.NumberLaws.{number_test, number_words, term_words}
-use Rattle.calc_algebra.proofs.MeaningRewrites.{KeepsMeanings}
-use Rattle.calc_algebra.proofs.NumberRewrites.{root_of_rational}
-use Rattle.calc_algebra.proofs.ReducedLaws.{reduced_test, reduced_words}
-use Rattle.calc_algebra.proofs.TermLaws.{Same-eq}
-use Rattle.calc_algebra.proofs.UndefRewrites.{undef_part, root_of_negative}
-use Rattle.number_forms.proofs.Placings.{rational_term, root_term, multiple_term, one_test}
-use Rattle.number_forms.proofs.Shaped.{term_number, term_value}
-use Rattle.number_forms.proofs.TermTrees.{rational_tree, root_tree, multiple_tree}
+use Rattle.calc_algebra.proofs.{NumberLaws.{number_test, number_words, term_words}, MeaningRewrites.{KeepsMeanings}, NumberRewrites.{root_of_rational}, ReducedLaws.{reduced_test, reduced_words}}
+use Rattle.calc_algebra.proofs.{TermLaws.{Same-eq}, UndefRewrites.{undef_part, root_of_negative}, Rewritings.{keeps, Rewrites-refl}}
+use Rattle.number_forms.proofs.{Placings.{rational_term, root_term, multiple_term, one_test}, Shaped.{term_number, term_value}, TermTrees.{rational_tree, root_tree, multiple_tree}}
 use Rattle.number_forms.specs.Shapes.{term_tree}
-use Rattle.calc_algebra.specs.Rewritings.{HasNoNewName}
-use Rattle.calc_algebra.proofs.Rewritings.{keeps, Rewrites-refl}
-use Rattle.radical_forms.specs.RootAnswers.{has_no_root, IsRootAnswer}
-use Rattle.radical_forms.specs.Refusals.{HasWideRoot, LacksRoot, IsOverflow}
-use Rattle.tree_handles.specs.Faults.{IfOverflow}
+use Rattle.radical_forms.specs.{RootAnswers.{has_no_root, IsRootAnswer}, Refusals.{HasWideRoot, LacksRoot, IsOverflow}}
+use Rattle.tree_handles.specs.{Faults.{IfOverflow}, Building.{building}, declared.fault.NumberFault.{NumberFault}}
 use Rattle.node_pool.specs.declared.full.Full.{Full}
-use Rattle.rational128.specs.Refusals.{DoesNotFit}
-use Rattle.rational128.specs.declared.overflow.Op.TheVariants.{Mul}
-use Rattle.rational128.specs.declared.overflow.Overflow.{Overflow}
-use Rattle.std.specs.Result.{IsErrAnd}
-use Rattle.tree_handles.specs.Building.{building}
-use Rattle.tree_handles.specs.declared.fault.NumberFault.{NumberFault}
+use Rattle.rational128.specs.{Refusals.{DoesNotFit}, declared.overflow.Op.TheVariants.{Mul}, declared.overflow.Overflow.{Overflow}}
 use Rattle.tree_handles.specs.declared.fault.NumberFault.TheVariants as fault
 use lib.Signed.{lt_z}
 

@@ -1,21 +1,10 @@
 -- The root of a rational, as the Number that it is.
 use Rattle.std.proofs.Common.{◌≡◌, ℕ, suc, ◌*◌, ◌≤◌, zero, ℤ, pos, negsuc, Bool, true, false, if◌then◌else◌, [], ◌∷◌, length, refl, ap, ◌∙◌, arith}
-use Rattle.calc_algebra.proofs.InverseLaws.{Same-times_zero}
-use Rattle.calc_algebra.proofs.MeaningLaws.{Same-sym}
-use Rattle.calc_algebra.proofs.NumberClasses.{number_zero, number_short}
-use Rattle.calc_algebra.proofs.NumberLaws.{number_words}
-use Rattle.calc_algebra.proofs.NumberRewrites.{number_value}
-use Rattle.calc_algebra.proofs.PowerLaws.{root_squared, root_zero, surd_of_zero, zero_surd_of}
-use Rattle.calc_algebra.proofs.SquareClassLaws.{Same-trans}
-use Rattle.calc_algebra.proofs.TermLaws.{Same-refl, Same-eq}
-use Rattle.calc_algebra.specs.Meanings.{IsRootOf, IsRoot}
-use Rattle.calc_algebra.specs.Numbers.{IsNumber, value, classes}
-use Rattle.calc_algebra.specs.SquareClasses.{Same}
-use Rattle.calc_algebra.specs.Surds.{Surd, term, surd_of}
+use Rattle.calc_algebra.proofs.{InverseLaws.{Same-times_zero}, MeaningLaws.{Same-sym}, NumberClasses.{number_zero, number_short}, NumberLaws.{number_words}, NumberRewrites.{number_value}}
+use Rattle.calc_algebra.proofs.{PowerLaws.{root_squared, root_zero, surd_of_zero, zero_surd_of}, SquareClassLaws.{Same-trans}, TermLaws.{Same-refl, Same-eq}}
+use Rattle.calc_algebra.specs.{Meanings.{IsRootOf, IsRoot}, Numbers.{IsNumber, value, classes}, SquareClasses.{Same}, Surds.{Surd, term, surd_of}}
 use Rattle.calc_terms.proofs.FractionFacts.{zero_is, whole_numerator}
-use Rattle.calc_terms.specs.Fractions.{Fraction, lowest, zero_fraction, is_zero_fraction}
-use Rattle.calc_terms.specs.Integers.{int_is_negative, int_is_zero}
-use Rattle.calc_terms.specs.Trees.{Tree, num}
+use Rattle.calc_terms.specs.{Fractions.{Fraction, lowest, zero_fraction, is_zero_fraction}, Integers.{int_is_negative, int_is_zero}, Trees.{Tree, num}}
 use Rattle.radical_forms.specs.RootAnswers.{IsRootAnswer}
 
 root_value : (z : ℤ) (d : ℕ) → int_is_negative z ≡ false → (v : Surd) × IsRootOf z d v × (length v ≤ 2)

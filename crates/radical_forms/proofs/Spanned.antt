@@ -1,18 +1,14 @@
 -- What spans the root of a reduced tree spans what it reduces to.
 use Rattle.std.proofs.Common.{◌≡◌, ◌*◌, ◌<◌, ℕ, ℤ, pos, ◌<ℤ◌, List, [], ◌∷◌, true, false, Result, sym, subst, arith}
 use Rattle.std.specs.Prelude.{IfOk}
-use Rattle.calc_terms.specs.Fractions.{Fraction, mul_pos, den_pos}
-use Rattle.calc_terms.specs.Trees.{Tree, num, undef, root, is_undef}
+use Rattle.calc_terms.specs.{Fractions.{Fraction, mul_pos, den_pos}, Trees.{Tree, num, undef, root, is_undef}}
 use Rattle.calc_algebra.specs.Numbers.{natural_of}
 use Rattle.calc_algebra.proofs.NumberLaws.{number_words}
 use Rattle.calc_room.specs.Spans.{SpansTree}
 use Rattle.calc_room.proofs.NumberSpans.{root_spanned, spanned_itself}
 use Rattle.node_pool.specs.State.{State}
 use Rattle.radical_forms.specs.RootAnswers.{has_no_root, IsRootAnswer}
-use Rattle.tree_handles.specs.Forest.{Forest}
-use Rattle.tree_handles.specs.Handed.{tree_of, Gives}
-use Rattle.tree_handles.specs.Standing.{forest}
-use Rattle.tree_handles.specs.declared.fault.NumberFault.{NumberFault}
+use Rattle.tree_handles.specs.{Forest.{Forest}, Handed.{tree_of, Gives}, Standing.{forest}, declared.fault.NumberFault.{NumberFault}}
 use Rattle.tree_handles.proofs.Given.{given_told}
 
 undef_is : (t : Tree) → is_undef t ≡ true → t ≡ undef

@@ -1,15 +1,10 @@
 -- When the reduction of a root is refused.
 use Rattle.std.specs.Prelude.{ℕ, ◌≡◌, ◌<ℤ◌, pos, Result, Ok, Err, ⊤}
-use Rattle.calc_terms.specs.Fractions.{whole_fraction}
-use Rattle.calc_terms.specs.Rat.{value_of}
-use Rattle.calc_terms.specs.Trees.{Tree, num}
+use Rattle.calc_terms.specs.{Fractions.{whole_fraction}, Rat.{value_of}, Trees.{Tree, num}}
 use Rattle.node_pool.specs.declared.full.Full.{Full}
 use Rattle.radical_forms.specs.RootAnswers.{IsRootAnswer}
-use Rattle.rational128.specs.Refusals.{DoesNotFit}
-use Rattle.rational128.specs.declared.overflow.Op.TheVariants.{Mul}
-use Rattle.rational128.specs.declared.overflow.Overflow.{Overflow}
-use Rattle.tree_handles.specs.Building.{building}
-use Rattle.tree_handles.specs.declared.fault.NumberFault.{NumberFault}
+use Rattle.rational128.specs.{Refusals.{DoesNotFit}, declared.overflow.Op.TheVariants.{Mul}, declared.overflow.Overflow.{Overflow}}
+use Rattle.tree_handles.specs.{Building.{building}, declared.fault.NumberFault.{NumberFault}}
 use Rattle.tree_handles.specs.declared.fault.NumberFault.TheVariants as fault
 
 -- a rational p/q above 0 whose p * q does not fit

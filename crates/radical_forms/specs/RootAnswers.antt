@@ -1,11 +1,8 @@
 -- What the root of a reduced tree reduces to.
 use Rattle.std.specs.Prelude.{◌≡◌, ◌≤◌, Bool, true, false, ⊤}
-use Rattle.calc_terms.specs.Fractions.{Fraction}
-use Rattle.calc_terms.specs.Integers.{int_is_negative}
+use Rattle.calc_terms.specs.{Fractions.{Fraction}, Integers.{int_is_negative}, Trees.{Tree, num, undef, root, is_num, is_undef}}
 use Rattle.calc_measures.specs.Loads.{nest, load}
-use Rattle.calc_algebra.specs.Numbers.{is_number}
-use Rattle.calc_terms.specs.Trees.{Tree, num, undef, root, is_num, is_undef}
-use Rattle.calc_algebra.specs.Rewritings.{Reduces}
+use Rattle.calc_algebra.specs.{Numbers.{is_number}, Rewritings.{Reduces}}
 
 -- the tree under a root
 abbrev pub argument_of : Tree → Tree

@@ -1,9 +1,7 @@
 -- Powers of fractions by their parts.
-use Rattle.rational128.proofs.Shared.{◌≡◌, ◌≢◌, ℕ, zero, suc, ◌*◌, ◌%◌, ◌^◌, ◌<◌, ℤ, pos, negsuc, ◌*ℤ◌, neg_ℤ, Bool, true, false, cond, ◌==◌, refl, sym, ap}
-use Rattle.rational128.proofs.Shared.{◌∙◌, subst, arith, nat_abs, IsGcd, int_pow, eqb-true, eqb-false, pow-zero, pow-succ', one-le-pow, Fraction, lowest, times, one_fraction, den_pos}
-use Rattle.rational128.proofs.Shared.{lowest_parts, times_lowest, fraction_power}
-use Rattle.rational128.proofs.Coprime.{IsCoprime, IsCoprime-swap, IsCoprime-mul, IsGcd-from_coprime}
-use Rattle.rational128.proofs.LowestTerms.{HasParts, parts_themselves, is_lowest_from, fraction_coprime}
+use Rattle.rational128.proofs.Shared.{◌≡◌, ◌≢◌, ℕ, zero, suc, ◌*◌, ◌%◌, ◌^◌, ◌<◌, ℤ, pos, negsuc, ◌*ℤ◌, neg_ℤ, Bool, true, false, cond, ◌==◌, refl, sym, ap, ◌∙◌, subst, arith, nat_abs, IsGcd, int_pow}
+use Rattle.rational128.proofs.Shared.{eqb-true, eqb-false, pow-zero, pow-succ', one-le-pow, Fraction, lowest, times, one_fraction, den_pos, lowest_parts, times_lowest, fraction_power}
+use Rattle.rational128.proofs.{Coprime.{IsCoprime, IsCoprime-swap, IsCoprime-mul, IsGcd-from_coprime}, LowestTerms.{HasParts, parts_themselves, is_lowest_from, fraction_coprime}}
 
 -- ---- powers of signed numbers
 

@@ -1,7 +1,6 @@
 -- Fractions by their parts in lowest terms.
-use Rattle.rational128.proofs.Shared.{◌≡◌, ℕ, ◌<◌, ℤ, pos, ◌*ℤ◌, Bool, true, ◌&&◌, refl, sym, ap, ◌∙◌, subst, arith, nat_abs, IsGcd, lt-ltb, eq-eqb, eqb-true}
-use Rattle.rational128.proofs.Shared.{same_from_IsGcd, one-dvd, gcd_is, Fraction, Holds, is_lowest, lowest, second_held, lowest_parts, same_lowest, fraction_path, Rat, ratio_of, value_of}
-use Rattle.rational128.proofs.Coprime.{IsCoprime, IsCoprime-from_gcd}
+use Rattle.rational128.proofs.Shared.{◌≡◌, ℕ, ◌<◌, ℤ, pos, ◌*ℤ◌, Bool, true, ◌&&◌, refl, sym, ap, ◌∙◌, subst, arith, nat_abs, IsGcd, lt-ltb, eq-eqb, eqb-true, same_from_IsGcd, one-dvd, gcd_is}
+use Rattle.rational128.proofs.{Shared.{Fraction, Holds, is_lowest, lowest, second_held, lowest_parts, same_lowest, fraction_path, Rat, ratio_of, value_of}, Coprime.{IsCoprime, IsCoprime-from_gcd}}
 
 holds : (b : Bool) → b ≡ true → Holds b
 holds b e = grind arith

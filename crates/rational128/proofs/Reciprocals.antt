@@ -1,9 +1,7 @@
 -- Negatives and reciprocals by their parts.
-use Rattle.rational128.proofs.Shared.{◌≡◌, ◌≢◌, ℕ, zero, suc, ◌*◌, ◌<◌, ◌^◌, ℤ, pos, negsuc, ◌*ℤ◌, ◌-ℤ◌, neg_ℤ, ◌<ℤ◌, ◌≤ℤ◌, refl, ap, ◌∙◌}
-use Rattle.rational128.proofs.Shared.{arith, to_z, of_z, nat_abs, IsGcd, w128, ints, Fraction, lowest, times, negative, inverse, inverse_of, one_fraction, den_pos, lowest_parts, same_lowest}
-use Rattle.rational128.proofs.Shared.{times_lowest, mul_pos}
-use Rattle.rational128.proofs.Coprime.{IsCoprime, IsCoprime-swap, IsGcd-from_coprime}
-use Rattle.rational128.proofs.LowestTerms.{HasParts, parts_themselves, is_lowest_from, fraction_coprime}
+use Rattle.rational128.proofs.Shared.{◌≡◌, ◌≢◌, ℕ, zero, suc, ◌*◌, ◌<◌, ◌^◌, ℤ, pos, negsuc, ◌*ℤ◌, ◌-ℤ◌, neg_ℤ, ◌<ℤ◌, ◌≤ℤ◌, refl, ap, ◌∙◌, arith, to_z, of_z, nat_abs, IsGcd, w128, ints, Fraction}
+use Rattle.rational128.proofs.Shared.{lowest, times, negative, inverse, inverse_of, one_fraction, den_pos, lowest_parts, same_lowest, times_lowest, mul_pos}
+use Rattle.rational128.proofs.{Coprime.{IsCoprime, IsCoprime-swap, IsGcd-from_coprime}, LowestTerms.{HasParts, parts_themselves, is_lowest_from, fraction_coprime}}
 
 pub abs_negative : (p : ℤ) → nat_abs (neg_ℤ p) ≡ nat_abs p
 abs_negative p = grind arith

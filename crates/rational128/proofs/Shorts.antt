@@ -1,11 +1,7 @@
 -- Sums and products of short numbers, as the code finds them.
-use Rattle.rational128.proofs.Shared.{◌≡◌, ℕ, ◌<◌, ◌≤◌, ◌^◌, ◌+ℤ◌, ◌*ℤ◌, ℤ, refl, sym, ap, ◌∙◌, subst, arith, to_z, of_z, FitsSigned, nat_abs, true, IsGcd}
-use Rattle.rational128.proofs.Shared.{one-dvd, w64, w128, mul-le, ints, fits_signed_from_abs, unsigned_abs-mul, short_parts, fraction_fits, sum_fits, Fraction, lowest, plus, times, plus_lowest}
-use Rattle.rational128.proofs.Shared.{times_lowest, ratio_of, value_of, IsRat, whole, is_short, Rat, whole_denominator, whole_numerator}
-use Rattle.rational128.proofs.Signed.{told}
-use Rattle.rational128.proofs.LowestTerms.{ratio_parts}
-use Rattle.rational128.proofs.Products.{parts_fit}
-use Rattle.rational128.proofs.Sums.{Operands, reduces}
+use Rattle.rational128.proofs.Shared.{◌≡◌, ℕ, ◌<◌, ◌≤◌, ◌^◌, ◌+ℤ◌, ◌*ℤ◌, ℤ, refl, sym, ap, ◌∙◌, subst, arith, to_z, of_z, FitsSigned, nat_abs, true, IsGcd, one-dvd, w64, w128, mul-le, ints}
+use Rattle.rational128.proofs.Shared.{fits_signed_from_abs, unsigned_abs-mul, short_parts, fraction_fits, sum_fits, Fraction, lowest, plus, times, plus_lowest, times_lowest, ratio_of, value_of, IsRat}
+use Rattle.rational128.proofs.{Shared.{whole, is_short, Rat, whole_denominator, whole_numerator}, Signed.{told}, LowestTerms.{ratio_parts}, Products.{parts_fit}, Sums.{Operands, reduces}}
 
 -- a short number, and its numerator as the code hands it on
 pub record IsShortOne (r : Rat) (z : ℤ) : Type 0 where

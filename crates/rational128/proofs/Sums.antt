@@ -1,11 +1,8 @@
 -- The sum of two fractions over the greatest common divisor of their denominators.
-use Rattle.rational128.proofs.Shared.{◌≡◌, ℕ, ◌*◌, ◌/◌, ◌<◌, ◌^◌, ℤ, pos, ◌+ℤ◌, ◌*ℤ◌, Bool, true, false, ◌&&◌, refl, sym, ap, ◌∙◌, subst, arith}
-use Rattle.rational128.proofs.Shared.{nat_abs, IsGcd, ◌∣◌, ints, unsigned_abs-mul, dvd_refl, dvd_trans, same_from_IsGcd, mul-div_cancel', dvd-mul_left, pos_of_dvd_of_pos, gcd_is, parts, diffs}
-use Rattle.rational128.proofs.Shared.{eq_diff, combine, Fraction, plus, lowest, over, over_back, over_abs, den_pos, mul_pos, fits, sum_fits}
-use Rattle.rational128.proofs.Coprime.{IsCoprime, IsGcd-from_coprime, IsCoprime-swap, IsCoprime-divisors, other_factor, IsCoprime-mul, quotients_coprime, dvd-difference, factor_divides}
-use Rattle.rational128.proofs.Coprime.{positive_factor}
-use Rattle.rational128.proofs.FitTests.{fits_yes, fits_no}
-use Rattle.rational128.proofs.LowestTerms.{HasParts, parts_by_cross, fraction_coprime}
+use Rattle.rational128.proofs.Shared.{◌≡◌, ℕ, ◌*◌, ◌/◌, ◌<◌, ◌^◌, ℤ, pos, ◌+ℤ◌, ◌*ℤ◌, Bool, true, false, ◌&&◌, refl, sym, ap, ◌∙◌, subst, arith, nat_abs, IsGcd, ◌∣◌, ints, unsigned_abs-mul, dvd_refl}
+use Rattle.rational128.proofs.Shared.{dvd_trans, same_from_IsGcd, mul-div_cancel', dvd-mul_left, pos_of_dvd_of_pos, gcd_is, parts, diffs, eq_diff, combine, Fraction, plus, lowest, over, over_back}
+use Rattle.rational128.proofs.{Shared.{over_abs, den_pos, mul_pos, fits, sum_fits}, Coprime.{IsCoprime, IsGcd-from_coprime, IsCoprime-swap, IsCoprime-divisors, other_factor, IsCoprime-mul}}
+use Rattle.rational128.proofs.{Coprime.{quotients_coprime, dvd-difference, factor_divides, positive_factor}, FitTests.{fits_yes, fits_no}, LowestTerms.{HasParts, parts_by_cross, fraction_coprime}}
 
 -- p*s + r*q has no divisor in common with q, where p and s have none
 sum_coprime : (p r : ℤ) (q s : ℕ) → IsCoprime (nat_abs p) q → IsCoprime s q → IsCoprime (nat_abs (p *ℤ pos s +ℤ r *ℤ pos q)) q

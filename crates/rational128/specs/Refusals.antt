@@ -1,11 +1,7 @@
 -- When an operation on fractions does not fit.
 use Rattle.std.specs.Prelude.{◌≡◌, Bool, true, false, Option, Some, None}
-use Rattle.calc_terms.specs.Fractions.{Fraction}
-use Rattle.calc_terms.specs.Fits.{Operation, add_op, mul_op, pow_op, operation_fits}
-use Rattle.calc_terms.specs.declared.rat.Rat.{Rat}
-use Rattle.calc_terms.specs.Rat.{value_of}
-use Rattle.rational128.specs.declared.overflow.Op.{Op}
-use Rattle.rational128.specs.declared.overflow.Op.TheVariants.{Add, Mul, Pow}
+use Rattle.calc_terms.specs.{Fractions.{Fraction}, Fits.{Operation, add_op, mul_op, pow_op, operation_fits}, declared.rat.Rat.{Rat}, Rat.{value_of}}
+use Rattle.rational128.specs.{declared.overflow.Op.{Op}, declared.overflow.Op.TheVariants.{Add, Mul, Pow}}
 
 -- the operation that an `Op` names
 abbrev pub operation_of : Op → Operation

@@ -1,6 +1,5 @@
 -- Writing one list after another.
-use Rattle.raw_region.proofs.Shared.{List, [], ap, append_assoc, arith, length, sym, take, ℕ, ◌++◌, ◌+◌, ◌∙◌, ◌≡◌, ◌≤◌, drop-drop, drop_at, length-append}
-use Rattle.raw_region.proofs.Shared.{length-drop, take-append-drop, take_at, put}
+use Rattle.raw_region.proofs.Shared.{List, [], ap, append_assoc, arith, length, sym, take, ℕ, ◌++◌, ◌+◌, ◌∙◌, ◌≡◌, ◌≤◌, drop-drop, drop_at, length-append, length-drop, take-append-drop, take_at, put}
 use Rattle.std.proofs.{Common.drop, lemmas.List.length-take}
 
 pub length-put : (xs : List ℕ) (at : ℕ) (ys : List ℕ) → at + length ys ≤ length xs → length (put xs at ys) ≡ length xs

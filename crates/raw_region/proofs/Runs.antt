@@ -1,7 +1,6 @@
 -- Runs of bytes, byte by byte.
-use Rattle.raw_region.proofs.Shared.{◌≡◌, ℕ, ◌+◌, ◌<◌, ◌≤◌, List, [], ◌∷◌, ◌++◌, length, take, refl, sym, ap, ◌∙◌, arith, drop-drop, length-drop}
-use Rattle.raw_region.proofs.Shared.{take-append-drop, take-add, put}
-use Rattle.std.proofs.{Common.{drop, get_or, drop-cons}, Math.ListN.set, lemmas.List.{drop-set-add, drop-set-lt, length-set, take-set-le, take_more_set}}
+use Rattle.raw_region.proofs.Shared.{◌≡◌, ℕ, ◌+◌, ◌<◌, ◌≤◌, List, [], ◌∷◌, ◌++◌, length, take, refl, sym, ap, ◌∙◌, arith, drop-drop, length-drop, take-append-drop, take-add, put}
+use Rattle.std.proofs.{Math.ListN.set, Common.{drop, get_or, drop-cons}, lemmas.List.{drop-set-add, drop-set-lt, length-set, take-set-le, take_more_set}}
 
 -- one byte more of a list
 more_of : (xs : List ℕ) (i : ℕ) → i < length xs → take (i + 1) xs ≡ take i xs ++ get_or xs i 0 ∷ []

@@ -2,9 +2,8 @@
 pub use Rattle.core.proofs.{alloc.Calls.Al, alloc.Shapes.after, atomic.Steps.fm}
 pub use Rattle.core.specs.declared.alloc.Allocator.{Ghosts}
 pub use Rattle.raw_region.specs.{BlockLends.rewritten, Blocks.{block_owns, block_shows, byte}, Bytes.{put, slid}}
-pub use Rattle.std.proofs.Common.{List, [], ap, append_assoc, arith, length, lit<, refl, replicate, subst, suc, sym, take, ℕ, ◌*◌, ◌++◌, ◌+◌, ◌-◌, ◌<◌, ◌^◌, ◌∙◌}
-pub use Rattle.std.proofs.{Common.{◌∷◌, ◌≡◌, ◌≤◌}, Math.Seq.take-add, lemmas.List.{drop-drop, drop-take, drop_at, length-append, length-drop, length-take-le, take-append-drop}}
-pub use Rattle.std.proofs.{lemmas.List.{take-take, take_at}, raw_atomic.Walks.{leaves, proved_at}}
+pub use Rattle.std.proofs.{Common.{List, [], ap, append_assoc, arith, length, lit<, refl, replicate, subst, suc, sym, take, ℕ, ◌*◌, ◌++◌, ◌+◌, ◌-◌, ◌<◌, ◌^◌, ◌∙◌, ◌∷◌, ◌≡◌, ◌≤◌}, Math.Seq.take-add}
+pub use Rattle.std.proofs.{lemmas.List.{drop-drop, drop-take, drop_at, length-append, length-drop, length-take-le, take-append-drop, take-take, take_at}, raw_atomic.Walks.{leaves, proved_at}}
 pub use base.{Fml.{flft, froom, ftrue}, Fraction.full_share, Logic.{SProp, emp, id⊢, never}}
 pub use contract.{BorrowLft.{⊑_trans, ◌⊑◌}, Monad.{fact, fact_i}, Running.tables}
 pub use denote.{Builtin.{RefOf, u8, usize}, Exit.{no, yes}, Memory.{cell_at, hidden_shr, mem}, Opens.{hide, unhide}, Param.param, Param.Shared.copy_shared, RattleType.{RattleType, owns}}

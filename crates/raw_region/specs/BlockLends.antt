@@ -1,10 +1,7 @@
 -- What a block ends as, once a `&mut` to its bytes has ended.
-use Rattle.std.specs.Prelude.{ℕ, List, length}
-use Rattle.std.specs.Borrow.{Fml, RattleType, MutBor, Array, Lends, u8}
-use Rattle.std.specs.List.{refill}
+use Rattle.std.specs.{Prelude.{ℕ, List, length}, Borrow.{Fml, RattleType, MutBor, Array, Lends, u8}, List.{refill}}
 use Rattle.core.specs.declared.alloc.Allocator.{Ghosts}
-use Rattle.raw_region.specs.declared.block.Block.{Block}
-use Rattle.raw_region.specs.contracts.block.Block.{the_row}
+use Rattle.raw_region.specs.{declared.block.Block.{Block}, contracts.block.Block.{the_row}}
 
 -- a block with these bytes, as many as there were, in place of its own
 abbrev pub rewritten : {A : Type 0} → Block A → List ℕ → Block A

@@ -1,7 +1,5 @@
 -- What a region ends as, once a `&mut` to its bytes has ended.
-use Rattle.std.specs.Prelude.{ℕ, List, length}
-use Rattle.std.specs.Borrow.{Fml, MutBor, Array, Lends, u8}
-use Rattle.std.specs.List.{refill}
+use Rattle.std.specs.{Prelude.{ℕ, List, length}, Borrow.{Fml, MutBor, Array, Lends, u8}, List.{refill}}
 use Rattle.raw_region.specs.contracts.region.Region.{the_row}
 
 abbrev pub lends_bytes : MutBor (List ℕ) → MutBor (List ℕ) → Fml

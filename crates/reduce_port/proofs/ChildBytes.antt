@@ -4,11 +4,8 @@ use Rattle.std.specs.Prelude.{◌==◌}
 use Rattle.calc_terms.proofs.Sizes.{payload_least}
 use Rattle.calc_terms.specs.Payload.{Payload, size_of_payload}
 use Rattle.node_pool.specs.State.{State, free_of}
-use Rattle.tree_handles.proofs.Forests.{bytes_in-join, first-rest}
-use Rattle.tree_handles.proofs.Places.{used_forest}
-use Rattle.tree_handles.specs.Forest.{Forest, empty, tree, join, arity, kids, bytes_in, first_trees, rest_trees, tree_nth, without_nth, merged_nth}
-use Rattle.tree_handles.specs.Handed.{Ends}
-use Rattle.tree_handles.specs.Roots.{has_root, root_tree, put}
+use Rattle.tree_handles.proofs.{Forests.{bytes_in-join, first-rest}, Places.{used_forest}}
+use Rattle.tree_handles.specs.{Forest.{Forest, empty, tree, join, arity, kids, bytes_in, first_trees, rest_trees, tree_nth, without_nth, merged_nth}, Handed.{Ends}, Roots.{has_root, root_tree, put}}
 use Rattle.tree_handles.specs.Standing.{Stands, forest, KeepsRefusals}
 
 -- other children have other bytes

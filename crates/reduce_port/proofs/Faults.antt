@@ -1,8 +1,7 @@
 -- The fault that a `?` makes of another error.
 use Rattle.std.proofs.Common.{◌≡◌, ℕ, Result, Ok, Err, IsErr, IsErrAnd, false, true, subst, sym}
 use Rattle.breakers.specs.declared.watch.Interrupted.{Interrupted}
-use Rattle.reduce_port.specs.Faults.{IfInterrupted}
-use Rattle.reduce_port.specs.declared.fault.ReduceFault.{ReduceFault}
+use Rattle.reduce_port.specs.{Faults.{IfInterrupted}, declared.fault.ReduceFault.{ReduceFault}}
 use Rattle.reduce_port.specs.declared.fault.ReduceFault.TheVariants as fault
 
 -- an interruption

@@ -2,12 +2,9 @@
 use Rattle.std.proofs.Common.{◌≡◌, ℕ, ◌+◌, ◌≤◌, ◌<◌, [], arith, ap, ◌∙◌}
 use Rattle.calc_terms.specs.declared.kind.Kind.TheVariants as kind
 use Rattle.calc_terms.specs.Payload.{bare}
-use Rattle.node_pool.specs.Nodes.{used}
-use Rattle.node_pool.specs.State.{State, free_of}
+use Rattle.node_pool.specs.{Nodes.{used}, State.{State, free_of}}
 use Rattle.tree_handles.proofs.Forests.{bytes-flatten, bytes_in-join}
-use Rattle.tree_handles.specs.Forest.{empty, one_tree, bytes_in}
-use Rattle.tree_handles.specs.Handed.{Ends, KeepsFront}
-use Rattle.tree_handles.specs.Standing.{Stands, forest, KeepsRefusals}
+use Rattle.tree_handles.specs.{Forest.{empty, one_tree, bytes_in}, Handed.{Ends, KeepsFront}, Standing.{Stands, forest, KeepsRefusals}}
 
 -- nodes were placed, and none was refused
 pub record IsFilling (old now : State) : Type 0 where

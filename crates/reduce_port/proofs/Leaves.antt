@@ -1,26 +1,15 @@
 -- Trees of one node are their own answers.
 use Rattle.std.proofs.Common.{◌≡◌, ℕ, ◌≤◌, Bool, true, false, ◌⊎◌, inl, inr, refl, sym, ap, ◌∙◌, subst, List, [], ◌∷◌, arith}
-use Rattle.calc_algebra.proofs.EasyLaws.{bad_part, undef_is_bad, num_is_not_bad}
-use Rattle.calc_algebra.proofs.NumberRewrites.{value_means}
-use Rattle.calc_algebra.proofs.TermLaws.{Same-refl}
-use Rattle.calc_algebra.specs.BadAndEasy.{IsBad, IsBadNode, IsEasy}
-use Rattle.calc_terms.specs.Fractions.{Fraction}
-use Rattle.calc_algebra.specs.Numbers.{is_number, value}
+use Rattle.calc_algebra.proofs.{EasyLaws.{bad_part, undef_is_bad, num_is_not_bad}, NumberRewrites.{value_means}, TermLaws.{Same-refl}}
+use Rattle.calc_algebra.specs.{BadAndEasy.{IsBad, IsBadNode, IsEasy}, Numbers.{is_number, value}, Reduced.{is_reduced}}
+use Rattle.calc_terms.specs.{Fractions.{Fraction}, Trees.{Tree, num, symbol, undef, root_kind, nodes, IsPart, itself}, declared.kind.Kind.{Kind}}
 use Rattle.calc_measures.specs.PlainValues.{plain_value}
-use Rattle.calc_algebra.specs.Reduced.{is_reduced}
-use Rattle.calc_terms.specs.Trees.{Tree, num, symbol, undef, root_kind, nodes, IsPart, itself}
-use Rattle.calc_terms.specs.declared.kind.Kind.{Kind}
 use Rattle.calc_terms.specs.declared.kind.Kind.TheVariants as kind
 use Rattle.node_pool.specs.State.{State}
 use Rattle.reduce_port.specs.EasyTrees.{Evaluates, HasEasyBadPart}
 use Rattle.calc_measures.specs.PlainTrees.{IsPlainAnswer}
-use Rattle.tree_handles.specs.Handed.{tree_of, IsHanded}
-use Rattle.tree_handles.proofs.Lasts.{tree_of_root}
-use Rattle.tree_handles.proofs.Roots.{root_held}
-use Rattle.tree_handles.specs.Expressions.{IsExpression, AllExpressions, plain}
-use Rattle.tree_handles.specs.Forest.{Forest}
-use Rattle.tree_handles.specs.Inside.{tree_at}
-use Rattle.tree_handles.specs.Standing.{Stands, forest}
+use Rattle.tree_handles.specs.{Handed.{tree_of, IsHanded}, Expressions.{IsExpression, AllExpressions, plain}, Forest.{Forest}, Inside.{tree_at}, Standing.{Stands, forest}}
+use Rattle.tree_handles.proofs.{Lasts.{tree_of_root}, Roots.{root_held}}
 
 -- the tree may be answered by itself after one check
 pub record IsOwnAnswer (t : Tree) : Type 0 where

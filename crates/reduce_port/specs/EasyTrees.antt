@@ -1,7 +1,6 @@
 -- What is answered where it is known whether a tree without symbols has a value.
 use Rattle.std.specs.Prelude.{◌≡◌, ◌↔◌, true, false}
-use Rattle.calc_algebra.specs.BadAndEasy.{IsBad, IsEasy, HasValue}
-use Rattle.calc_algebra.specs.Numbers.{is_number, value}
+use Rattle.calc_algebra.specs.{BadAndEasy.{IsBad, IsEasy, HasValue}, Numbers.{is_number, value}}
 use Rattle.calc_terms.specs.Trees.{Tree, undef, is_undef, IsPart}
 
 -- the answer is Undef exactly where the tree is Bad, and else a Number whose value is a meaning of the tree

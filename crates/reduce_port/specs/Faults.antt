@@ -1,12 +1,10 @@
 -- The ways in which a reduction is refused.
 use Rattle.std.specs.Prelude.{ℕ, Result, Ok, Err, ⊤}
-use Rattle.node_pool.specs.State.{State}
-use Rattle.node_pool.specs.declared.full.Full.{Full}
+use Rattle.node_pool.specs.{State.{State}, declared.full.Full.{Full}}
 use Rattle.rational128.specs.declared.overflow.Overflow.{Overflow}
 use Rattle.reduce_port.specs.declared.fault.ReduceFault.{ReduceFault}
 use Rattle.reduce_port.specs.declared.fault.ReduceFault.TheVariants as fault
-use Rattle.tree_handles.specs.Standing.{KeepsRefusals, Refuses}
-use Rattle.tree_handles.specs.declared.fault.NumberFault.{NumberFault}
+use Rattle.tree_handles.specs.{Standing.{KeepsRefusals, Refuses}, declared.fault.NumberFault.{NumberFault}}
 use Rattle.tree_handles.specs.declared.fault.NumberFault.TheVariants as number
 
 -- a fact of the refusal where bytes are lacking

@@ -1,10 +1,8 @@
 -- What one step on a node makes of it.
 use Rattle.std.specs.Prelude.{ℕ, Result, Ok, Err, ⊤}
-use Rattle.calc_measures.specs.PlainValues.{PlainValue}
+use Rattle.calc_measures.specs.{PlainValues.{PlainValue}, PlainTrees.{IsPlainAnswer, IsPlainOverflow}}
 use Rattle.node_pool.specs.State.{State}
-use Rattle.calc_measures.specs.PlainTrees.{IsPlainAnswer, IsPlainOverflow}
-use Rattle.tree_handles.specs.Causes.{LacksLongForm}
-use Rattle.tree_handles.specs.Handed.{tree_of}
+use Rattle.tree_handles.specs.{Causes.{LacksLongForm}, Handed.{tree_of}}
 use Rattle.reduce_port.specs.declared.step.Step.{Step}
 use Rattle.reduce_port.specs.declared.step.Step.TheVariants as step
 use Rattle.tree_handles.specs.declared.fault.NumberFault.{NumberFault}

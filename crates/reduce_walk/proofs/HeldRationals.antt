@@ -1,20 +1,11 @@
 -- Rationals that a pool holds as roots fit.
 use Rattle.std.proofs.Common.{◌≡◌, ℕ, true, refl, arith, eqb, cond, subst}
-use Rattle.calc_terms.specs.Fits.{fraction_fits}
-use Rattle.calc_terms.specs.Fractions.{Fraction}
-use Rattle.calc_terms.specs.Payload.{IsPayload}
-use Rattle.calc_terms.specs.Trees.{num}
+use Rattle.calc_terms.specs.{Fits.{fraction_fits}, Fractions.{Fraction}, Payload.{IsPayload}, Trees.{num}}
 use Rattle.node_pool.proofs.Sizes.{AreNodes-right}
-use Rattle.node_pool.specs.Nodes.{AreNodes}
-use Rattle.node_pool.specs.State.{State}
-use Rattle.rational128.proofs.LowestTerms.{parts_themselves}
-use Rattle.rational128.proofs.Products.{parts_fit}
+use Rattle.node_pool.specs.{Nodes.{AreNodes}, State.{State}}
+use Rattle.rational128.proofs.{LowestTerms.{parts_themselves}, Products.{parts_fit}}
 use Rattle.tree_handles.proofs.Outcomes.{by_test}
-use Rattle.tree_handles.specs.Expressions.{plain}
-use Rattle.tree_handles.specs.Forest.{Forest, empty, tree, flatten, root_payload}
-use Rattle.tree_handles.specs.Handed.{tree_of}
-use Rattle.tree_handles.specs.Roots.{has_root, root_tree}
-use Rattle.tree_handles.specs.Standing.{Stands, forest}
+use Rattle.tree_handles.specs.{Expressions.{plain}, Forest.{Forest, empty, tree, flatten, root_payload}, Handed.{tree_of}, Roots.{has_root, root_tree}, Standing.{Stands, forest}}
 
 -- what a root holds is valid
 valid_root : (i : ℕ) (f : Forest) → AreNodes (flatten f) → has_root i f ≡ true → IsPayload (root_payload (root_tree i f))

@@ -1,13 +1,11 @@
 -- A node's children as a walk comes to them, as long as they are leaves.
 use Rattle.std.proofs.Common.{◌≡◌, ℕ, zero, suc, ◌<◌, ◌≤◌, List, ◌∷◌, ◌++◌, map, true, refl, sym, ap, ◌∙◌, arith}
-use Rattle.calc_terms.specs.Payload.{Payload, kind_of_payload}
-use Rattle.calc_terms.specs.Trees.{Tree, Trees, count, root_kind}
-use Rattle.reduce_walk.proofs.Shared.{eqb-true, State, forest, IsExpression, AllExpressions, children_of, grown, nth, plain, plains, takes, Forest, empty, tree, arity, flatten, first_trees, rest_trees, node_of, kids_of, tree_at}
+use Rattle.calc_terms.specs.{Payload.{Payload, kind_of_payload}, Trees.{Tree, Trees, count, root_kind}}
+use Rattle.reduce_walk.proofs.Shared.{eqb-true, State, forest, IsExpression, AllExpressions, children_of, grown, nth, plain, plains, takes, Forest, empty, tree, arity, flatten, first_trees}
+use Rattle.reduce_walk.proofs.Shared.{rest_trees, node_of, kids_of, tree_at}
 use Rattle.reduce_walk.specs.Leaves.{is_leaf, is_leaf_kind}
-use Rattle.tree_handles.proofs.Forests.{arity-rest_trees}
-use Rattle.tree_handles.proofs.Readings.{expression_child, expression_children, whole_child}
-use Rattle.tree_handles.specs.Visits.{visit_of, visits_of}
-use Rattle.tree_handles.specs.declared.visits.Visit.{Visit}
+use Rattle.tree_handles.proofs.{Forests.{arity-rest_trees}, Readings.{expression_child, expression_children, whole_child}}
+use Rattle.tree_handles.specs.{Visits.{visit_of, visits_of}, declared.visits.Visit.{Visit}}
 
 leaf_payload : (x : Payload) (n : ℕ) (ts : Trees) → takes x n ≡ true → is_leaf (grown x ts) ≡ is_leaf_kind (kind_of_payload x)
 leaf_payload x n ts h = grind arith

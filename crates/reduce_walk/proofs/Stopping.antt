@@ -1,14 +1,12 @@
 -- A walk that ends without an answer.
 use Rattle.std.proofs.Common.{◌≡◌, ℕ, ◌+◌, ◌<◌, ◌≤◌, List, Some, None, Result, Err, true, sym, ap, subst, arith}
 use Rattle.std.specs.Prelude.{IfErr, OnOk}
-use Rattle.reduce_walk.proofs.Shared.{CalmChecks-append, Check, CalmChecks, Tree, Trees, none, more, count, nodes, nodes_of, size, sizes, root_size, State, free_of, Overflow, one_calm, calm_up_to, trips_at_once, calm_up_to_after, trips_within_after, TripsWithin, fault_of, ReduceFault, IsNext, is_leaf, Stops, plain, children_of, Forest, root_tree, KeepsRefusals, calm_more, trips_more}
+use Rattle.reduce_walk.proofs.Shared.{CalmChecks-append, Check, CalmChecks, Tree, Trees, none, more, count, nodes, nodes_of, size, sizes, root_size, State, free_of, Overflow, one_calm, calm_up_to}
+use Rattle.reduce_walk.proofs.Shared.{trips_at_once, calm_up_to_after, trips_within_after, TripsWithin, fault_of, ReduceFault, IsNext, is_leaf, Stops, plain, children_of, Forest, root_tree}
+use Rattle.reduce_walk.proofs.{Shared.{KeepsRefusals, calm_more, trips_more}, Walks.{AllWalked, IsWalked, IsNextChild, fewer_nodes, is_next, leaf_nodes, nodes_by_children}}
 use Rattle.breakers.specs.State.{State as BreakerState}
 use Rattle.tree_handles.proofs.Refused.{kept_after, refuses_after}
-use Rattle.tree_handles.specs.Lacking.{OfFull}
-use Rattle.reduce_walk.proofs.Walks.{AllWalked, IsWalked, IsNextChild, fewer_nodes, is_next, leaf_nodes, nodes_by_children}
-use Rattle.tree_handles.specs.Causes.{IsCaused}
-use Rattle.tree_handles.specs.Faults.{Faults, IfOverflow}
-use Rattle.tree_handles.specs.declared.fault.NumberFault.{NumberFault}
+use Rattle.tree_handles.specs.{Lacking.{OfFull}, Causes.{IsCaused}, Faults.{Faults, IfOverflow}, declared.fault.NumberFault.{NumberFault}}
 use Rattle.reduce_port.specs.declared.fault.ReduceFault.TheVariants as fault
 
 -- ---- checks

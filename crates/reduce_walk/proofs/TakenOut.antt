@@ -1,15 +1,9 @@
 -- A child of a root is taken out.
 use Rattle.std.proofs.Common.{◌≡◌, ℕ, refl, arith}
-use Rattle.calc_terms.specs.Payload.{Payload}
-use Rattle.calc_terms.specs.Trees.{Tree, Trees, more, append, count}
+use Rattle.calc_terms.specs.{Payload.{Payload}, Trees.{Tree, Trees, more, append, count}}
 use Rattle.reduce_walk.proofs.Parents.{IsParent}
-use Rattle.tree_handles.proofs.Cuts.{cut_at}
-use Rattle.tree_handles.proofs.Given.{gives}
-use Rattle.tree_handles.proofs.Lasts.{other_root, other_tree}
-use Rattle.tree_handles.proofs.Outcomes.{by_test}
-use Rattle.tree_handles.proofs.Roots.{root_arity, root-put, kids-put}
-use Rattle.tree_handles.specs.Forest.{Forest, empty, tree, arity, kids, root_payload, root_count, with_root_kids, tree_nth, without_nth}
-use Rattle.tree_handles.specs.Handed.{AllOnce, IsOwned, Represents, Ends, Gives}
+use Rattle.tree_handles.proofs.{Cuts.{cut_at}, Given.{gives}, Lasts.{other_root, other_tree}, Outcomes.{by_test}, Roots.{root_arity, root-put, kids-put}}
+use Rattle.tree_handles.specs.{Forest.{Forest, empty, tree, arity, kids, root_payload, root_count, with_root_kids, tree_nth, without_nth}, Handed.{AllOnce, IsOwned, Represents, Ends, Gives}}
 use Rattle.tree_handles.specs.Roots.{root_tree, put}
 
 tree_put : (i : ℕ) (n f : Forest) → root_tree i (put i n f) ≡ with_root_kids n (root_tree i f)

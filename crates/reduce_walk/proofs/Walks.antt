@@ -1,11 +1,14 @@
 -- The walk over a node's children.
 use Rattle.std.proofs.Common.{◌≡◌, ℕ, zero, suc, ◌+◌, ◌-◌, ◌≤◌, ◌<◌, List, [], ◌∷◌, ◌++◌, length, true, false, refl, sym, ap, ◌∙◌, subst, arith}
-use Rattle.reduce_walk.proofs.Shared.{length-append, CalmChecks-append, CalmChecks, Tree, Trees, none, more, append, count, nodes, nodes_of, cut, cut_rest, represents_count, expression, seen, AreAnswers, EachTree, IsNext, is_leaf, BeginWithLeaves, State, AllOnce, tree_of, IsHanded, Represents, Ends, Gives, KeepsFront, join-empty, join_assoc, arity-join, first-rest, first_trees-join, rest_trees-join, starts_same, starts_join, starts_without, behind_new, front_end, front_after_one, append-none, gives, gives_as, given_told, given_rest, represents_as, represents_join, ends_as, kids_of_root, last_root, last_tree, last_rest, alone, top, root-right, tree-right, put-right, IsExpression, nth, plain, children_of, Label, Forest, empty, tree, join, arity, flatten, kids, node_of, root_payload, first_trees, rest_trees, tree_nth, without_nth, holds, tree_at, kids_of, has_root, root_tree, without_root, put, behind_root, adopted, Stands, forest}
-use Rattle.breakers.specs.State.{State as BreakerState}
+use Rattle.reduce_walk.proofs.Shared.{length-append, CalmChecks-append, CalmChecks, Tree, Trees, none, more, append, count, nodes, nodes_of, cut, cut_rest, represents_count, expression, seen}
+use Rattle.reduce_walk.proofs.Shared.{AreAnswers, EachTree, IsNext, is_leaf, BeginWithLeaves, State, AllOnce, tree_of, IsHanded, Represents, Ends, Gives, KeepsFront, join-empty, join_assoc}
+use Rattle.reduce_walk.proofs.Shared.{arity-join, first-rest, first_trees-join, rest_trees-join, starts_same, starts_join, starts_without, behind_new, front_end, front_after_one, append-none, gives}
+use Rattle.reduce_walk.proofs.Shared.{gives_as, given_told, given_rest, represents_as, represents_join, ends_as, kids_of_root, last_root, last_tree, last_rest, alone, top, root-right, tree-right}
+use Rattle.reduce_walk.proofs.Shared.{put-right, IsExpression, nth, plain, children_of, Label, Forest, empty, tree, join, arity, flatten, kids, node_of, root_payload, first_trees, rest_trees}
+use Rattle.reduce_walk.proofs.Shared.{tree_nth, without_nth, holds, tree_at, kids_of, has_root, root_tree, without_root, put, behind_root, adopted, Stands, forest}
 use Rattle.reduce_walk.proofs.Parents.{IsParent, held_at, parent_handed}
-use Rattle.tree_handles.proofs.Adopting.{behind_there, adopted_all}
-use Rattle.tree_handles.proofs.Parts.{at as node_place}
-use Rattle.tree_handles.proofs.Releases.{arity_le, few_nodes}
+use Rattle.breakers.specs.State.{State as BreakerState}
+use Rattle.tree_handles.proofs.{Adopting.{behind_there, adopted_all}, Parts.{at as node_place}, Releases.{arity_le, few_nodes}}
 
 -- ---- lists
 

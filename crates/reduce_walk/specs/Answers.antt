@@ -1,7 +1,6 @@
 -- What the nodes of a tree become, each over the answers of its children.
 use Rattle.std.specs.Prelude.{◌≡◌, true}
-use Rattle.calc_terms.specs.Payload.{Payload}
-use Rattle.calc_terms.specs.Trees.{Tree, Trees, none, more, append, count}
+use Rattle.calc_terms.specs.{Payload.{Payload}, Trees.{Tree, Trees, none, more, append, count}}
 use Rattle.tree_handles.specs.Expressions.{children_of, grown, takes}
 
 -- each of these trees

@@ -1,14 +1,12 @@
 -- How a walk ends without an answer.
 use Rattle.std.specs.Prelude.{ℕ, ◌+◌, ◌≤◌, List}
-use Rattle.breakers.specs.Breakers.{CalmChecks, CalmUpTo, TripsWithin}
-use Rattle.breakers.specs.State.{State as BreakerState}
+use Rattle.breakers.specs.{Breakers.{CalmChecks, CalmUpTo, TripsWithin}, State.{State as BreakerState}}
 use Rattle.calc_terms.specs.Trees.{Tree, nodes, size}
 use Rattle.node_pool.specs.State.{State, free_of}
 use Rattle.rational128.specs.declared.overflow.Overflow.{Overflow}
 use Rattle.reduce_port.specs.declared.fault.ReduceFault.{ReduceFault}
 use Rattle.reduce_port.specs.declared.fault.ReduceFault.TheVariants as fault
-use Rattle.tree_handles.specs.Causes.{Overflows}
-use Rattle.tree_handles.specs.Standing.{LacksBytes, KeepsRefusals, Refuses}
+use Rattle.tree_handles.specs.{Causes.{Overflows}, Standing.{LacksBytes, KeepsRefusals, Refuses}}
 
 -- the step at one of the tree's nodes does not fit, and a check was made for each node up to that one
 pub record IsUnfitAt (U : Tree → ℕ → Overflow → Type 0) (t : Tree) (before after : List BreakerState) (o : Overflow) : Type 0 where

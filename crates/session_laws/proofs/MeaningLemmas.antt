@@ -1,14 +1,13 @@
 -- What the answers to lines mean.
 use Rattle.std.proofs.Common.{arith, ◌≡◌, ◌∙◌, ℕ, List, [], Option, Some, None, true, false, refl, sym, ap, subst}
-use Rattle.session_laws.proofs.Shared.{HasValue, IsEasy, value, KeepsMeanings, Reduces, Surd, one_meaning, Same-trans, Evaluates, face, Tree, undef, is_undef, reduced_face_means, IsReplyWith, IsReduction, lacks_bytes, is_answered, IsReplyToTree, is_not_made, is_made, Reply, shown, stored, undefined, State, free_bytes, IsReply}
+use Rattle.session_laws.proofs.Shared.{HasValue, IsEasy, value, KeepsMeanings, Reduces, Surd, one_meaning, Same-trans, Evaluates, face, Tree, undef, is_undef, reduced_face_means, IsReplyWith}
+use Rattle.session_laws.proofs.Shared.{IsReduction, lacks_bytes, is_answered, IsReplyToTree, is_not_made, is_made, Reply, shown, stored, undefined, State, free_bytes, IsReply}
+use Rattle.session_laws.proofs.AskedLines.{IsReplyToLine, is_value_reply, valued}
 use Rattle.breakers.specs.State.{State as Breaker}
 use Rattle.calc_algebra.specs.SquareClasses.{Same}
-use Rattle.calc_algebra.proofs.NumberLaws.{number_words}
-use Rattle.calc_algebra.proofs.NumberUniqueness.{one_number}
-use Rattle.calc_algebra.proofs.SurdLaws.{Agree-Same}
+use Rattle.calc_algebra.proofs.{NumberLaws.{number_words}, NumberUniqueness.{one_number}, SurdLaws.{Agree-Same}}
 use Rattle.calc_session.specs.Evaluations.{is_interrupted, does_not_fit}
 use Rattle.session_laws.specs.Meant.{Becomes, HasNoMeaning, HasSmallRadicands, MeanTheSame, MeansNothing, ShowsMeaning}
-use Rattle.session_laws.proofs.AskedLines.{IsReplyToLine, is_value_reply, valued}
 
 pub nothing_meant : (t : Tree) → Reduces t undef → MeansNothing t
 nothing_meant t r f a v m = r.meanings.means f a v m

@@ -1,6 +1,7 @@
 -- Equations are read and built in one way.
 use Rattle.std.proofs.Common.{◌≡◌, ◌∙◌, ℕ, List, [], ◌∷◌, refl, sym, subst}
-use Rattle.session_laws.proofs.Shared.{AllZip, Tree, Equation, NamedTree, Filling, fills, IsNoExpression, Piece, Pieces, Unmade, made, Reason, AreUnmade, Become, IsNoEquation, ReadsEquation, ReadsSide, equation, nothing}
+use Rattle.session_laws.proofs.Shared.{AllZip, Tree, Equation, NamedTree, Filling, fills, IsNoExpression, Piece, Pieces, Unmade, made, Reason, AreUnmade, Become, IsNoEquation, ReadsEquation}
+use Rattle.session_laws.proofs.Shared.{ReadsSide, equation, nothing}
 use Rattle.calc_session.proofs.TextLemmas.{one_text, read_at_all}
 
 -- ---- the sides are read

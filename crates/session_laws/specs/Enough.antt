@@ -1,13 +1,9 @@
 -- Lines for which there is enough.
 use Rattle.std.specs.Prelude.{◌≡◌, ℕ, ◌+◌, ◌*◌, ◌≤◌, ⊤, All, List, Option, false}
-use Rattle.calc_terms.specs.declared.kind.Kind.TheVariants.{Num, Sym}
-use Rattle.calc_terms.specs.Kind.{size_by_form}
-use Rattle.calc_terms.specs.Trees.{Tree, nodes, size, root_size, symbol}
+use Rattle.calc_terms.specs.{declared.kind.Kind.TheVariants.{Num, Sym}, Kind.{size_by_form}, Trees.{Tree, nodes, size, root_size, symbol}}
 use Rattle.calc_tokens.specs.Placed.{Placed}
 use Rattle.name_table.specs.Filling.{filled, values}
-use Rattle.calc_session.specs.Reading.{ReadsTree}
-use Rattle.calc_session.specs.Replies.{Reply, shown, stored, undefined}
-use Rattle.calc_session.specs.States.{State, free_bytes, trees}
+use Rattle.calc_session.specs.{Reading.{ReadsTree}, Replies.{Reply, shown, stored, undefined}, States.{State, free_bytes, trees}}
 
 -- the bytes of the leaf of a name
 abbrev pub leaf_bytes : ℕ

@@ -4,12 +4,8 @@ use Rattle.calc_algebra.specs.Rewritings.{KeepsMeanings}
 use Rattle.calc_commands.specs.Commands.{IsCommandLine, expand}
 use Rattle.calc_language.specs.Faces.{face}
 use Rattle.calc_terms.specs.Trees.{Tree}
-use Rattle.expand_forms.specs.ExpandedTrees.{expanded}
-use Rattle.expand_forms.specs.Polynomials.{Monomial, coefficient_at}
-use Rattle.expand_forms.specs.PolynomialTrees.{is_polynomial, polynomial_of}
-use Rattle.calc_session.specs.Calculating.{ExpressionBecomes}
-use Rattle.calc_session.specs.Expanding.{expansion_text}
-use Rattle.calc_session.specs.States.{State}
+use Rattle.expand_forms.specs.{ExpandedTrees.{expanded}, Polynomials.{Monomial, coefficient_at}, PolynomialTrees.{is_polynomial, polynomial_of}}
+use Rattle.calc_session.specs.{Calculating.{ExpressionBecomes}, Expanding.{expansion_text}, States.{State}}
 
 -- in a state the line asks for the expansion of a text that becomes this tree
 pub record AsksExpansionOf (old : State) (line : List ℕ) (t : Tree) : Type 0 where

@@ -1,20 +1,13 @@
 -- What the answers to lines mean.
 use Rattle.std.specs.Prelude.{ℕ, ◌≡◌, ◌<◌, ◌^◌, List, Option, true, false, Contains}
-use Rattle.calc_algebra.specs.BadAndEasy.{HasValue, IsEasy}
-use Rattle.calc_algebra.specs.Meanings.{Assignment, IsAssignment, Means}
-use Rattle.calc_algebra.specs.Numbers.{value}
-use Rattle.calc_algebra.specs.Reduced.{is_reduced}
-use Rattle.calc_algebra.specs.Rewritings.{KeepsMeanings}
-use Rattle.calc_algebra.specs.SquareClasses.{radicands}
+use Rattle.calc_algebra.specs.{BadAndEasy.{HasValue, IsEasy}, Meanings.{Assignment, IsAssignment, Means}, Numbers.{value}, Reduced.{is_reduced}, Rewritings.{KeepsMeanings}, SquareClasses.{radicands}}
 use Rattle.calc_algebra.specs.Surds.{Surd}
 use Rattle.calc_language.specs.Faces.{face}
 use Rattle.calc_terms.specs.Trees.{Tree, is_undef}
 use Rattle.calc_tokens.specs.Placed.{Placed}
 use Rattle.name_table.specs.Filling.{fills, values}
 use Rattle.reduce_port.specs.EasyTrees.{Evaluates}
-use Rattle.calc_session.specs.Evaluations.{made}
-use Rattle.calc_session.specs.Reading.{ReadsTree}
-use Rattle.calc_session.specs.States.{State, free_bytes, trees}
+use Rattle.calc_session.specs.{Evaluations.{made}, Reading.{ReadsTree}, States.{State, free_bytes, trees}}
 
 -- it means nothing under any assignment
 abbrev pub MeansNothing : Tree → Type 0

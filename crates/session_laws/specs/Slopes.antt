@@ -1,14 +1,11 @@
 -- What the answers to lines that ask for a derivative mean.
 use Rattle.std.specs.Prelude.{ℕ, ◌≡◌, ◌⊎◌, List, codes, true, false}
-use Rattle.calc_algebra.specs.Meanings.{Assignment, IsAssignment, Means}
-use Rattle.calc_algebra.specs.Reduced.{is_reduced as is_reduced_tree}
+use Rattle.calc_algebra.specs.{Meanings.{Assignment, IsAssignment, Means}, Reduced.{is_reduced as is_reduced_tree}}
 use Rattle.calc_commands.specs.Commands.{IsCommandLine, diff}
-use Rattle.calc_language.specs.Faces.{face}
-use Rattle.calc_language.specs.Texts.{text as text_of_tree}
+use Rattle.calc_language.specs.{Faces.{face}, Texts.{text as text_of_tree}}
 use Rattle.calc_terms.specs.Trees.{Tree, is_undef}
 use Rattle.dual_diff.specs.Pairs.{Pair, HasPair}
-use Rattle.calc_session.specs.Calculating.{ExpressionBecomes}
-use Rattle.calc_session.specs.States.{State}
+use Rattle.calc_session.specs.{Calculating.{ExpressionBecomes}, States.{State}}
 
 -- in a state the line asks for the derivative of a text that becomes this tree
 pub record AsksDerivativeOf (old : State) (line x : List ℕ) (t : Tree) : Type 0 where

@@ -1,8 +1,7 @@
 -- Divisors of clean numbers.
-use Rattle.square_parts.proofs.Shared.{◌≡◌, ℕ, zero, suc, ◌*◌, ◌/◌, ◌^◌, ◌<◌, ◌≤◌, ◌⊎◌, inl, inr, sym, ap, ◌∙◌, subst, arith, ◌∣◌, dvd_trans, dvd-zero}
-use Rattle.square_parts.proofs.Shared.{mul-div_cancel', dvd-mul_right, dvd-mul_left, mul-dvd-mul, left_of, IsClean, IsCoprime, IsCoprime-swap, IsCoprime-mul, other_factor, clean_positive}
-use Rattle.square_parts.proofs.SmoothNumbers.{common_or_coprime, IsSmooth-mul, IsRough-mul}
-use Rattle.square_parts.proofs.LeftOf.{IsRest, left_of_is, left_of_part}
+use Rattle.square_parts.proofs.Shared.{◌≡◌, ℕ, zero, suc, ◌*◌, ◌/◌, ◌^◌, ◌<◌, ◌≤◌, ◌⊎◌, inl, inr, sym, ap, ◌∙◌, subst, arith, ◌∣◌, dvd_trans, dvd-zero, mul-div_cancel', dvd-mul_right, dvd-mul_left}
+use Rattle.square_parts.proofs.Shared.{mul-dvd-mul, left_of, IsClean, IsCoprime, IsCoprime-swap, IsCoprime-mul, other_factor, clean_positive}
+use Rattle.square_parts.proofs.{SmoothNumbers.{common_or_coprime, IsSmooth-mul, IsRough-mul}, LeftOf.{IsRest, left_of_is, left_of_part}}
 
 far_square : (d c : ℕ) → 10000 < d → d * d * c < 1000000000000 → c < 10000
 far_square d c h k = grind arith

@@ -1,11 +1,8 @@
 -- The parts that trial division leaves are clean.
-use Rattle.square_parts.proofs.Shared.{◌≡◌, ◌≢◌, ℕ, ◌+◌, ◌*◌, ◌^◌, ◌<◌, ◌≤◌, ◌⊎◌, inl, inr, refl, sym, ap, ◌∙◌, subst, arith, ◌∣◌, cases_lt}
-use Rattle.square_parts.proofs.Shared.{dvd_refl, dvd_trans, le_of_dvd, dvd-mul_right, mul-dvd-mul, eq-one_of_dvd-one, trial_limit, left_of, IsClean, square_le, IsCoprime, IsCoprime-swap}
-use Rattle.square_parts.proofs.Shared.{IsCoprime-from_gcd, IsGcd-from_coprime, IsCoprime-divisors, IsCoprime-mul, other_factor, Found, IsSmooth, HasNoDivisorBelow, HasNoOtherDivisor, number_of}
-use Rattle.square_parts.proofs.Shared.{IsFound}
-use Rattle.square_parts.proofs.SmoothNumbers.{IsRough, common_or_coprime, IsSmooth-one, IsSmooth-small, IsSmooth-mul}
-use Rattle.square_parts.proofs.LeftOf.{left_of_part}
-use Rattle.square_parts.proofs.Steps.{rest_positive, clean_positive, root_at_most}
+use Rattle.square_parts.proofs.Shared.{◌≡◌, ◌≢◌, ℕ, ◌+◌, ◌*◌, ◌^◌, ◌<◌, ◌≤◌, ◌⊎◌, inl, inr, refl, sym, ap, ◌∙◌, subst, arith, ◌∣◌, cases_lt, dvd_refl, dvd_trans, le_of_dvd, dvd-mul_right, mul-dvd-mul}
+use Rattle.square_parts.proofs.Shared.{eq-one_of_dvd-one, trial_limit, left_of, IsClean, square_le, IsCoprime, IsCoprime-swap, IsCoprime-from_gcd, IsGcd-from_coprime, IsCoprime-divisors}
+use Rattle.square_parts.proofs.{Shared.{IsCoprime-mul, other_factor, Found, IsSmooth, HasNoDivisorBelow, HasNoOtherDivisor, number_of, IsFound}, SmoothNumbers.{IsRough, common_or_coprime}}
+use Rattle.square_parts.proofs.{SmoothNumbers.{IsSmooth-one, IsSmooth-small, IsSmooth-mul}, LeftOf.{left_of_part}, Steps.{rest_positive, clean_positive, root_at_most}}
 
 no_root_of_one : (s : ℕ) → 1 < s → 1 ≡ s * s → ⊥
 no_root_of_one s h e = grind arith

@@ -1,10 +1,7 @@
 -- Products of clean numbers over what they share.
-use Rattle.square_parts.proofs.Shared.{◌≡◌, ℕ, zero, suc, ◌*◌, ◌/◌, ◌^◌, ◌<◌, ◌≤◌, ◌⊎◌, inl, inr, subst, arith, IsGcd, ◌∣◌, dvd_refl, dvd_trans, dvd-zero}
-use Rattle.square_parts.proofs.Shared.{le_of_dvd, mul-div_cancel', dvd-mul_right, mul-dvd-mul, trial_limit, left_of, IsClean, IsCoprime, IsCoprime-swap, IsCoprime-divisors, IsCoprime-mul}
-use Rattle.square_parts.proofs.Shared.{other_factor, quotients_coprime, factor_divides, positive_factor, clean_positive}
-use Rattle.square_parts.proofs.SmoothNumbers.{common_or_coprime}
-use Rattle.square_parts.proofs.LeftOf.{left_of_is}
-use Rattle.square_parts.proofs.CleanLaws.{clean_square_free}
+use Rattle.square_parts.proofs.Shared.{◌≡◌, ℕ, zero, suc, ◌*◌, ◌/◌, ◌^◌, ◌<◌, ◌≤◌, ◌⊎◌, inl, inr, subst, arith, IsGcd, ◌∣◌, dvd_refl, dvd_trans, dvd-zero, le_of_dvd, mul-div_cancel', dvd-mul_right}
+use Rattle.square_parts.proofs.Shared.{mul-dvd-mul, trial_limit, left_of, IsClean, IsCoprime, IsCoprime-swap, IsCoprime-divisors, IsCoprime-mul, other_factor, quotients_coprime, factor_divides}
+use Rattle.square_parts.proofs.{Shared.{positive_factor, clean_positive}, SmoothNumbers.{common_or_coprime}, LeftOf.{left_of_is}, CleanLaws.{clean_square_free}}
 
 -- no square of a number from 2 to b divides n
 pub record HasNoSquareTo (b n : ℕ) : Type 0 where

@@ -1,9 +1,8 @@
 -- A step of trial division keeps what was found.
-use Rattle.square_parts.proofs.Shared.{◌≡◌, ◌≢◌, ℕ, zero, suc, ◌+◌, ◌*◌, ◌/◌, ◌%◌, ◌^◌, ◌<◌, ◌≤◌, ◌⊎◌, inl, inr, ap, ◌∙◌, subst, arith, IsGcd}
-use Rattle.square_parts.proofs.Shared.{◌∣◌, cases_lt, dvd_refl, dvd_trans, le_of_dvd, dvd_of_mod-eq-zero, mod-eq-zero_of_dvd, mul-div_cancel', dvd-mul_left, mul-dvd-mul}
-use Rattle.square_parts.proofs.Shared.{dvd_of_mul-dvd-mul_right, eq-one_of_dvd-one, trial_limit, IsClean, IsCoprime, IsCoprime-swap, IsCoprime-from_gcd, IsGcd-from_coprime, IsCoprime-divisors}
-use Rattle.square_parts.proofs.Shared.{IsCoprime-mul, other_factor, positive_factor, Found, IsSmooth, IsSquareFree, HasNoDivisorBelow, number_of, IsFound}
-use Rattle.square_parts.proofs.SmoothNumbers.{common_or_coprime, IsSmooth-small, IsSmooth-mul}
+use Rattle.square_parts.proofs.Shared.{◌≡◌, ◌≢◌, ℕ, zero, suc, ◌+◌, ◌*◌, ◌/◌, ◌%◌, ◌^◌, ◌<◌, ◌≤◌, ◌⊎◌, inl, inr, ap, ◌∙◌, subst, arith, IsGcd, ◌∣◌, cases_lt, dvd_refl, dvd_trans, le_of_dvd}
+use Rattle.square_parts.proofs.Shared.{dvd_of_mod-eq-zero, mod-eq-zero_of_dvd, mul-div_cancel', dvd-mul_left, mul-dvd-mul, dvd_of_mul-dvd-mul_right, eq-one_of_dvd-one, trial_limit, IsClean, IsCoprime}
+use Rattle.square_parts.proofs.Shared.{IsCoprime-swap, IsCoprime-from_gcd, IsGcd-from_coprime, IsCoprime-divisors, IsCoprime-mul, other_factor, positive_factor, Found, IsSmooth, IsSquareFree}
+use Rattle.square_parts.proofs.{Shared.{HasNoDivisorBelow, number_of, IsFound}, SmoothNumbers.{common_or_coprime, IsSmooth-small, IsSmooth-mul}}
 
 -- what a step to g leaves true of f
 pub record IsStep (f g : Found) (d : ℕ) : Type 0 where

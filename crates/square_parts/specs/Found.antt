@@ -1,9 +1,7 @@
 -- What trial division has found of a number.
-use Rattle.std.specs.Prelude.{ℕ, ◌≡◌, ◌*◌, ◌^◌, ◌≤◌, ◌<◌}
-use Rattle.std.specs.Int.{IsGcd}
+use Rattle.std.specs.{Prelude.{ℕ, ◌≡◌, ◌*◌, ◌^◌, ◌≤◌, ◌<◌}, Int.{IsGcd}}
 use Rattle.calc_algebra.specs.Clean.{IsClean}
-use Rattle.square_parts.specs.declared.division.Found.{Found}
-use Rattle.square_parts.specs.Divisors.{IsSquareFree, IsSmooth}
+use Rattle.square_parts.specs.{declared.division.Found.{Found}, Divisors.{IsSquareFree, IsSmooth}}
 
 -- the number itself
 abbrev pub number_of : Found → ℕ

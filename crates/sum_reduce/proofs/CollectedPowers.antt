@@ -1,7 +1,6 @@
 -- Each power in what terms are collected to is a part of one of them.
-use Rattle.sum_reduce.proofs.Shared.{Trees, number_words, IsPowerOf, HasPowersOf, Collects, written_tree}
+use Rattle.sum_reduce.proofs.{Shared.{Trees, number_words, IsPowerOf, HasPowersOf, Collects, written_tree}, CollectedParts.{collected_parts, written_parts}}
 use Rattle.like_children.proofs.OwnPowers.{number_powers, own_powers_of}
-use Rattle.sum_reduce.proofs.CollectedParts.{collected_parts, written_parts}
 
 pub collected_powers : (ts us : Trees) → Collects ts us → HasPowersOf ts (written_tree us)
 collected_powers ts us k =

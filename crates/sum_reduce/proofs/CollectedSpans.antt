@@ -1,9 +1,8 @@
 -- What spans the terms of a sum spans what they are collected to.
 use Rattle.std.proofs.Common.{arith, ◌≡◌, ℕ, List, true}
-use Rattle.sum_reduce.proofs.Shared.{Tree, num, mult, root, Trees, none, more, is_add, value, split_product, num_one, number_words, term_words, Spans, SpansRoot, SpansTree, SpansTrees, coefficient_of, IsNumberOf, sum_spans, children_of, sum_of_coefficients, Collects, written_tree}
+use Rattle.sum_reduce.proofs.Shared.{Tree, num, mult, root, Trees, none, more, is_add, value, split_product, num_one, number_words, term_words, Spans, SpansRoot, SpansTree, SpansTrees, coefficient_of}
+use Rattle.sum_reduce.proofs.{Shared.{IsNumberOf, sum_spans, children_of, sum_of_coefficients, Collects, written_tree}, CollectedParts.{collected_parts, written_parts}, Splits.{split_cases}}
 use Rattle.calc_room.proofs.NumberSpans.{spans_append, spans_same, term_spanned, tree_spanned, value_spanned}
-use Rattle.sum_reduce.proofs.CollectedParts.{collected_parts, written_parts}
-use Rattle.sum_reduce.proofs.Splits.{split_cases}
 
 split_spans : (gs : List ℕ) (ts : Trees) → SpansTrees gs ts → Spans gs (value (split_product ts).coefficient)
 split_spans gs ts =

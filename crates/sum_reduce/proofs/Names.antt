@@ -1,7 +1,6 @@
 -- Names in terms.
 use Rattle.std.proofs.Common.{arith}
-use Rattle.sum_reduce.proofs.Shared.{split_product, product_tree, part_of, Tree, mult, Trees, names, names_of, Within, within_same, within_trans, within_left, within_right}
-use Rattle.sum_reduce.proofs.Splits.{split_cases}
+use Rattle.sum_reduce.proofs.{Shared.{split_product, product_tree, part_of, Tree, mult, Trees, names, names_of, Within, within_same, within_trans, within_left, within_right}, Splits.{split_cases}}
 
 -- ---- the part of a term
 

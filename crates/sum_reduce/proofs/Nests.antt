@@ -1,7 +1,6 @@
 -- The nest of terms.
 use Rattle.std.proofs.Common.{◌≤◌, arith}
-use Rattle.sum_reduce.proofs.Shared.{nest, nest_of, split_product, product_tree, part_of, Tree, Trees}
-use Rattle.sum_reduce.proofs.Splits.{split_cases}
+use Rattle.sum_reduce.proofs.{Shared.{nest, nest_of, split_product, product_tree, part_of, Tree, Trees}, Splits.{split_cases}}
 
 -- ---- the part of a term
 

@@ -1,10 +1,8 @@
 -- Terms no two of which have identical parts have one order, and with a Number they are one tree.
 use Rattle.std.proofs.Common.{◌≡◌, sym, ap, ◌∙◌}
-use Rattle.sum_reduce.proofs.Shared.{none_number, is_number, part_of, NoneIs, RisesBy, Tree, Trees, none, more, append, permuted_trans, Permuted-sym, IsSorting, others_in, AreUnlike, IsWritten, terms_of_number, sum_tree}
-use Rattle.like_children.proofs.OneOrder.{rising_once}
-use Rattle.like_children.proofs.Permutations.{none_permuted, of_lists}
-use Rattle.sum_reduce.proofs.Rearranged.{unlike_permuted}
-use Rattle.sum_reduce.proofs.Settled.{AreApart, rises_strictly}
+use Rattle.sum_reduce.proofs.Shared.{none_number, is_number, part_of, NoneIs, RisesBy, Tree, Trees, none, more, append, permuted_trans, Permuted-sym, IsSorting, others_in, AreUnlike, IsWritten}
+use Rattle.sum_reduce.proofs.{Shared.{terms_of_number, sum_tree}, Rearranged.{unlike_permuted}, Settled.{AreApart, rises_strictly}}
+use Rattle.like_children.proofs.{OneOrder.{rising_once}, Permutations.{none_permuted, of_lists}}
 
 -- ---- rising strictly
 

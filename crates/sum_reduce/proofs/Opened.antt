@@ -1,8 +1,10 @@
 -- Sums among the terms are opened.
 use Rattle.std.proofs.Common.{◌≤◌, ◌≡◌, Bool, true, false, not, ◌&&◌, if◌then◌else◌, refl, ap, ◌∙◌, subst, arith}
-use Rattle.sum_reduce.proofs.Shared.{and_parts, nest, nest_of, is_number, are_numbers, HasForm, IsSumForm, NoneIs, Tree, add, Trees, none, more, append, count, names, names_of, is_add, HasTwo, AllParts, KeepsMeanings, KeepsMeanings-refl, KeepsMeanings-sum_append, flat_sum, number_test, AllPartsOf-append, children_of, append_none, count_append, width, widths, AreFormed, is_loose, terms_of_loose, opened, Within, within_same, within_beside, within_trans, within_eq, within_both, names_of-append, nest-append}
-use Rattle.like_children.specs.Opening.{Opens}
+use Rattle.sum_reduce.proofs.Shared.{and_parts, nest, nest_of, is_number, are_numbers, HasForm, IsSumForm, NoneIs, Tree, add, Trees, none, more, append, count, names, names_of, is_add, HasTwo}
+use Rattle.sum_reduce.proofs.Shared.{AllParts, KeepsMeanings, KeepsMeanings-refl, KeepsMeanings-sum_append, flat_sum, number_test, AllPartsOf-append, children_of, append_none, count_append, width}
+use Rattle.sum_reduce.proofs.Shared.{widths, AreFormed, is_loose, terms_of_loose, opened, Within, within_same, within_beside, within_trans, within_eq, within_both, names_of-append, nest-append}
 use Rattle.sum_reduce.proofs.Widths.{widths-append}
+use Rattle.like_children.specs.Opening.{Opens}
 
 -- ---- one tree
 

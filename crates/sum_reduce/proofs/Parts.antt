@@ -1,9 +1,9 @@
 -- The key of a term's part.
 use Rattle.std.proofs.Common.{ℕ, ◌≤◌, ◌≡◌, ◌≢◌, ◌⊎◌, inl, inr, eqb, cond, Bool, true, false, sym, ap, ◌∙◌, arith}
-use Rattle.sum_reduce.proofs.Shared.{ne_eqb, eq-eqb, is_number, split_product, product_tree, part_of, is_reduced, Tree, Trees, count, is_mult, coefficient_length, plain, children_of, IsExpression, Forest, tree_at}
+use Rattle.sum_reduce.proofs.Shared.{ne_eqb, eq-eqb, is_number, split_product, product_tree, part_of, is_reduced, Tree, Trees, count, is_mult, coefficient_length, plain, children_of, IsExpression}
+use Rattle.sum_reduce.proofs.Shared.{Forest, tree_at}
 use Rattle.coefficients.proofs.Lengths.{IsMeasured, long, measured, some_factors, product_part}
-use Rattle.node_order.specs.declared.keys.Key.{Key}
-use Rattle.node_order.specs.Keys.{trees_behind, key_tree, IsKey}
+use Rattle.node_order.specs.{declared.keys.Key.{Key}, Keys.{trees_behind, key_tree, IsKey}}
 
 whole_product : (t : Tree) → is_mult t ≡ true → 2 ≤ count (children_of t) → t ≡ product_tree (children_of t)
 whole_product t m l = grind arith

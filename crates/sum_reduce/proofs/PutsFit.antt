@@ -1,13 +1,16 @@
 -- A rational coefficient that is held with a sum behind it goes into each term of that sum: nothing overflows.
 use Rattle.std.proofs.Common.{◌≡◌, ◌≢◌, ◌⊎◌, inl, inr, ℕ, List, [], ◌∷◌, ◌++◌, Bool, true, false, if◌then◌else◌, map, refl, sym, ap, ◌∙◌, subst, arith}
-use Rattle.sum_reduce.proofs.Shared.{fraction_fits, operation_fits, Fraction, times, zero_fraction, is_zero_fraction, no_zero, Tree, num, add, mult, Trees, none, more, append, AllParts, AllPartsOf, IsTerm, AreTerms, is_number, term_of, terms_of, value, split, split_product, NoneIs, HasForm, num_one, Term, Surd, term, surd_of, term_times, surd_times, IsProper, AreProper, terms_proper, value_proper, number_words, HasFewBits, IsHeld, held_left, held_right, coefficient_of, factors_of, IsMonic, Leads, LeadsIn, LeadsTerm, NamesPut, monic_sum, taken, monic_parts, parts_reduced, parts_defined, State, Overflow, HaveFewBits, not_from_false, nothing_held, distributed, Addend, addend, addend_of, addends, addends_of, OfOverflow, NumberFault, AreFewBits}
+use Rattle.sum_reduce.proofs.Shared.{fraction_fits, operation_fits, Fraction, times, zero_fraction, is_zero_fraction, no_zero, Tree, num, add, mult, Trees, none, more, append, AllParts, AllPartsOf}
+use Rattle.sum_reduce.proofs.Shared.{IsTerm, AreTerms, is_number, term_of, terms_of, value, split, split_product, NoneIs, HasForm, num_one, Term, Surd, term, surd_of, term_times, surd_times, IsProper}
+use Rattle.sum_reduce.proofs.Shared.{AreProper, terms_proper, value_proper, number_words, HasFewBits, IsHeld, held_left, held_right, coefficient_of, factors_of, IsMonic, Leads, LeadsIn, LeadsTerm}
+use Rattle.sum_reduce.proofs.Shared.{NamesPut, monic_sum, taken, monic_parts, parts_reduced, parts_defined, State, Overflow, HaveFewBits, not_from_false, nothing_held, distributed, Addend, addend}
+use Rattle.sum_reduce.proofs.{Shared.{addend_of, addends, addends_of, OfOverflow, NumberFault, AreFewBits}, Held.{first_held, few_after, held_left_out, held_same, held_beside}}
+use Rattle.sum_reduce.proofs.HeldFactors.{held_distributed}
 use Rattle.calc_terms.specs.Rat.{value_of}
 use Rattle.surd_bits.proofs.ProductsFit.{coefficients_fit}
 use Rattle.number_forms.proofs.RationalBits.{rational_product_fits}
 use Rattle.rational128.specs.Refusals.{operation_of}
 use Rattle.like_children.proofs.Addends.{IsSplit, one_value, rational_value, split_sum, sum_addends}
-use Rattle.sum_reduce.proofs.Held.{first_held, few_after, held_left_out, held_same, held_beside}
-use Rattle.sum_reduce.proofs.HeldFactors.{held_distributed}
 use Rattle.tree_handles.specs.Causes.{IsCaused, Overflows}
 use Rattle.tree_handles.specs.declared.fault.NumberFault.TheVariants as fault
 use Rattle.std.proofs.lemmas.Bool.{true≢false}

@@ -1,21 +1,16 @@
 -- How many bytes the terms of a sum have while they are collected, and for how few at hand that is refused.
 use Rattle.std.proofs.Common.{◌≡◌, ℕ, suc, ◌+◌, ◌*◌, ◌^◌, ◌<◌, ◌≤◌, List, length, Bool, true, false, if◌then◌else◌, refl, ap, ◌∙◌, subst, arith}
-use Rattle.sum_reduce.proofs.Shared.{first_parts, last_parts, permuted_parts, count_removed, sizes_taken, and_from, is_number, NoneIs, are_reduced, Permuted, permuted_none, permuted_more, permuted_swap, permuted_trans, number_words, counted, counted_among, SpansRoot, SpansTree, SpansTrees, Tree, add, Trees, none, more, append, count, size, with_coefficient, put_room, parts_reduced, IsPairAt, State, free_of, removed, number_size, IsArranged, IsLead, AreLike, Collects, IsJoining, AreFormed, is_partner, nth, inserted, counted_in_all, sum_count}
+use Rattle.sum_reduce.proofs.Shared.{first_parts, last_parts, permuted_parts, count_removed, sizes_taken, and_from, is_number, NoneIs, are_reduced, Permuted, permuted_none, permuted_more}
+use Rattle.sum_reduce.proofs.Shared.{permuted_swap, permuted_trans, number_words, counted, counted_among, SpansRoot, SpansTree, SpansTrees, Tree, add, Trees, none, more, append, count, size}
+use Rattle.sum_reduce.proofs.Shared.{with_coefficient, put_room, parts_reduced, IsPairAt, State, free_of, removed, number_size, IsArranged, IsLead, AreLike, Collects, IsJoining, AreFormed, is_partner}
+use Rattle.sum_reduce.proofs.{Shared.{nth, inserted, counted_in_all, sum_count}, CollectedCounts.{collected_counts}, CollectedParts.{part_parts}, CollectedSpans.{total_spans}}
 use Rattle.calc_room.specs.Needs.{sum_need}
 use Rattle.coefficients.specs.Bytes.{bytes_of_taking, IsShort}
 use Rattle.node_pool.specs.declared.full.Full.{Full}
 use Rattle.sum_reduce.specs.Rooms.{terms_room}
-use Rattle.sum_reduce.proofs.CollectedCounts.{collected_counts}
-use Rattle.like_children.proofs.Counted.{counted_at_most, counted_in, put_counted}
-use Rattle.sum_reduce.proofs.CollectedParts.{part_parts}
-use Rattle.sum_reduce.proofs.CollectedSpans.{total_spans}
-use Rattle.like_children.proofs.Places.{inserted_permuted, nth_behind_removed, taken_permuted}
-use Rattle.like_children.proofs.Permutations.{of_lists}
+use Rattle.like_children.proofs.{Counted.{counted_at_most, counted_in, put_counted}, Places.{inserted_permuted, nth_behind_removed, taken_permuted}, Permutations.{of_lists}}
 use Rattle.tree_room.specs.Needs.{tree_bytes, sum_room}
-use Rattle.tree_room.proofs.Coefficients.{part_counts}
-use Rattle.tree_room.proofs.Counts.{all_appended, counts_one, number_counts_one, numbers_and_others}
-use Rattle.tree_room.proofs.Handed.{sum_bytes}
-use Rattle.tree_room.proofs.Multiples.{scaled}
+use Rattle.tree_room.proofs.{Coefficients.{part_counts}, Counts.{all_appended, counts_one, number_counts_one, numbers_and_others}, Handed.{sum_bytes}, Multiples.{scaled}}
 pub use Rattle.number_forms.proofs.Rooms.{few_for_sum as few_lack}
 
 all_reduced : (ts : Trees) → AreFormed ts → are_reduced ts ≡ true

@@ -1,9 +1,12 @@
 -- What is answered for settled terms.
 use Rattle.std.specs.Prelude.{⊤, IsSortedByKey}
 use Rattle.std.proofs.Common.{suc, ◌≤◌, arith, add-one, ◌≡◌, Bool, true, false, ◌||◌, if◌then◌else◌, refl, sym, ap, ◌∙◌, subst}
-use Rattle.sum_reduce.proofs.Shared.{Ordering, Less, is_eq, is_lt, ordering_reverse, and_parts, nest, nest_of, is_number, are_numbers, part_of, NoneIs, RisesBy, HasForm, is_reduced, are_reduced, tree_cmp, Tree, undef, add, Trees, none, more, append, count, names, names_of, is_add, is_undef, AllParts, in_add, has_undef, KeepsMeanings, single_sum, number_test, numbers_defined, tree_cmp_total, parts_reduced, parts_defined, reduced_parts, list_of, keeps, reduces_after, NoPairBetween, IsLead, IsSettled, IsStage, IsSumAnswer, AreFormed, is_loose, is_partner, terms_of_number, sum_tree, written_tree, Within, no_new_name, within_left, within_none}
-use Rattle.calc_algebra.proofs.UndefRewrites.{undef_part}
+use Rattle.sum_reduce.proofs.Shared.{Ordering, Less, is_eq, is_lt, ordering_reverse, and_parts, nest, nest_of, is_number, are_numbers, part_of, NoneIs, RisesBy, HasForm, is_reduced, are_reduced}
+use Rattle.sum_reduce.proofs.Shared.{tree_cmp, Tree, undef, add, Trees, none, more, append, count, names, names_of, is_add, is_undef, AllParts, in_add, has_undef, KeepsMeanings, single_sum}
+use Rattle.sum_reduce.proofs.Shared.{number_test, numbers_defined, tree_cmp_total, parts_reduced, parts_defined, reduced_parts, list_of, keeps, reduces_after, NoPairBetween, IsLead, IsSettled}
+use Rattle.sum_reduce.proofs.Shared.{IsStage, IsSumAnswer, AreFormed, is_loose, is_partner, terms_of_number, sum_tree, written_tree, Within, no_new_name, within_left, within_none}
 use Rattle.sum_reduce.proofs.WrittenSums.{AreOthers, written_sum, written_formed, written_keeps, written_names, written_nest}
+use Rattle.calc_algebra.proofs.UndefRewrites.{undef_part}
 use Rattle.tree_handles.proofs.UndefChildren.{undef_inside}
 
 -- ---- reduced terms

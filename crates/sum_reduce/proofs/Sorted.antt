@@ -1,10 +1,9 @@
 -- Terms in the order of their parts.
 use Rattle.std.specs.Prelude.{IsSortedByKey}
 use Rattle.std.proofs.Common.{ℕ, zero, suc, ◌<◌, ◌≤◌, arith, ◌≡◌, List, [], ◌∷◌, take, drop, Bool, true, false, refl, sym, ap, ◌∙◌, subst}
-use Rattle.sum_reduce.proofs.Shared.{is_number, part_of, NoneIs, tree_cmp, Tree, Trees, none, more, append, count, Permuted, Permuted-append_right, permuted_trees, trees_of, list_of, IsSorting, SortsChildren, nth, plains, Forest, kids, root_tree, IsLead, IsLed, IsArranged, terms_in, IsSum, is_loose}
-use Rattle.like_children.proofs.Permutations.{none_permuted, same_trees}
-use Rattle.sum_reduce.proofs.Sums.{sum_over, changed, IsChanged}
-use Rattle.like_children.proofs.Addends.{last_none}
+use Rattle.sum_reduce.proofs.Shared.{is_number, part_of, NoneIs, tree_cmp, Tree, Trees, none, more, append, count, Permuted, Permuted-append_right, permuted_trees, trees_of, list_of, IsSorting}
+use Rattle.sum_reduce.proofs.{Shared.{SortsChildren, nth, plains, Forest, kids, root_tree, IsLead, IsLed, IsArranged, terms_in, IsSum, is_loose}, Sums.{sum_over, changed, IsChanged}}
+use Rattle.like_children.proofs.{Permutations.{none_permuted, same_trees}, Addends.{last_none}}
 pub use Rattle.sum_reduce.proofs.Joins.{formed_reduced as formed_nth}
 
 -- ---- terms by their places

@@ -1,17 +1,15 @@
 -- Roots that are sums, from call to call.
 use Rattle.std.proofs.Common.{ℕ, ◌<◌, ◌≡◌, List, [], ◌∷◌, eqb, true, false, refl, sym, ap, ◌∙◌, subst, arith}
-use Rattle.sum_reduce.proofs.Shared.{Tree, Trees, add, none, more, count, is_add, State, IsOver, over_sum, over_handed, over_plain, over_put, over_same, over_end, over_beside, without_put, once_count, children_in, live, expression, seen, nth, plain, inserted, children_of, IsExpression, Forest, arity, kids, root_count, tree_nth, without_nth, with_nth, merged_nth, IsOnce, IsHanded, Represents, Ends, Gives, KeepsFront, holds, tree_at, kids_of, root_tree, without_root, Stands, forest, arity-tree_nth, IsBehind, behind_first, behind_later, behind_new, front_same, front_at, front_end, front_put, front_without, gives, gives_as, given_handed, given_root, given_rest, given_same, given_told, given_other, given_without, handed_by_put, represents_handed, represents_with, apart, other_apart, kids_of_root, last_tree, eqb-sym, root-put, put-put, put-same, tree-put, without-put, represents_nth, represents_without, represents_merged, terms_in, IsSum, Changes, Takes, removed}
+use Rattle.sum_reduce.proofs.Shared.{Tree, Trees, add, none, more, count, is_add, State, IsOver, over_sum, over_handed, over_plain, over_put, over_same, over_end, over_beside, without_put, once_count}
+use Rattle.sum_reduce.proofs.Shared.{children_in, live, expression, seen, nth, plain, inserted, children_of, IsExpression, Forest, arity, kids, root_count, tree_nth, without_nth, with_nth, merged_nth}
+use Rattle.sum_reduce.proofs.Shared.{IsOnce, IsHanded, Represents, Ends, Gives, KeepsFront, holds, tree_at, kids_of, root_tree, without_root, Stands, forest, arity-tree_nth, IsBehind, behind_first}
+use Rattle.sum_reduce.proofs.Shared.{behind_later, behind_new, front_same, front_at, front_end, front_put, front_without, gives, gives_as, given_handed, given_root, given_rest, given_same, given_told}
+use Rattle.sum_reduce.proofs.Shared.{given_other, given_without, handed_by_put, represents_handed, represents_with, apart, other_apart, kids_of_root, last_tree, eqb-sym, root-put, put-put, put-same}
+use Rattle.sum_reduce.proofs.Shared.{tree-put, without-put, represents_nth, represents_without, represents_merged, terms_in, IsSum, Changes, Takes, removed}
 use Rattle.coefficients.proofs.Loops.{set_removed}
 use Rattle.coefficients.specs.Pairs.{GivesTwo}
-use Rattle.tree_handles.proofs.Cuts.{represents_count}
-use Rattle.tree_handles.proofs.Beside.{gives_without}
-use Rattle.tree_handles.proofs.Filling.{hole_behind}
-use Rattle.tree_handles.proofs.Roots.{put-left, tree-left}
-use Rattle.tree_handles.specs.Holes.{ChangesTree, IsHole, Place, set_child, set_tree}
-use Rattle.tree_handles.specs.Forest.{join}
-use Rattle.tree_handles.specs.Roots.{has_root}
-use Rattle.tree_handles.specs.Roots.{put}
-use Rattle.tree_handles.proofs.Counted.{all-tree_nth}
+use Rattle.tree_handles.proofs.{Cuts.{represents_count}, Beside.{gives_without}, Filling.{hole_behind}, Roots.{put-left, tree-left}, Counted.{all-tree_nth}}
+use Rattle.tree_handles.specs.{Holes.{ChangesTree, IsHole, Place, set_child, set_tree}, Forest.{join}, Roots.{has_root, put}}
 use Rattle.like_children.specs.Children.{LeavesChildren}
 use Rattle.calc_terms.specs.declared.kind.Kind.TheVariants as kind
 

@@ -1,7 +1,8 @@
 -- Trees that the tests build.
 use Rattle.std.proofs.Common.{arith, ℕ, zero, suc, ◌≡◌, List, inr, true, refl, sym, ap}
-use Rattle.sum_reduce.proofs.Shared.{and_parts, and_from, is_number, is_reduced, are_reduced, Tree, symbol, add, Trees, none, more, is_add, number_words, IsMonic, parts_reduced, number_parts, plain, inserted, children_of, Forest, kids, Ends, Gives, root_tree, without_root, gives, gives_as, given_handed, given_told, represents_handed, last_tree, put-same, over_end, IsSum, terms_in, is_loose}
-use Rattle.sum_reduce.proofs.Sums.{IsRewritten, sum_over, over_is_sum, over_terms}
+use Rattle.sum_reduce.proofs.Shared.{and_parts, and_from, is_number, is_reduced, are_reduced, Tree, symbol, add, Trees, none, more, is_add, number_words, IsMonic, parts_reduced, number_parts, plain}
+use Rattle.sum_reduce.proofs.Shared.{inserted, children_of, Forest, kids, Ends, Gives, root_tree, without_root, gives, gives_as, given_handed, given_told, represents_handed, last_tree, put-same}
+use Rattle.sum_reduce.proofs.{Shared.{over_end, IsSum, terms_in, is_loose}, Sums.{IsRewritten, sum_over, over_is_sum, over_terms}}
 
 pub symbol_monic : (x : List ℕ) → IsMonic (symbol x)
 unfolding is_number

@@ -1,7 +1,9 @@
 -- The width of terms.
 use Rattle.std.proofs.Common.{suc, ◌+◌, ◌≤◌, ◌≡◌, ◌≢◌, ◌⊎◌, inl, inr, Bool, true, false, not, if◌then◌else◌, refl, sym, ap, ◌∙◌, subst, arith}
-use Rattle.sum_reduce.proofs.Shared.{Fraction, zero_fraction, is_zero_fraction, is_one_fraction, is_number, IsNumber, IsTerm, split_product, product_tree, part_of, NoneIs, HasForm, Tree, num, add, mult, root, Trees, none, more, append, nodes, nodes_of, is_add, AllParts, AllPartsOf, no_zero, Permuted, permuted_none, permuted_more, permuted_swap, permuted_trans, number_test, IsMonic, with_coefficient, rational_before, mapped, rational_times_term, rational_times_sum, put, zero_or_not, monic_sum, monic_no_number, monic_parts, number_of_term, IsFactor, scaled, not_one_is, EachTerm, each_term, multiple, width, widths}
-use Rattle.sum_reduce.proofs.Splits.{split_cases}
+use Rattle.sum_reduce.proofs.Shared.{Fraction, zero_fraction, is_zero_fraction, is_one_fraction, is_number, IsNumber, IsTerm, split_product, product_tree, part_of, NoneIs, HasForm, Tree, num, add}
+use Rattle.sum_reduce.proofs.Shared.{mult, root, Trees, none, more, append, nodes, nodes_of, is_add, AllParts, AllPartsOf, no_zero, Permuted, permuted_none, permuted_more, permuted_swap}
+use Rattle.sum_reduce.proofs.Shared.{permuted_trans, number_test, IsMonic, with_coefficient, rational_before, mapped, rational_times_term, rational_times_sum, put, zero_or_not, monic_sum}
+use Rattle.sum_reduce.proofs.{Shared.{monic_no_number, monic_parts, number_of_term, IsFactor, scaled, not_one_is, EachTerm, each_term, multiple, width, widths}, Splits.{split_cases}}
 pub use Rattle.tree_room.proofs.NodeCounts.{some_node}
 
 -- ---- one term

@@ -1,6 +1,7 @@
 -- The terms of a leading Number, and a sum of one term.
 use Rattle.std.proofs.Common.{nat_lt, ℕ, ◌≤◌, ◌<◌, ◌≡◌, Bool, true, false, if◌then◌else◌, refl, sym, ap, ◌∙◌, arith}
-use Rattle.sum_reduce.proofs.Shared.{ltb-true, by_test, is_number, Tree, Trees, none, more, append, count, is_add, is_zero, nth, children_of, removed, terms_of_number, sum_tree, leads_number, written_tree}
+use Rattle.sum_reduce.proofs.Shared.{ltb-true, by_test, is_number, Tree, Trees, none, more, append, count, is_add, is_zero, nth, children_of, removed, terms_of_number, sum_tree, leads_number}
+use Rattle.sum_reduce.proofs.Shared.{written_tree}
 
 pub spread_zero : (t : Tree) (us : Trees) → is_zero t ≡ true → us ≡ append (terms_of_number t) us
 spread_zero t us h = grind arith

@@ -1,20 +1,14 @@
 -- Terms in order.
 use Rattle.std.specs.Prelude.{◌≡◌, ⊤, true, IsSortedByKey, Result, Ok, Err}
-use Rattle.calc_terms.specs.Fractions.{Fraction}
-use Rattle.calc_algebra.specs.Numbers.{is_number}
-use Rattle.calc_measures.specs.PlainValues.{PlainValue, exactly}
-use Rattle.calc_algebra.specs.Reduced.{part_of, NoneIs}
-use Rattle.calc_algebra.specs.TreeOrder.{tree_cmp}
-use Rattle.calc_terms.specs.Trees.{num, Trees, none, more, append, count}
+use Rattle.calc_terms.specs.{Fractions.{Fraction}, Trees.{num, Trees, none, more, append, count}}
+use Rattle.calc_algebra.specs.{Numbers.{is_number}, Reduced.{part_of, NoneIs}, TreeOrder.{tree_cmp}}
+use Rattle.calc_measures.specs.{PlainValues.{PlainValue, exactly}, PlainTrees.{IsPlainOverflow}}
 pub use Rattle.like_children.specs.Folds.{IsTotal}
 use Rattle.like_children.specs.Neighbours.{NoPairBetween}
 use Rattle.node_order.specs.Sorting.{list_of}
-use Rattle.calc_measures.specs.PlainTrees.{IsPlainOverflow}
-use Rattle.tree_handles.specs.Causes.{LacksLongForm}
-use Rattle.tree_handles.specs.declared.fault.NumberFault.{NumberFault}
+use Rattle.tree_handles.specs.{Causes.{LacksLongForm}, declared.fault.NumberFault.{NumberFault}}
 use Rattle.tree_handles.specs.declared.fault.NumberFault.TheVariants as fault
-use Rattle.sum_reduce.specs.Stages.{IsStage}
-use Rattle.sum_reduce.specs.Terms.{is_loose, is_partner}
+use Rattle.sum_reduce.specs.{Stages.{IsStage}, Terms.{is_loose, is_partner}}
 
 -- no tree, or one Number
 abbrev pub IsLead : Trees → Type 0

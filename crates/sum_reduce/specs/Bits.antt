@@ -1,8 +1,6 @@
 -- Sums of addends by what holds them.
 use Rattle.std.specs.Prelude.{ℕ, List, ◌++◌}
-use Rattle.tree_bits.specs.Children.{IsSumHeld}
-use Rattle.tree_bits.specs.HeldTrees.{Addend}
-use Rattle.tree_bits.specs.Rows.{AreFewBits}
+use Rattle.tree_bits.specs.{Children.{IsSumHeld}, HeldTrees.{Addend}, Rows.{AreFewBits}}
 
 -- beside any others, what holds the first addends holds the second ones
 pub record KeepsHeld (xs ys : List Addend) : Type 0 where

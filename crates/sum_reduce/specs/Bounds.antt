@@ -1,12 +1,8 @@
 -- What a sum's answer keeps of the bounds on bytes and bits.
 use Rattle.std.specs.Prelude.{ℕ, ◌+◌, ◌≡◌, ◌≤◌, List, false}
-use Rattle.calc_room.specs.Counts.{counted, counted_among}
-use Rattle.calc_room.specs.Powers.{HasPowersOf}
-use Rattle.calc_room.specs.Spans.{SpansTree, SpansTrees}
+use Rattle.calc_room.specs.{Counts.{counted, counted_among}, Powers.{HasPowersOf}, Spans.{SpansTree, SpansTrees}}
 use Rattle.calc_terms.specs.Trees.{Tree, Trees, has_undef}
-use Rattle.tree_bits.specs.Children.{IsSumHeld, addends_of_each}
-use Rattle.tree_bits.specs.HeldTrees.{IsTreeHeld}
-use Rattle.tree_bits.specs.Powers.{AddsCounts}
+use Rattle.tree_bits.specs.{Children.{IsSumHeld, addends_of_each}, HeldTrees.{IsTreeHeld}, Powers.{AddsCounts}}
 
 -- the sum of these terms counts 1 more at most than those that are no Numbers, has no new powers, and is spanned by what spans them
 pub record KeepsSumRoom (ts : Trees) (t : Tree) : Type 0 where

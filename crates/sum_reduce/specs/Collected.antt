@@ -1,11 +1,7 @@
 -- The terms of a sum collected: sums among them opened, Numbers added, and terms with identical parts joined.
 use Rattle.std.specs.Prelude.{◌≡◌, ◌≤◌, [], ◌++◌, ⊤, true, false, IsPermutation}
-use Rattle.calc_terms.specs.Fractions.{zero_fraction}
-use Rattle.calc_algebra.specs.Numbers.{is_number, value}
-use Rattle.calc_algebra.specs.Reduced.{part_of, NoneIs}
-use Rattle.calc_algebra.specs.SquareClasses.{Same}
-use Rattle.calc_algebra.specs.Surds.{Surd}
-use Rattle.calc_terms.specs.Trees.{Tree, num, Trees, none, more, append, count}
+use Rattle.calc_terms.specs.{Fractions.{zero_fraction}, Trees.{Tree, num, Trees, none, more, append, count}}
+use Rattle.calc_algebra.specs.{Numbers.{is_number, value}, Reduced.{part_of, NoneIs}, SquareClasses.{Same}, Surds.{Surd}}
 use Rattle.coefficients.specs.Coefficients.{coefficient_of, with_coefficient}
 pub use Rattle.like_children.specs.Numbers.{numbers_in, others_in}
 use Rattle.node_order.specs.Sorting.{list_of, IsSorting}

@@ -1,19 +1,12 @@
 -- A part whose coefficient stands beside the sum.
 use Rattle.std.specs.Prelude.{ℕ, ◌+◌, ◌≡◌, ◌≤◌, ◌∷◌, true, false, IsPermutation}
 use Rattle.calc_measures.specs.Loads.{nest_of}
-use Rattle.calc_algebra.specs.Numbers.{is_number, value, are_numbers}
-use Rattle.calc_algebra.specs.Reduced.{NoneIs}
-use Rattle.calc_algebra.specs.SquareClasses.{Same}
+use Rattle.calc_algebra.specs.{Numbers.{is_number, value, are_numbers}, Reduced.{NoneIs}, SquareClasses.{Same}, Rewritings.{HasNoNewName, KeepsMeanings}}
 use Rattle.calc_terms.specs.Trees.{Tree, add, mult, Trees, none, more, append, count, nodes}
 use Rattle.coefficients.specs.Coefficients.{IsMonic, factors_of}
-use Rattle.calc_algebra.specs.Rewritings.{HasNoNewName, KeepsMeanings}
 use Rattle.node_order.specs.Sorting.{list_of}
-use Rattle.sum_reduce.specs.Bits.{KeepsHeld}
-use Rattle.sum_reduce.specs.Collected.{AreLike, sum_of_coefficients}
-use Rattle.sum_reduce.specs.Stages.{widths}
-use Rattle.sum_reduce.specs.Terms.{AreFormed, is_loose}
-use Rattle.tree_bits.specs.Children.{addends_of_each}
-use Rattle.tree_bits.specs.HeldTrees.{addend}
+use Rattle.sum_reduce.specs.{Bits.{KeepsHeld}, Collected.{AreLike, sum_of_coefficients}, Stages.{widths}, Terms.{AreFormed, is_loose}}
+use Rattle.tree_bits.specs.{Children.{addends_of_each}, HeldTrees.{addend}}
 
 -- these terms of ts have that part, and their coefficients were added
 pub record IsAdded (ts : Trees) (c p : Tree) (rest : Trees) (less : ℕ) : Type 0 where

@@ -1,15 +1,10 @@
 -- Which operation does not fit where the terms of a sum are collected.
 use Rattle.std.specs.Prelude.{◌≡◌, ◌≤◌, true, false}
-use Rattle.calc_terms.specs.Fits.{add_op}
-use Rattle.calc_algebra.specs.Numbers.{is_number, value}
-use Rattle.calc_algebra.specs.Reduced.{part_of}
-use Rattle.calc_measures.specs.PlainTrees.{IsPlainOverflow}
-use Rattle.calc_measures.specs.PlainValues.{calculated}
-use Rattle.calc_terms.specs.Trees.{Tree, num, Trees, more, append, count}
-use Rattle.coefficients.specs.Coefficients.{coefficient_of}
-use Rattle.coefficients.specs.Overflows.{NamesPut}
-use Rattle.number_forms.specs.Answers.{IsNumberOf}
-use Rattle.number_forms.specs.Overflows.{SumOverflows}
+use Rattle.calc_terms.specs.{Fits.{add_op}, Trees.{Tree, num, Trees, more, append, count}}
+use Rattle.calc_algebra.specs.{Numbers.{is_number, value}, Reduced.{part_of}}
+use Rattle.calc_measures.specs.{PlainTrees.{IsPlainOverflow}, PlainValues.{calculated}}
+use Rattle.coefficients.specs.{Coefficients.{coefficient_of}, Overflows.{NamesPut}}
+use Rattle.number_forms.specs.{Answers.{IsNumberOf}, Overflows.{SumOverflows}}
 use Rattle.rational128.specs.declared.overflow.Overflow.{Overflow}
 use Rattle.sum_reduce.specs.Collected.{AreLike, Collects, sum_of_coefficients}
 

@@ -2,10 +2,8 @@
 use Rattle.std.specs.Prelude.{ℕ, ◌+◌, ◌*◌, ◌^◌, List, length}
 use Rattle.calc_room.specs.Needs.{sum_need}
 use Rattle.calc_terms.specs.Trees.{Trees}
-use Rattle.tree_handles.specs.Lacking.{LacksBelow}
-use Rattle.tree_handles.specs.declared.fault.NumberFault.{NumberFault}
-use Rattle.tree_room.specs.Handed.{sum_count}
-use Rattle.tree_room.specs.Needs.{tree_bytes}
+use Rattle.tree_handles.specs.{Lacking.{LacksBelow}, declared.fault.NumberFault.{NumberFault}}
+use Rattle.tree_room.specs.{Handed.{sum_count}, Needs.{tree_bytes}}
 
 -- the bytes of reduced terms of which h nodes count, and of adding two Numbers beside them
 abbrev pub terms_room : ℕ → ℕ → ℕ

@@ -1,15 +1,10 @@
 -- The terms of a sum on the way to its answer.
 use Rattle.std.specs.Prelude.{ℕ, ◌+◌, ◌≡◌, ◌≤◌, true, if◌then◌else◌, IsPermutation}
 use Rattle.calc_measures.specs.Loads.{nest_of}
-use Rattle.calc_algebra.specs.Numbers.{is_number, are_numbers}
-use Rattle.calc_algebra.specs.Reduced.{part_of}
-use Rattle.calc_algebra.specs.SquareClasses.{Same}
+use Rattle.calc_algebra.specs.{Numbers.{is_number, are_numbers}, Reduced.{part_of}, SquareClasses.{Same}, Rewritings.{Rewrites}}
 use Rattle.calc_terms.specs.Trees.{Tree, add, Trees, none, more, count, nodes}
-use Rattle.calc_algebra.specs.Rewritings.{Rewrites}
 use Rattle.node_order.specs.Sorting.{list_of}
-use Rattle.sum_reduce.specs.Bits.{KeepsHeld}
-use Rattle.sum_reduce.specs.Collected.{numbers_in, others_in, sum_of_values, AreUnlike, Collects}
-use Rattle.sum_reduce.specs.Terms.{AreFormed, opened}
+use Rattle.sum_reduce.specs.{Bits.{KeepsHeld}, Collected.{numbers_in, others_in, sum_of_values, AreUnlike, Collects}, Terms.{AreFormed, opened}}
 use Rattle.tree_bits.specs.Children.{addends_of_each}
 
 -- 1 for a Number, the nodes of its part for another term, and all terms of a sum: where partners are joined it falls

@@ -1,12 +1,9 @@
 -- What a sum of reduced terms reduces to.
 use Rattle.std.specs.Prelude.{◌≡◌, ◌≤◌, true}
 use Rattle.calc_measures.specs.Loads.{nest}
-use Rattle.calc_algebra.specs.Numbers.{is_number, are_numbers}
+use Rattle.calc_algebra.specs.{Numbers.{is_number, are_numbers}, Rewritings.{Reduces}}
 use Rattle.calc_terms.specs.Trees.{Tree, add, Trees, is_undef, has_undef}
-use Rattle.calc_algebra.specs.Rewritings.{Reduces}
-use Rattle.sum_reduce.specs.Arranging.{IsSettled}
-use Rattle.sum_reduce.specs.Collected.{Collects}
-use Rattle.sum_reduce.specs.Terms.{written_tree}
+use Rattle.sum_reduce.specs.{Arranging.{IsSettled}, Collected.{Collects}, Terms.{written_tree}}
 
 -- the reduced sum of these terms
 pub record IsSumAnswer (ts : Trees) (t : Tree) : Type 0 where

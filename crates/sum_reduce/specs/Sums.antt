@@ -1,10 +1,7 @@
 -- A root that is a sum, and calls that change its terms or take one out.
 use Rattle.std.specs.Prelude.{ℕ, ◌≡◌, true, ⊤}
 use Rattle.calc_terms.specs.Trees.{Trees, is_add}
-use Rattle.tree_handles.specs.Expressions.{plain, children_of}
-use Rattle.tree_handles.specs.Forest.{Forest}
-use Rattle.tree_handles.specs.Handed.{IsHanded, Gives}
-use Rattle.tree_handles.specs.Roots.{root_tree, put}
+use Rattle.tree_handles.specs.{Expressions.{plain, children_of}, Forest.{Forest}, Handed.{IsHanded, Gives}, Roots.{root_tree, put}}
 
 -- the trees below a root
 abbrev pub terms_in : ℕ → Forest → Trees

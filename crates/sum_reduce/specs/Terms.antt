@@ -1,9 +1,7 @@
 -- The terms of a sum: sums in it opened, and terms with identical parts.
 use Rattle.std.specs.Prelude.{Bool, false, ◌&&◌, not, if◌then◌else◌}
-use Rattle.calc_terms.specs.Fractions.{zero_fraction, is_zero_fraction}
-use Rattle.calc_algebra.specs.Numbers.{is_number}
-use Rattle.calc_algebra.specs.Reduced.{part_of, HasForm}
-use Rattle.calc_terms.specs.Trees.{Tree, num, add, Trees, none, more, append, is_add, AllPartsOf, opened_into}
+use Rattle.calc_terms.specs.{Fractions.{zero_fraction, is_zero_fraction}, Trees.{Tree, num, add, Trees, none, more, append, is_add, AllPartsOf, opened_into}}
+use Rattle.calc_algebra.specs.{Numbers.{is_number}, Reduced.{part_of, HasForm}}
 use Rattle.like_children.specs.Neighbours.{are_alike}
 use Rattle.number_forms.specs.Sums.{removed}
 use Rattle.tree_handles.specs.Expressions.{nth}

@@ -1,9 +1,8 @@
 -- Inverses of what is held: the calculations fit, and how large they are.
-use Rattle.surd_bits.proofs.Shared.{◌≡◌, ◌≢◌, ℕ, ◌+◌, ◌*◌, ◌≤◌, ◌<◌, ℤ, pos, ◌+ℤ◌, ◌*ℤ◌, neg_ℤ, refl, sym, ap, ◌∙◌, subst, arith, nat_abs, ints}
-use Rattle.surd_bits.proofs.Shared.{unsigned_abs-mul, dvd_trans, dvd-mul_left, Fraction, lowest, plus, times, negative, inverse, zero_fraction, one_fraction, lowest_parts, times_lowest, mul_pos}
-use Rattle.surd_bits.proofs.Shared.{den_pos, gauss, cross_products, Term, inverse_times_itself, magnitude_over, cancel_right, coprime, den_divides, magnitude_is, magnitude_lowest, magnitude_cross}
-use Rattle.surd_bits.proofs.Shared.{magnitude_times, times_den, multiple_den, whole_over, whole_over-abs, over_multiple, plus_over, square_of, ◌∣◌, mul_comm, abs_negative, abs_plus}
-use Rattle.surd_bits.proofs.Bounds.{magnitude_whole, magnitude_positive}
+use Rattle.surd_bits.proofs.Shared.{◌≡◌, ◌≢◌, ℕ, ◌+◌, ◌*◌, ◌≤◌, ◌<◌, ℤ, pos, ◌+ℤ◌, ◌*ℤ◌, neg_ℤ, refl, sym, ap, ◌∙◌, subst, arith, nat_abs, ints, unsigned_abs-mul, dvd_trans, dvd-mul_left, Fraction}
+use Rattle.surd_bits.proofs.Shared.{lowest, plus, times, negative, inverse, zero_fraction, one_fraction, lowest_parts, times_lowest, mul_pos, den_pos, gauss, cross_products, Term}
+use Rattle.surd_bits.proofs.Shared.{inverse_times_itself, magnitude_over, cancel_right, coprime, den_divides, magnitude_is, magnitude_lowest, magnitude_cross, magnitude_times, times_den, multiple_den}
+use Rattle.surd_bits.proofs.{Shared.{whole_over, whole_over-abs, over_multiple, plus_over, square_of, ◌∣◌, mul_comm, abs_negative, abs_plus}, Bounds.{magnitude_whole, magnitude_positive}}
 
 -- ---- inverses of fractions
 

@@ -1,11 +1,9 @@
 -- Denominators and masses of inverses, for every common denominator.
-use Rattle.surd_bits.proofs.Shared.{◌≡◌, ◌≢◌, ℕ, ◌+◌, ◌*◌, ◌^◌, ◌≤◌, ◌<◌, max, [], ◌∷◌, false, pos, refl, sym, ap, ◌∙◌, subst, arith, mul-le, pow-add}
-use Rattle.surd_bits.proofs.Shared.{dvd-mul_left, pow-le-pow_right, Fraction, times, negative, inverse, whole_fraction, zero_fraction, mul_pos, are_alike, Term, Surd, Parts, magnitude_over}
-use Rattle.surd_bits.proofs.Shared.{root_above, term_mass, mass_from, mass, IsHeld, IsHeldByOne, root_enough, root_least, root_scale, magnitudes_cross, multiple_den, magnitude_scale, term_not_zero}
-use Rattle.surd_bits.proofs.Shared.{dvd_trans, inverse_of, conjugate_product, first_of_inverse, second_of_inverse, ◌∣◌, below_power, mul_comm}
-use Rattle.surd_bits.proofs.Bounds.{square_bound, magnitude_positive, magnitude_whole}
-use Rattle.surd_bits.proofs.Inverses.{OverDifference, OverInverse, over_inverse, magnitude_negative}
-use Rattle.surd_bits.proofs.InversesFit.{f, inverse_factor, inverse_terms, over_term, two_squares, square_of_two}
+use Rattle.surd_bits.proofs.Shared.{◌≡◌, ◌≢◌, ℕ, ◌+◌, ◌*◌, ◌^◌, ◌≤◌, ◌<◌, max, [], ◌∷◌, false, pos, refl, sym, ap, ◌∙◌, subst, arith, mul-le, pow-add, dvd-mul_left, pow-le-pow_right, Fraction, times}
+use Rattle.surd_bits.proofs.Shared.{negative, inverse, whole_fraction, zero_fraction, mul_pos, are_alike, Term, Surd, Parts, magnitude_over, root_above, term_mass, mass_from, mass, IsHeld}
+use Rattle.surd_bits.proofs.Shared.{IsHeldByOne, root_enough, root_least, root_scale, magnitudes_cross, multiple_den, magnitude_scale, term_not_zero, dvd_trans, inverse_of, conjugate_product}
+use Rattle.surd_bits.proofs.{Shared.{first_of_inverse, second_of_inverse, ◌∣◌, below_power, mul_comm}, Bounds.{square_bound, magnitude_positive, magnitude_whole}}
+use Rattle.surd_bits.proofs.{Inverses.{OverDifference, OverInverse, over_inverse, magnitude_negative}, InversesFit.{f, inverse_factor, inverse_terms, over_term, two_squares, square_of_two}}
 
 -- any two common denominators hold a list
 over_any : (d e : ℕ) (v : Surd) → Parts d v → Parts e v → IsHeld v (mass e v) d

@@ -1,8 +1,7 @@
 -- The inverse of one term, and of the sum of two that are not alike, is no larger than its formula says.
 use Rattle.surd_bits.proofs.Shared.{◌≡◌, ◌≢◌, ◌<◌, [], ◌∷◌, false, arith, zero_fraction, are_alike, Term, inverse_of, first_of_inverse, second_of_inverse, IsNoLargerThanInverse}
-use Rattle.surd_bits.proofs.InversesFit.{inverse_held, inverse_of_sum_held}
-use Rattle.surd_bits.proofs.InversesMeasured.{MeasuredOne, measured_one, one_parts, one_scale, one_mass, inverse_one_by_one, Measured, measured, measured_parts, measured_scale, measured_mass}
-use Rattle.surd_bits.proofs.InversesMeasured.{inverse_by_one}
+use Rattle.surd_bits.proofs.{InversesFit.{inverse_held, inverse_of_sum_held}, InversesMeasured.{MeasuredOne, measured_one, one_parts, one_scale, one_mass, inverse_one_by_one, Measured, measured}}
+use Rattle.surd_bits.proofs.InversesMeasured.{measured_parts, measured_scale, measured_mass, inverse_by_one}
 
 pub one_no_larger : (a : Term) → a.coefficient ≢ zero_fraction → 0 < a.radicand → IsNoLargerThanInverse (a ∷ []) (inverse_of a ∷ [])
 one_no_larger a n p = record {

@@ -1,8 +1,7 @@
 -- Terms that are held within 124 bits can be joined.
-use Rattle.surd_bits.proofs.Shared.{◌≡◌, ℕ, ◌+◌, ◌*◌, ◌/◌, ◌^◌, ◌≤◌, ◌<◌, [], ◌∷◌, Bool, true, false, pos, None, refl, sym, ap, ◌∙◌, subst, arith, passed}
-use Rattle.surd_bits.proofs.Shared.{if◌then◌else◌, mul-le, fraction_fits, sum_fits, gcd, are_alike, Term, square_root_is, square_le, magnitude_over, root_above, term_mass, IsHeld, multiple_fits}
-use Rattle.surd_bits.proofs.Shared.{sum_fits_over, magnitudes_cross, cancel_le, multiple_den, root_enough, Add, calculation, first_misfit, scaled, scaling, joining_calculations, ◌∣◌, part_le}
-use Rattle.surd_bits.proofs.Shared.{square_root}
+use Rattle.surd_bits.proofs.Shared.{◌≡◌, ℕ, ◌+◌, ◌*◌, ◌/◌, ◌^◌, ◌≤◌, ◌<◌, [], ◌∷◌, Bool, true, false, pos, None, refl, sym, ap, ◌∙◌, subst, arith, passed, if◌then◌else◌, mul-le, fraction_fits}
+use Rattle.surd_bits.proofs.Shared.{sum_fits, gcd, are_alike, Term, square_root_is, square_le, magnitude_over, root_above, term_mass, IsHeld, multiple_fits, sum_fits_over, magnitudes_cross, cancel_le}
+use Rattle.surd_bits.proofs.Shared.{multiple_den, root_enough, Add, calculation, first_misfit, scaled, scaling, joining_calculations, ◌∣◌, part_le, square_root}
 use Rattle.surd_bits.proofs.Bounds.{held_bound, power_fits, denominator_bound, magnitude_whole}
 
 -- what is taken before the root is at most the root

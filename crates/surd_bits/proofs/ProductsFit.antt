@@ -1,9 +1,7 @@
 -- Terms whose product is held within 124 bits can be multiplied.
-use Rattle.surd_bits.proofs.InversesFit.{trans}
-use Rattle.surd_bits.proofs.Shared.{◌≡◌, ◌≢◌, ℕ, ◌+◌, ◌*◌, ◌/◌, ◌^◌, ◌≤◌, ◌<◌, [], ◌∷◌, true, pos, ◌*ℤ◌, sym, ap, subst, arith, mul-le, part_le}
-use Rattle.surd_bits.proofs.Shared.{fraction_fits, times, whole_fraction, zero_fraction, times_lowest, Term, term_times, product_not_zero, square_le, magnitude_over, term_mass, IsHeld, multiple_fits}
-use Rattle.surd_bits.proofs.Shared.{quotient_fits, multiple_den, ◌∣◌}
-use Rattle.surd_bits.proofs.Bounds.{held_bound, square_bound, power_fits, denominator_bound, magnitude_whole, magnitude_positive, one_held, root_at_most}
+use Rattle.surd_bits.proofs.{InversesFit.{trans}, Shared.{◌≡◌, ◌≢◌, ℕ, ◌+◌, ◌*◌, ◌/◌, ◌^◌, ◌≤◌, ◌<◌, [], ◌∷◌, true, pos, ◌*ℤ◌, sym, ap, subst, arith, mul-le, part_le, fraction_fits, times}}
+use Rattle.surd_bits.proofs.Shared.{whole_fraction, zero_fraction, times_lowest, Term, term_times, product_not_zero, square_le, magnitude_over, term_mass, IsHeld, multiple_fits, quotient_fits}
+use Rattle.surd_bits.proofs.{Shared.{multiple_den, ◌∣◌}, Bounds.{held_bound, square_bound, power_fits, denominator_bound, magnitude_whole, magnitude_positive, one_held, root_at_most}}
 
 -- with n at least 1
 rest_below : (n r s g h b : ℕ) → 0 < n → n * n * (r * s) ≤ b → (r / g) * (s / h) ≤ b

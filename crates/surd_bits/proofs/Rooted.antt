@@ -1,8 +1,7 @@
 -- The root of a rational of at least 0 is no larger than the rational.
-use Rattle.surd_bits.proofs.Shared.{◌≡◌, ◌≢◌, ℕ, ◌+◌, ◌*◌, ◌^◌, ◌≤◌, ◌<◌, max, [], ◌∷◌, Bool, if◌then◌else◌, sym, ap, ◌∙◌, subst, arith, nat_abs}
-use Rattle.surd_bits.proofs.Shared.{mul-le, pow_pos, le_of_dvd, Term, Surd, surd_of, square_le, magnitude_over, root_above, IsHeld, IsHeldByOne, cancel_le, magnitude_cross, root_enough, root_least}
-use Rattle.surd_bits.proofs.Shared.{Fraction, zero_fraction, den_pos, zero_test, parts_of, IsRootTerm, value, num, IsNoLargerThanRoot}
-use Rattle.surd_bits.proofs.RootsFit.{root_parts, root_magnitude, root_mass, root_held}
+use Rattle.surd_bits.proofs.Shared.{◌≡◌, ◌≢◌, ℕ, ◌+◌, ◌*◌, ◌^◌, ◌≤◌, ◌<◌, max, [], ◌∷◌, Bool, if◌then◌else◌, sym, ap, ◌∙◌, subst, arith, nat_abs, mul-le, pow_pos, le_of_dvd, Term, Surd, surd_of}
+use Rattle.surd_bits.proofs.Shared.{square_le, magnitude_over, root_above, IsHeld, IsHeldByOne, cancel_le, magnitude_cross, root_enough, root_least, Fraction, zero_fraction, den_pos, zero_test}
+use Rattle.surd_bits.proofs.{Shared.{parts_of, IsRootTerm, value, num, IsNoLargerThanRoot}, RootsFit.{root_parts, root_magnitude, root_mass, root_held}}
 
 as_rational : (q : Fraction) → q ≢ zero_fraction → value (num q) ≡ surd_of q
 as_rational q n = ap (λ (b : Bool). if b then [] else surd_of q) (zero_test q n)

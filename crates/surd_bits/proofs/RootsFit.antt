@@ -1,9 +1,8 @@
 -- The root of a rational that is held.
-use Rattle.surd_bits.proofs.Shared.{◌≡◌, ℕ, ◌+◌, ◌*◌, ◌^◌, ◌≤◌, ◌<◌, max, [], ◌∷◌, pos, ◌*ℤ◌, None, refl, sym, ap, ◌∙◌, subst, arith, nat_abs, passed}
-use Rattle.surd_bits.proofs.Shared.{unsigned_abs-mul, mul-le, pow-add, pow_pos, le_of_dvd, Fraction, times, whole_fraction, times_lowest, den_pos, Term, surd_of, term, square_le, magnitude_over}
-use Rattle.surd_bits.proofs.Shared.{root_above, term_mass, mass, IsHeld, quotient_fits, cancel_le, den_divides, magnitude_lowest, magnitude_cross, root_enough, root_least, Mul, calculation}
-use Rattle.surd_bits.proofs.Shared.{first_misfit, root_calculations, IsRootTerm, parts_of, ◌∣◌}
-use Rattle.surd_bits.proofs.Bounds.{power_fits}
+use Rattle.surd_bits.proofs.Shared.{◌≡◌, ℕ, ◌+◌, ◌*◌, ◌^◌, ◌≤◌, ◌<◌, max, [], ◌∷◌, pos, ◌*ℤ◌, None, refl, sym, ap, ◌∙◌, subst, arith, nat_abs, passed, unsigned_abs-mul, mul-le, pow-add, pow_pos}
+use Rattle.surd_bits.proofs.Shared.{le_of_dvd, Fraction, times, whole_fraction, times_lowest, den_pos, Term, surd_of, term, square_le, magnitude_over, root_above, term_mass, mass, IsHeld}
+use Rattle.surd_bits.proofs.Shared.{quotient_fits, cancel_le, den_divides, magnitude_lowest, magnitude_cross, root_enough, root_least, Mul, calculation, first_misfit, root_calculations, IsRootTerm}
+use Rattle.surd_bits.proofs.{Shared.{parts_of, ◌∣◌}, Bounds.{power_fits}}
 
 -- p is at most q * 2 ^ h
 num_held : (q : Fraction) (h l : ℕ) → IsHeld (surd_of q) h l → nat_abs q.num ≤ q.den * 2 ^ h

@@ -1,8 +1,7 @@
 -- How large an inverse is.
 use Rattle.std.specs.Prelude.{ℕ, ◌+◌, ◌*◌, ◌≤◌, [], ◌∷◌}
 use Rattle.calc_algebra.specs.Surds.{Surd}
-use Rattle.calc_bits.specs.Denominators.{Parts}
-use Rattle.calc_bits.specs.Masses.{mass_from, IsHeld, IsHeldByOne}
+use Rattle.calc_bits.specs.{Denominators.{Parts}, Masses.{mass_from, IsHeld, IsHeldByOne}}
 use Rattle.surd_bits.specs.Proper.{square_over}
 
 -- the sum of the squares of d times the terms

@@ -1,7 +1,6 @@
 -- Terms other than 0, their squares, and a rational as a quotient.
 use Rattle.std.specs.Prelude.{ℕ, ◌*◌, ◌≢◌, ◌<◌}
-use Rattle.calc_terms.specs.Fractions.{Fraction, zero_fraction}
-use Rattle.calc_terms.specs.Ratio.{Ratio}
+use Rattle.calc_terms.specs.{Fractions.{Fraction, zero_fraction}, Ratio.{Ratio}}
 use Rattle.calc_algebra.specs.Surds.{Term}
 use Rattle.calc_bits.specs.Denominators.{magnitude_over}
 

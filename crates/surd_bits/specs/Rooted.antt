@@ -1,11 +1,8 @@
 -- How large the root of a rational is.
 use Rattle.std.specs.Prelude.{ℕ, ◌*◌, ◌≤◌, max, nat_abs}
-use Rattle.calc_algebra.specs.Numbers.{value}
-use Rattle.calc_algebra.specs.Surds.{Surd}
-use Rattle.calc_bits.specs.Denominators.{Parts}
-use Rattle.calc_bits.specs.Masses.{root_above, mass, IsHeld, IsHeldByOne}
-use Rattle.calc_terms.specs.Fractions.{Fraction}
-use Rattle.calc_terms.specs.Trees.{num}
+use Rattle.calc_algebra.specs.{Numbers.{value}, Surds.{Surd}}
+use Rattle.calc_bits.specs.{Denominators.{Parts}, Masses.{root_above, mass, IsHeld, IsHeldByOne}}
+use Rattle.calc_terms.specs.{Fractions.{Fraction}, Trees.{num}}
 
 -- w, the root of p/q, has the denominator q and over it a mass of at most the root of p * q, rounded up, and is held as p/q is
 pub record IsNoLargerThanRoot (x : Fraction) (w : Surd) : Type 0 where

@@ -1,7 +1,6 @@
 -- Square parts of p * q, for the root of p/q.
-use Rattle.surd_terms.proofs.Shared.{◌≡◌, ◌≢◌, ℕ, zero, suc, ◌*◌, ◌<◌, ◌≤◌, ◌^◌, ℤ, pos, ◌<ℤ◌, [], ◌∷◌, sym, ◌∙◌, arith, nat_abs, ints, Fraction}
-use Rattle.surd_terms.proofs.Shared.{quotient, zero_fraction, IsRootOf, term, cross_products, root_extracted}
-use Rattle.surd_terms.proofs.Radicands.{part_at_most}
+use Rattle.surd_terms.proofs.Shared.{◌≡◌, ◌≢◌, ℕ, zero, suc, ◌*◌, ◌<◌, ◌≤◌, ◌^◌, ℤ, pos, ◌<ℤ◌, [], ◌∷◌, sym, ◌∙◌, arith, nat_abs, ints, Fraction, quotient, zero_fraction, IsRootOf, term}
+use Rattle.surd_terms.proofs.{Shared.{cross_products, root_extracted}, Radicands.{part_at_most}}
 
 -- a number above 0 is its magnitude
 pub positive_is : (z : ℤ) → pos 0 <ℤ z → z ≡ pos (nat_abs z)

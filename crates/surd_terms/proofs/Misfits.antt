@@ -1,9 +1,8 @@
 -- Which of some calculations is the first that does not fit.
-use Rattle.surd_terms.proofs.Shared.{◌≡◌, true, false, ℕ, ◌*◌, ◌/◌, ◌≤◌, Bool, List, [], ◌∷◌, ◌++◌, Option, Some, None, Result, refl, sym, ap, ◌∙◌, subst, arith}
-use Rattle.surd_terms.proofs.Shared.{if◌then◌else◌, ◌↔◌, IsErr, IfOk, IfErr, IsErrAnd, IsGcd, mul-div_cancel_left, same_from_IsGcd, dvd_refl, fraction_fits, Fraction, gcd, gcd_is}
-use Rattle.surd_terms.proofs.Shared.{value_of, Rat, are_alike, Term, Add, Mul, Overflow, Calculation, calculation, does_fit, first_misfit, calculation_of, misfit_of, scaled, scaling}
-use Rattle.surd_terms.proofs.Shared.{joining_calculations, ◌∣◌, square_root, square_root-square, DoesNotFit, Op}
-use Rattle.surd_terms.proofs.Values.{alike_itself, times_whole_one}
+use Rattle.surd_terms.proofs.Shared.{◌≡◌, true, false, ℕ, ◌*◌, ◌/◌, ◌≤◌, Bool, List, [], ◌∷◌, ◌++◌, Option, Some, None, Result, refl, sym, ap, ◌∙◌, subst, arith, if◌then◌else◌, ◌↔◌, IsErr, IfOk}
+use Rattle.surd_terms.proofs.Shared.{IfErr, IsErrAnd, IsGcd, mul-div_cancel_left, same_from_IsGcd, dvd_refl, fraction_fits, Fraction, gcd, gcd_is, value_of, Rat, are_alike, Term, Add, Mul, Overflow}
+use Rattle.surd_terms.proofs.Shared.{Calculation, calculation, does_fit, first_misfit, calculation_of, misfit_of, scaled, scaling, joining_calculations, ◌∣◌, square_root, square_root-square}
+use Rattle.surd_terms.proofs.{Shared.{DoesNotFit, Op}, Values.{alike_itself, times_whole_one}}
 
 fits_from : (b : Bool) → (b ≡ false → false ≡ true) → b ≡ true
 fits_from b h = grind arith

@@ -1,9 +1,7 @@
 -- What the product of two terms is refused for.
-use Rattle.surd_terms.proofs.Shared.{◌≡◌, ◌≢◌, true, false, ℕ, ◌*◌, ◌/◌, inl, inr, List, [], ◌∷◌, Option, Some, None, Result, pos, refl, sym, ap, ◌∙◌, subst, arith}
-use Rattle.surd_terms.proofs.Shared.{if◌then◌else◌, IsErr, IsErrAnd, one-dvd, IsClean, Term, gcd, Fraction, whole_fraction, Mul, Overflow, Calculation, calculation, does_fit, first_misfit}
-use Rattle.surd_terms.proofs.Shared.{has_rational, radicand_calculations, cancelled_calculations, IsCancelled, IsCancelledMisfit, IsProductMisfit, calculation_of, misfit_of, HasRational}
-use Rattle.surd_terms.proofs.Misfits.{refused_for}
-use Rattle.surd_terms.proofs.Values.{times_whole_one}
+use Rattle.surd_terms.proofs.Shared.{◌≡◌, ◌≢◌, true, false, ℕ, ◌*◌, ◌/◌, inl, inr, List, [], ◌∷◌, Option, Some, None, Result, pos, refl, sym, ap, ◌∙◌, subst, arith, if◌then◌else◌, IsErr, IsErrAnd}
+use Rattle.surd_terms.proofs.Shared.{one-dvd, IsClean, Term, gcd, Fraction, whole_fraction, Mul, Overflow, Calculation, calculation, does_fit, first_misfit, has_rational, radicand_calculations}
+use Rattle.surd_terms.proofs.{Shared.{cancelled_calculations, IsCancelled, IsCancelledMisfit, IsProductMisfit, calculation_of, misfit_of, HasRational}, Misfits.{refused_for}, Values.{times_whole_one}}
 use Rattle.surd_terms.proofs.WholeFactors.{cancelled_misfit}
 
 is_rational : (a b : Term) → HasRational a b → has_rational a b ≡ true

@@ -1,6 +1,5 @@
 -- Clean radicands, and how large the parts of a radicand are.
-use Rattle.surd_terms.proofs.Shared.{◌≡◌, ℕ, zero, suc, ◌*◌, ◌/◌, ◌<◌, ◌≤◌, ◌^◌, sym, ap, ◌∙◌, arith, mul-le-mul, lt_of_le_of_lt, IsGcd, mul-div_cancel', IsClean}
-use Rattle.surd_terms.proofs.Shared.{mul_pos, ◌∣◌, left_of_is}
+use Rattle.surd_terms.proofs.Shared.{◌≡◌, ℕ, zero, suc, ◌*◌, ◌/◌, ◌<◌, ◌≤◌, ◌^◌, sym, ap, ◌∙◌, arith, mul-le-mul, lt_of_le_of_lt, IsGcd, mul-div_cancel', IsClean, mul_pos, ◌∣◌, left_of_is}
 use native.Mathlib.Nat.{pos_of_dvd_of_pos}
 
 square_above_one : (d n : ℕ) → 1 ≡ d * d * n → 1 < d → ⊥

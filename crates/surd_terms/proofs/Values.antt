@@ -1,9 +1,8 @@
 -- Values of terms that are made.
-use Rattle.surd_terms.proofs.Shared.{◌≡◌, true, false, ◌≢◌, ℕ, ◌*◌, pos, [], ◌∷◌, ◌≤◌, subst, sym, ap, ◌∙◌, arith, dvd_refl, times_comm, one_times, zero_plus}
-use Rattle.surd_terms.proofs.Shared.{plus_negative, Fraction, plus, plus_comm, times, negative, inverse, zero_fraction, one_fraction, whole_fraction, are_alike, Same, Inverts, Term, term, inverse_of}
-use Rattle.surd_terms.proofs.Shared.{conjugate_product, first_of_inverse, second_of_inverse, IsExtracted, IsSum, ComesTo, Joins, IfTerm, ◌∣◌, inverse_times_itself, factor_not_zero}
-use Rattle.surd_terms.proofs.Shared.{product_not_zero, Inverts-Same, term_has_inverse, difference_not_zero, terms_have_inverse, Same-sym, Same-trans, alike_true, Same-refl, Same-eq, joined, zero_term}
-use Rattle.surd_terms.proofs.Shared.{extracted, Joined}
+use Rattle.surd_terms.proofs.Shared.{◌≡◌, true, false, ◌≢◌, ℕ, ◌*◌, pos, [], ◌∷◌, ◌≤◌, subst, sym, ap, ◌∙◌, arith, dvd_refl, times_comm, one_times, zero_plus, plus_negative, Fraction, plus, plus_comm}
+use Rattle.surd_terms.proofs.Shared.{times, negative, inverse, zero_fraction, one_fraction, whole_fraction, are_alike, Same, Inverts, Term, term, inverse_of, conjugate_product, first_of_inverse}
+use Rattle.surd_terms.proofs.Shared.{second_of_inverse, IsExtracted, IsSum, ComesTo, Joins, IfTerm, ◌∣◌, inverse_times_itself, factor_not_zero, product_not_zero, Inverts-Same, term_has_inverse}
+use Rattle.surd_terms.proofs.Shared.{difference_not_zero, terms_have_inverse, Same-sym, Same-trans, alike_true, Same-refl, Same-eq, joined, zero_term, extracted, Joined}
 use Rattle.surd_terms.specs.declared.sums.Joined.TheVariants as joined
 
 -- the sum of two terms has their value

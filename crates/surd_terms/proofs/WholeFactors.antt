@@ -1,11 +1,10 @@
 -- A whole number cancelled against the denominators of two fractions.
-use Rattle.surd_terms.proofs.Shared.{◌≡◌, true, ℕ, zero, suc, ◌*◌, ◌/◌, ◌<◌, ◌≤◌, ℤ, pos, ◌*ℤ◌, Bool, Option, Some, None, sym, ap, ◌∙◌, subst, arith, nat_abs}
-use Rattle.surd_terms.proofs.Shared.{if◌then◌else◌, IsGcd, unsigned_abs-mul, dvd_refl, dvd_trans, mul-div_cancel', mul-div_cancel_left, dvd-mul_right, dvd-mul_left, mul-dvd-mul}
-use Rattle.surd_terms.proofs.Shared.{pos_of_dvd_of_pos, times_comm, times_assoc, fraction_fits, Fraction, lowest, times, whole_fraction, times_lowest, lowest_parts, den_pos, same_lowest, is_lowest}
-use Rattle.surd_terms.proofs.Shared.{mul_pos, gcd, gcd_is, parts, diffs, eq_diff, IsCoprime, IsCoprime-swap, IsGcd-from_coprime, IsCoprime-divisors, IsCoprime-mul, quotients_coprime, factor_divides}
-use Rattle.surd_terms.proofs.Shared.{positive_factor, HasParts, parts_by_cross, parts_themselves, fraction_coprime, is_lowest_from, Mul, Calculation, calculation, first_misfit, IsCancelled}
-use Rattle.surd_terms.proofs.Shared.{cancelled_calculations, IsCancelledMisfit, ◌∣◌, div-mul_cancel, mul-one}
-use Rattle.surd_terms.proofs.Rationals.{whole_times}
+use Rattle.surd_terms.proofs.Shared.{◌≡◌, true, ℕ, zero, suc, ◌*◌, ◌/◌, ◌<◌, ◌≤◌, ℤ, pos, ◌*ℤ◌, Bool, Option, Some, None, sym, ap, ◌∙◌, subst, arith, nat_abs, if◌then◌else◌, IsGcd, unsigned_abs-mul}
+use Rattle.surd_terms.proofs.Shared.{dvd_refl, dvd_trans, mul-div_cancel', mul-div_cancel_left, dvd-mul_right, dvd-mul_left, mul-dvd-mul, pos_of_dvd_of_pos, times_comm, times_assoc, fraction_fits}
+use Rattle.surd_terms.proofs.Shared.{Fraction, lowest, times, whole_fraction, times_lowest, lowest_parts, den_pos, same_lowest, is_lowest, mul_pos, gcd, gcd_is, parts, diffs, eq_diff, IsCoprime}
+use Rattle.surd_terms.proofs.Shared.{IsCoprime-swap, IsGcd-from_coprime, IsCoprime-divisors, IsCoprime-mul, quotients_coprime, factor_divides, positive_factor, HasParts, parts_by_cross}
+use Rattle.surd_terms.proofs.Shared.{parts_themselves, fraction_coprime, is_lowest_from, Mul, Calculation, calculation, first_misfit, IsCancelled, cancelled_calculations, IsCancelledMisfit, ◌∣◌}
+use Rattle.surd_terms.proofs.{Shared.{div-mul_cancel, mul-one}, Rationals.{whole_times}}
 
 -- ---- times a whole number
 

@@ -1,19 +1,8 @@
 -- The operations on fractions that a call on terms is made of, in order, and the first of them that does not fit.
-use Rattle.std.specs.Prelude.{ℕ, ◌≡◌, ◌*◌, ◌/◌, ◌++◌, List, [], ◌∷◌, Bool, true, ◌||◌, ◌==◌, ◌↔◌, if◌then◌else◌, Option, Some, None, Result, Ok, Err, pos}
-use Rattle.std.specs.Int.{IsGcd}
-use Rattle.calc_terms.specs.Fits.{operation_fits, fraction_fits}
-use Rattle.calc_terms.specs.Fractions.{Fraction, times, negative, inverse, whole_fraction}
-use Rattle.calc_terms.specs.Gcd.{gcd}
-use Rattle.calc_terms.specs.Rat.{value_of}
-use Rattle.calc_terms.specs.Ratio.{Ratio}
-use Rattle.calc_algebra.specs.Clean.{IsClean}
-use Rattle.calc_algebra.specs.SquareClasses.{are_alike}
-use Rattle.calc_algebra.specs.SquareRoots.{square_root}
-use Rattle.calc_algebra.specs.Surds.{Term}
-use Rattle.rational128.specs.Refusals.{operation_of}
-use Rattle.rational128.specs.declared.overflow.Op.{Op}
-use Rattle.rational128.specs.declared.overflow.Op.TheVariants.{Add, Mul}
-use Rattle.rational128.specs.declared.overflow.Overflow.{Overflow}
+use Rattle.std.specs.{Prelude.{ℕ, ◌≡◌, ◌*◌, ◌/◌, ◌++◌, List, [], ◌∷◌, Bool, true, ◌||◌, ◌==◌, ◌↔◌, if◌then◌else◌, Option, Some, None, Result, Ok, Err, pos}, Int.{IsGcd}}
+use Rattle.calc_terms.specs.{Fits.{operation_fits, fraction_fits}, Fractions.{Fraction, times, negative, inverse, whole_fraction}, Gcd.{gcd}, Rat.{value_of}, Ratio.{Ratio}}
+use Rattle.calc_algebra.specs.{Clean.{IsClean}, SquareClasses.{are_alike}, SquareRoots.{square_root}, Surds.{Term}}
+use Rattle.rational128.specs.{Refusals.{operation_of}, declared.overflow.Op.{Op}, declared.overflow.Op.TheVariants.{Add, Mul}, declared.overflow.Overflow.{Overflow}}
 use Rattle.surd_terms.specs.Inverses.{square_of, conjugate_product}
 
 -- an operation with its operands

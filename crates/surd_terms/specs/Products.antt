@@ -1,7 +1,6 @@
 -- Square parts of radicands.
 use Rattle.std.specs.Prelude.{ℕ, ◌*◌, ◌/◌, ◌^◌, ◌<◌, ◌≡◌, ◌⊎◌, pos}
-use Rattle.calc_terms.specs.Fractions.{times, whole_fraction}
-use Rattle.calc_terms.specs.Gcd.{gcd}
+use Rattle.calc_terms.specs.{Fractions.{times, whole_fraction}, Gcd.{gcd}}
 use Rattle.calc_algebra.specs.Surds.{Term}
 
 -- t is u with a square of its radicand taken before the root

@@ -1,7 +1,6 @@
 -- Roots of rationals as terms.
 use Rattle.std.specs.Prelude.{ℕ, ◌*◌, ◌≡◌, nat_abs}
-use Rattle.calc_terms.specs.Fractions.{quotient}
-use Rattle.calc_terms.specs.Ratio.{Ratio}
+use Rattle.calc_terms.specs.{Fractions.{quotient}, Ratio.{Ratio}}
 use Rattle.calc_algebra.specs.Surds.{Term}
 
 -- √(p/q) as (root/q) * √r, where p * q is root * root * r

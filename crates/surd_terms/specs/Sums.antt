@@ -1,11 +1,8 @@
 -- What the sum of two terms comes to.
-use Rattle.std.specs.Prelude.{ℕ, ◌*◌, ◌≡◌, pos, true, false, [], ◌∷◌, ⊤}
-use Rattle.std.specs.Int.{IsGcd}
+use Rattle.std.specs.{Prelude.{ℕ, ◌*◌, ◌≡◌, pos, true, false, [], ◌∷◌, ⊤}, Int.{IsGcd}}
 use Rattle.calc_terms.specs.Fractions.{plus, times, zero_fraction, whole_fraction}
-use Rattle.calc_algebra.specs.SquareClasses.{are_alike, Same}
-use Rattle.calc_algebra.specs.Surds.{Term}
-use Rattle.surd_terms.specs.Terms.{term_of}
-use Rattle.surd_terms.specs.declared.sums.Joined.{Joined}
+use Rattle.calc_algebra.specs.{SquareClasses.{are_alike, Same}, Surds.{Term}}
+use Rattle.surd_terms.specs.{Terms.{term_of}, declared.sums.Joined.{Joined}}
 use Rattle.surd_terms.specs.declared.sums.Joined.TheVariants as joined
 
 -- the sum of a and b over the root of what their radicands share, of which each is a multiple by a square

@@ -1,7 +1,6 @@
 -- Terms of the code, as terms of surds.
-use Rattle.calc_terms.specs.Rat.{value_of}
+use Rattle.calc_terms.specs.{Rat.{value_of}, declared.rat.Rat.{Rat}}
 use Rattle.calc_algebra.specs.Surds.{Term as SurdTerm, term}
-use Rattle.calc_terms.specs.declared.rat.Rat.{Rat}
 use Rattle.surd_terms.specs.declared.term.Term.{Term}
 
 -- the rational before its root

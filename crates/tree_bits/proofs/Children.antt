@@ -1,7 +1,7 @@
 -- Sums of several trees.
 use Rattle.std.proofs.Common.{◌≡◌, ℕ, ◌+◌, ◌*◌, ◌^◌, ◌≤◌, List, [], ◌∷◌, ◌++◌, false, arith}
-use Rattle.tree_bits.proofs.Shared.{mul-le, pow-add, pow-le-pow_right, HighLow, Tree, Trees, none, more, count, is_undef, IsSumHeld, addends_of_each, AreTreesHeld, power_sum, largest_high, low_sum, Addend, addends, IsTreeHeld, sum_held, AreWeighted, none_weighted, more_weighted, Weighted}
-use Rattle.tree_bits.proofs.Sums.{AreWithin, are_within, held_within, sums_within}
+use Rattle.tree_bits.proofs.Shared.{mul-le, pow-add, pow-le-pow_right, HighLow, Tree, Trees, none, more, count, is_undef, IsSumHeld, addends_of_each, AreTreesHeld, power_sum, largest_high, low_sum}
+use Rattle.tree_bits.proofs.{Shared.{Addend, addends, IsTreeHeld, sum_held, AreWeighted, none_weighted, more_weighted, Weighted}, Sums.{AreWithin, are_within, held_within, sums_within}}
 
 pub tree_as_sum : {t : Tree} {h l : ℕ} → is_undef t ≡ false → IsTreeHeld t h l → IsSumHeld (addends t) h l
 tree_as_sum u h = grind arith

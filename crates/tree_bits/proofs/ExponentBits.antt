@@ -1,23 +1,18 @@
 -- Exponents that count their bases: how often at least, and by how many bits they are held themselves.
 use Rattle.std.proofs.Common.{◌≡◌, ◌≢◌, ℕ, ◌+◌, ◌*◌, ◌^◌, ◌≤◌, inl, inr, List, [], ◌∷◌, max, ℤ, pos, Bool, true, false, ◌==◌, not, if◌then◌else◌, refl, sym, ap, ◌∙◌, subst, arith, nat_abs}
-use Rattle.std.proofs.Math.Nat.{dvd_refl}
-use Rattle.std.proofs.lemmas.Bool.{and_parts, eqb-true, not_from_false}
+use Rattle.std.proofs.{Math.Nat.{dvd_refl}, lemmas.Bool.{and_parts, eqb-true, not_from_false}}
 use Rattle.std.specs.Int.{◌∣◌}
 use Rattle.calc_algebra.proofs.NumberLaws.{number_test, term_test}
-use Rattle.calc_algebra.specs.Numbers.{IsTerm, AreTerms, is_number, is_term, value, terms_of}
-use Rattle.calc_algebra.specs.Reduced.{HasForm, NoneIs, num_one, number_terms, other_terms}
-use Rattle.calc_algebra.specs.Surds.{surd_of, surd_one}
+use Rattle.calc_algebra.specs.{Numbers.{IsTerm, AreTerms, is_number, is_term, value, terms_of}, Reduced.{HasForm, NoneIs, num_one, number_terms, other_terms}, Surds.{surd_of, surd_one}}
 use Rattle.calc_bits.proofs.RootsAbove.{root_least}
-use Rattle.calc_bits.specs.Denominators.{Parts, AreWholeOver, magnitude_over}
-use Rattle.calc_bits.specs.Masses.{mass, root_above}
+use Rattle.calc_bits.specs.{Denominators.{Parts, AreWholeOver, magnitude_over}, Masses.{mass, root_above}}
 use Rattle.calc_measures.proofs.LiteralValues.{whole_of}
 use Rattle.calc_terms.proofs.FractionFacts.{zero_test, one_test, no_zero, whole_numerator, whole_denominator}
-use Rattle.calc_terms.specs.Fractions.{Fraction, zero_fraction, one_fraction, whole_fraction, is_zero_fraction}
-use Rattle.calc_terms.specs.Integers.{int_is_zero}
-use Rattle.calc_terms.specs.Trees.{Tree, num, symbol, add, mult, root, Trees, none, more, is_add, is_undef, AllParts, AllPartsOf}
+use Rattle.calc_terms.specs.{Fractions.{Fraction, zero_fraction, one_fraction, whole_fraction, is_zero_fraction}, Integers.{int_is_zero}, Trees.{Tree, num, symbol, add, mult, root, Trees, none, more}}
+use Rattle.calc_terms.specs.Trees.{is_add, is_undef, AllParts, AllPartsOf}
 use Rattle.tree_bits.proofs.Sums.{one_counted, one_counts}
-use Rattle.tree_bits.specs.Exponents.{Counts, counts, multiple, is_counted, are_counted, counts_of, counts_of_all}
-use Rattle.tree_bits.specs.HeldTrees.{Addend, addend, addend_of, addends, addends_of, power_high, power_low, IsTreeHeld, sum_held, AreWeighted, none_weighted, more_weighted, IsPartHeld, no_factor_held, factor_held, symbol_held}
+use Rattle.tree_bits.specs.{Exponents.{Counts, counts, multiple, is_counted, are_counted, counts_of, counts_of_all}, HeldTrees.{Addend, addend, addend_of, addends, addends_of, power_high, power_low}}
+use Rattle.tree_bits.specs.HeldTrees.{IsTreeHeld, sum_held, AreWeighted, none_weighted, more_weighted, IsPartHeld, no_factor_held, factor_held, symbol_held}
 use Rattle.tree_bits.specs.Weighted.{Weighted, weighted, PartsAll, lows, weighted_mass, AreHeld}
 
 pub clash : {A : Type 0} → true ≡ false → A

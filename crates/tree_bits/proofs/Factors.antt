@@ -1,11 +1,11 @@
 -- Trees as factors, products, and coefficients that are distributed.
 use Rattle.std.proofs.Common.{◌≡◌, ℕ, ◌+◌, ◌*◌, ◌^◌, ◌-◌, ◌≤◌, List, [], ◌∷◌, Bool, true, false, if◌then◌else◌, not, negsuc, refl, sym, ap, ◌∙◌, subst, arith}
-use Rattle.tree_bits.proofs.Shared.{mul-le, pow-add, is_number, value, Surd, term, surd_one, surd_times, Parts, magnitude_over, mass, IsHeld, two_powers, parts_times, mass_times, abs_cross, den_divides, magnitude_is, root_least, HighLow, lowest, one_fraction, minus_one_fraction, mul_pos, num_one, Tree, symbol, root, add, Trees, none, more, is_add, is_undef, Counts, counts, counts_of, IsSumHeld, AreTreesHeld, ArePositive, high_sum, low_sum, as_factor, multiplied, product_of, distributed, surd_minus_one, Addend, addend, addend_of, addends, base_in, exponent_in, power_high, power_low, IsTreeHeld, AreWeighted, none_weighted, more_weighted, IsPartHeld, no_factor_held, factor_held, IsBaseHeld, symbol_held, root_held, tree_held, Weighted, weighted, PartsAll, lows, weighted_mass, AreHeld}
-use Rattle.tree_bits.proofs.Children.{tree_as_sum, sum_as_tree}
-use Rattle.tree_bits.proofs.HeldTrees.{parts_multiply}
-use Rattle.tree_bits.proofs.Numbers.{alone}
-use Rattle.tree_bits.proofs.Weighted.{split_off}
-use Rattle.tree_bits.proofs.Sums.{tree_wider, one_weighted, one_counted, one_counts}
+use Rattle.tree_bits.proofs.Shared.{mul-le, pow-add, is_number, value, Surd, term, surd_one, surd_times, Parts, magnitude_over, mass, IsHeld, two_powers, parts_times, mass_times, abs_cross}
+use Rattle.tree_bits.proofs.Shared.{den_divides, magnitude_is, root_least, HighLow, lowest, one_fraction, minus_one_fraction, mul_pos, num_one, Tree, symbol, root, add, Trees, none, more, is_add}
+use Rattle.tree_bits.proofs.Shared.{is_undef, Counts, counts, counts_of, IsSumHeld, AreTreesHeld, ArePositive, high_sum, low_sum, as_factor, multiplied, product_of, distributed, surd_minus_one}
+use Rattle.tree_bits.proofs.Shared.{Addend, addend, addend_of, addends, base_in, exponent_in, power_high, power_low, IsTreeHeld, AreWeighted, none_weighted, more_weighted, IsPartHeld, no_factor_held}
+use Rattle.tree_bits.proofs.{Shared.{factor_held, IsBaseHeld, symbol_held, root_held, tree_held, Weighted, weighted, PartsAll, lows, weighted_mass, AreHeld}, Children.{tree_as_sum, sum_as_tree}}
+use Rattle.tree_bits.proofs.{HeldTrees.{parts_multiply}, Numbers.{alone}, Weighted.{split_off}, Sums.{tree_wider, one_weighted, one_counted, one_counts}}
 
 -- ---- trees as factors
 

@@ -1,8 +1,9 @@
 -- Numbers are held as trees as they are held as surds.
 use Rattle.std.proofs.Common.{◌≡◌, ℕ, ◌+◌, ◌-◌, ◌*◌, ◌^◌, ◌≤◌, List, [], ◌∷◌, Bool, true, if◌then◌else◌, refl, sym, ap, ◌∙◌, subst, arith}
 use Rattle.std.specs.Prelude.{◌&&◌, nat_le, length}
-use Rattle.tree_bits.proofs.Shared.{mul-le, pow_pos, pow-le-pow_right, is_number, is_term, are_terms, rises, terms_of, value, number_terms, other_terms, Surd, mass, IsHeld, Tree, undef, add, Trees, none, more, counts_of, Addend, addend, addends, exponent_in, IsTreeHeld, sum_held, AreWeighted, none_weighted, more_weighted, IsPartHeld, no_factor_held, factor_held, IsBaseHeld, Weighted, weighted, AreHeld}
-use Rattle.tree_bits.proofs.Weighted.{put_before, split_off}
+use Rattle.tree_bits.proofs.Shared.{mul-le, pow_pos, pow-le-pow_right, is_number, is_term, are_terms, rises, terms_of, value, number_terms, other_terms, Surd, mass, IsHeld, Tree, undef, add, Trees}
+use Rattle.tree_bits.proofs.Shared.{none, more, counts_of, Addend, addend, addends, exponent_in, IsTreeHeld, sum_held, AreWeighted, none_weighted, more_weighted, IsPartHeld, no_factor_held}
+use Rattle.tree_bits.proofs.{Shared.{factor_held, IsBaseHeld, Weighted, weighted, AreHeld}, Weighted.{put_before, split_off}}
 
 -- ---- the one addend of a Number
 

@@ -1,9 +1,8 @@
 -- Parts to whole powers.
 use Rattle.std.proofs.Common.{◌≡◌, ℕ, suc, ◌+◌, ◌-◌, ◌*◌, ◌≤◌, List, [], ◌∷◌, refl, sym, subst, ℤ, pos, negsuc, arith}
-use Rattle.tree_bits.proofs.Shared.{mul-le, Surd, IsNoLargerThanPower, IsHeld, Tree, Trees, none, more, IsSumHeld, counts_of, Addend, addend, exponent_in, AreWeighted, none_weighted, more_weighted, IsPartHeld, no_factor_held, factor_held, IsBaseHeld, IsPartPower, raised_high, raised_low, IsHeldAsPower, IsAddendPower, IsZeroAlone, Weighted, weighted, AreHeld}
-use Rattle.tree_bits.proofs.Numbers.{nothing_held, held_wider}
-use Rattle.tree_bits.proofs.Sums.{wider_held}
-use Rattle.tree_bits.proofs.Weighted.{put_before, split_off}
+use Rattle.tree_bits.proofs.Shared.{mul-le, Surd, IsNoLargerThanPower, IsHeld, Tree, Trees, none, more, IsSumHeld, counts_of, Addend, addend, exponent_in, AreWeighted, none_weighted, more_weighted}
+use Rattle.tree_bits.proofs.Shared.{IsPartHeld, no_factor_held, factor_held, IsBaseHeld, IsPartPower, raised_high, raised_low, IsHeldAsPower, IsAddendPower, IsZeroAlone, Weighted, weighted, AreHeld}
+use Rattle.tree_bits.proofs.{Numbers.{nothing_held, held_wider}, Sums.{wider_held}, Weighted.{put_before, split_off}}
 
 -- x and y count m times u and v at most
 raised_bits : (m u v x y p z k h : ℕ) → x ≤ m * u → y ≤ m * v → (u * p + v * z) + k ≤ h → (x * p + y * z) + m * k ≤ m * h

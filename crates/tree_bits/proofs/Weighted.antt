@@ -1,6 +1,7 @@
 -- What holds coefficients before parts.
 use Rattle.std.proofs.Common.{◌≡◌, ℕ, ◌+◌, ◌-◌, ◌*◌, ◌^◌, ◌≤◌, ◌<◌, ◌⊎◌, inl, inr, List, [], ◌∷◌, min, sym, ap, subst, arith}
-use Rattle.tree_bits.proofs.Shared.{mul-le, pow-add, pow_pos, pow-le-pow_right, Term, Surd, Parts, mass, IsHeld, cancel_le, Weighted, weighted, coefficients, PartsAll, lows, weighted_mass, AreHeld, lesser}
+use Rattle.tree_bits.proofs.Shared.{mul-le, pow-add, pow_pos, pow-le-pow_right, Term, Surd, Parts, mass, IsHeld, cancel_le, Weighted, weighted, coefficients, PartsAll, lows, weighted_mass, AreHeld}
+use Rattle.tree_bits.proofs.Shared.{lesser}
 
 order : (a b : ℕ) → (a ≤ b) ⊎ (b ≤ a)
 order a b = grind arith

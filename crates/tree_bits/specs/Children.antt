@@ -2,8 +2,7 @@
 use Rattle.std.specs.Prelude.{ℕ, ◌+◌, ◌^◌, ◌≤◌, ◌≡◌, max, ⊤, List, [], ◌∷◌, ◌++◌, false}
 use Rattle.calc_measures.specs.Measures.{HighLow}
 use Rattle.calc_terms.specs.Trees.{Trees, none, more, is_undef}
-use Rattle.tree_bits.specs.HeldTrees.{Addend, addends, IsTreeHeld, AreWeighted}
-use Rattle.tree_bits.specs.Weighted.{Weighted, AreHeld}
+use Rattle.tree_bits.specs.{HeldTrees.{Addend, addends, IsTreeHeld, AreWeighted}, Weighted.{Weighted, AreHeld}}
 
 -- the addends are held together, each with the bits of its part
 pub record IsSumHeld (xs : List Addend) (h l : ℕ) : Type 0 where

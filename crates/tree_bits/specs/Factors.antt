@@ -1,9 +1,7 @@
 -- Trees as factors, and their products.
 use Rattle.std.specs.Prelude.{List, map, if◌then◌else◌}
-use Rattle.calc_algebra.specs.Numbers.{is_number, value}
-use Rattle.calc_algebra.specs.Surds.{Surd, surd_of, surd_one, surd_times}
-use Rattle.calc_terms.specs.Fractions.{minus_one_fraction}
-use Rattle.calc_terms.specs.Trees.{Tree, Trees, none, more, append}
+use Rattle.calc_algebra.specs.{Numbers.{is_number, value}, Surds.{Surd, surd_of, surd_one, surd_times}}
+use Rattle.calc_terms.specs.{Fractions.{minus_one_fraction}, Trees.{Tree, Trees, none, more, append}}
 use Rattle.tree_bits.specs.HeldTrees.{Addend, addend, addend_of}
 
 -- a Number is a coefficient alone, a product is taken apart, and any other tree is one factor

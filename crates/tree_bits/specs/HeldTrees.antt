@@ -1,11 +1,8 @@
 -- By how many bits a reduced tree is held: as a sum of coefficients before parts, whose factors are powers of bases.
 use Rattle.std.specs.Prelude.{ℕ, ◌+◌, ◌*◌, ◌≤◌, ◌≡◌, List, [], ◌∷◌, Bool, true, false, not, if◌then◌else◌}
-use Rattle.calc_algebra.specs.Numbers.{is_number, terms_of, value}
-use Rattle.calc_algebra.specs.Reduced.{num_one, number_terms, other_terms, split_product}
-use Rattle.calc_algebra.specs.Surds.{Surd, surd_one}
+use Rattle.calc_algebra.specs.{Numbers.{is_number, terms_of, value}, Reduced.{num_one, number_terms, other_terms, split_product}, Surds.{Surd, surd_one}}
 use Rattle.calc_terms.specs.Trees.{Tree, symbol, undef, add, mult, power, root, Trees, none, more}
-use Rattle.tree_bits.specs.Exponents.{Counts, counts_of, is_counted}
-use Rattle.tree_bits.specs.Weighted.{Weighted, weighted, AreHeld}
+use Rattle.tree_bits.specs.{Exponents.{Counts, counts_of, is_counted}, Weighted.{Weighted, weighted, AreHeld}}
 
 -- a coefficient and the factors behind it
 pub record Addend : Type 0 where

@@ -1,9 +1,7 @@
 -- Factors with one base, joined.
 use Rattle.std.specs.Prelude.{◌≡◌, true}
 use Rattle.calc_terms.specs.Trees.{Tree}
-use Rattle.tree_bits.specs.Exponents.{counts_of, is_counted, added}
-use Rattle.tree_bits.specs.HeldTrees.{base_in, exponent_in}
-use Rattle.tree_bits.specs.Powers.{IsWithin}
+use Rattle.tree_bits.specs.{Exponents.{counts_of, is_counted, added}, HeldTrees.{base_in, exponent_in}, Powers.{IsWithin}}
 
 -- v has the base of both t and u, and an exponent that counts as the sum of theirs at most
 pub record IsJoint (t u v : Tree) : Type 0 where

@@ -3,8 +3,7 @@ use Rattle.std.specs.Prelude.{ℕ, suc, ◌+◌, ◌*◌, ◌≤◌, ◌≡◌, 
 use Rattle.calc_algebra.specs.Surds.{Surd}
 use Rattle.calc_bits.specs.Masses.{IsHeld}
 use Rattle.calc_terms.specs.Trees.{Tree, Trees, none, more}
-use Rattle.tree_bits.specs.Exponents.{Counts, multiple, counts_of, counts_of_all, is_counted, are_counted}
-use Rattle.tree_bits.specs.HeldTrees.{Addend, base_in, exponent_in}
+use Rattle.tree_bits.specs.{Exponents.{Counts, multiple, counts_of, counts_of_all, is_counted, are_counted}, HeldTrees.{Addend, base_in, exponent_in}}
 
 -- an exponent that counts no more than another
 pub record IsWithin (c d : Counts) : Type 0 where

@@ -1,8 +1,7 @@
 -- Trees beside the bounds on their bits.
 use Rattle.std.specs.Prelude.{ℕ, ◌+◌, ◌*◌, ◌≤◌, List, [], ◌∷◌}
 use Rattle.calc_measures.specs.Measures.{HighLow, bounds, bits_of}
-use Rattle.calc_terms.specs.Limits.{bits_limit}
-use Rattle.calc_terms.specs.Trees.{Tree, Trees, none, more}
+use Rattle.calc_terms.specs.{Limits.{bits_limit}, Trees.{Tree, Trees, none, more}}
 
 -- the bounds of each tree
 abbrev pub bounds_of_each : Trees → List HighLow

@@ -1,8 +1,7 @@
 -- Coefficients before parts, and what holds a sum of them.
 use Rattle.std.specs.Prelude.{ℕ, ⊤, ◌+◌, ◌*◌, ◌^◌, ◌≤◌, ◌<◌, List, [], ◌∷◌, map, min}
 use Rattle.calc_algebra.specs.Surds.{Surd}
-use Rattle.calc_bits.specs.Denominators.{Parts}
-use Rattle.calc_bits.specs.Masses.{mass}
+use Rattle.calc_bits.specs.{Denominators.{Parts}, Masses.{mass}}
 
 -- a coefficient before a part that is held by (high, low)
 pub record Weighted : Type 0 where

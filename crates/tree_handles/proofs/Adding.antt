@@ -1,12 +1,11 @@
 -- A root that becomes a child.
-use Rattle.tree_handles.proofs.Shared.{◌≡◌, ℕ, ◌+◌, ◌-◌, ◌<◌, ◌≤◌, ◌⊎◌, inl, inr, List, ◌∷◌, ◌++◌, length, drop, cond, refl, sym, ap, ◌∙◌, subst}
-use Rattle.tree_handles.proofs.Shared.{arith, append_assoc, Bool, true, false, cases_Bool, length-append, Node, State, has, used, place_of, with_children, AreDistinct, since, moved, IsBoundary}
-use Rattle.tree_handles.proofs.Shared.{used-append, size_from, or_is_false, has-append, since-append, place_of-append, moved_left, moved_right, with_children-append, forest, Stands, IsCounted}
-use Rattle.tree_handles.proofs.Shared.{Label, Forest, empty, tree, join, arity, node_of, flatten, first_trees, rest_trees, with_nth, AllNodes, holds, tree_at, kids_of, with_kids, has_root}
-use Rattle.tree_handles.proofs.{Shared.{root_tree, without_root, skip, IsChildPlace}, Forests.{flatten-join, first-rest, skip-flatten, skip-first, flatten-with_nth, arity-with_nth, has-flatten}}
-use Rattle.tree_handles.proofs.{Parts.{IsAt, at, place_is, has_mid, live_node}, Roots.{IsTop, top, root_held}}
-use Rattle.tree_handles.proofs.Counted.{all-with_kids, all-with_nth, all-root_tree, all-without_root, all-kids, all-tree_at}
-use Rattle.tree_handles.proofs.{Joins.{holds-join, kids_of-join_left, kids_of-join_right, with_kids-join_left, with_kids-join_right}, Releases.arity_le, Distinct.not_before}
+use Rattle.tree_handles.proofs.Shared.{◌≡◌, ℕ, ◌+◌, ◌-◌, ◌<◌, ◌≤◌, ◌⊎◌, inl, inr, List, ◌∷◌, ◌++◌, length, drop, cond, refl, sym, ap, ◌∙◌, subst, arith, append_assoc, Bool, true, false, cases_Bool}
+use Rattle.tree_handles.proofs.Shared.{length-append, Node, State, has, used, place_of, with_children, AreDistinct, since, moved, IsBoundary, used-append, size_from, or_is_false, has-append}
+use Rattle.tree_handles.proofs.Shared.{since-append, place_of-append, moved_left, moved_right, with_children-append, forest, Stands, IsCounted, Label, Forest, empty, tree, join, arity, node_of}
+use Rattle.tree_handles.proofs.Shared.{flatten, first_trees, rest_trees, with_nth, AllNodes, holds, tree_at, kids_of, with_kids, has_root, root_tree, without_root, skip, IsChildPlace}
+use Rattle.tree_handles.proofs.{Forests.{flatten-join, first-rest, skip-flatten, skip-first, flatten-with_nth, arity-with_nth, has-flatten}, Parts.{IsAt, at, place_is, has_mid, live_node}}
+use Rattle.tree_handles.proofs.{Roots.{IsTop, top, root_held}, Counted.{all-with_kids, all-with_nth, all-root_tree, all-without_root, all-kids, all-tree_at}, Releases.arity_le, Distinct.not_before}
+use Rattle.tree_handles.proofs.Joins.{holds-join, kids_of-join_left, kids_of-join_right, with_kids-join_left, with_kids-join_right}
 
 -- ---- the move
 

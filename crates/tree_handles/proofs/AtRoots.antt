@@ -1,10 +1,9 @@
 -- The calls at roots, in words of roots.
-use Rattle.tree_handles.proofs.Shared.{◌≡◌, ℕ, ◌+◌, ◌<◌, ◌≤◌, ◌∷◌, cond, eqb, refl, sym, ap, ◌∙◌, subst, arith, Bool, true, false, eqb-true, eq-eqb}
-use Rattle.tree_handles.proofs.Shared.{AreDistinct, State, AreDistinct-parts, AreDistinct-append, AreApart-parts, Forest, tree, join, arity, kids, root_id, node_of, flatten, tree_nth}
-use Rattle.tree_handles.proofs.Shared.{without_nth, with_nth, set_nth, with_root_kids, Ends, holds, kids_of, with_kids, has_root, root_tree, without_root, put, Stands, forest}
-use Rattle.tree_handles.proofs.{Distinct.{Distinct, distinct, put-root, clear_front}, Forests.{flatten-join, arity-with_nth, arity-tree_nth}, Joins.{holds-with_kids, kids_of-with_kids}}
-use Rattle.tree_handles.proofs.{Lasts.{kids_of_root, last_root, takes_root, takes_next}, Replacing.held_beside, Roots.{top, root_arity, root-without, root_id-root_tree}}
-use Rattle.tree_handles.proofs.Outcomes.{by_test, eqb-sym}
+use Rattle.tree_handles.proofs.Shared.{◌≡◌, ℕ, ◌+◌, ◌<◌, ◌≤◌, ◌∷◌, cond, eqb, refl, sym, ap, ◌∙◌, subst, arith, Bool, true, false, eqb-true, eq-eqb, AreDistinct, State, AreDistinct-parts}
+use Rattle.tree_handles.proofs.Shared.{AreDistinct-append, AreApart-parts, Forest, tree, join, arity, kids, root_id, node_of, flatten, tree_nth, without_nth, with_nth, set_nth, with_root_kids, Ends}
+use Rattle.tree_handles.proofs.{Shared.{holds, kids_of, with_kids, has_root, root_tree, without_root, put, Stands, forest}, Distinct.{Distinct, distinct, put-root, clear_front}}
+use Rattle.tree_handles.proofs.{Forests.{flatten-join, arity-with_nth, arity-tree_nth}, Joins.{holds-with_kids, kids_of-with_kids}, Replacing.held_beside}
+use Rattle.tree_handles.proofs.{Lasts.{kids_of_root, last_root, takes_root, takes_next}, Roots.{top, root_arity, root-without, root_id-root_tree}, Outcomes.{by_test, eqb-sym}}
 
 pub distinct-without : (i : ℕ) (f : Forest) → Distinct f → has_root i f ≡ true → Distinct (without_root i f)
 distinct-without i f d h =

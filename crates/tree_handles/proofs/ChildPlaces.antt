@@ -1,11 +1,10 @@
 -- Children one after another.
-use Rattle.tree_handles.proofs.Shared.{◌≡◌, ℕ, zero, suc, ◌+◌, ◌-◌, ◌<◌, ◌≤◌, List, [], ◌∷◌, ◌++◌, length, drop, refl, sym, ap, ◌∙◌, subst, arith}
-use Rattle.tree_handles.proofs.Shared.{append_assoc, true, false, Node, size_of, used, has, first_of, place_of, AreDistinct, since, IsBoundary, State, since-append, used-append, size_from}
-use Rattle.tree_handles.proofs.Shared.{boundary-append, place_of-append, root_ids, IsChildAt, AreSiblings, nth, plain, IsExpression, AllExpressions, children_of, Forest, empty, tree, join}
-use Rattle.tree_handles.proofs.Shared.{arity, root_id, node_of, first_trees, rest_trees, forest_of, flatten, tree_nth, holds, kids_of, tree_at, Stands, forest, skip, IsChildPlace}
-use Rattle.tree_handles.proofs.{Distinct.{distinct, child_tree, held_parent, not_before}, Forests.{forest_of-flatten, flatten-first_rest, skip-first, nth_tree, arity-join, arity-rest_trees}}
-use Rattle.tree_handles.proofs.{Nths.first_trees-behind, Parts.{IsAt, IsTaken, is_before, kid_place, live_at, live_node, root_nth, child_taken}, Readings.{expression_child, whole_child}}
-use Rattle.tree_handles.proofs.Swapping.{IsSwap, swaps}
+use Rattle.tree_handles.proofs.Shared.{◌≡◌, ℕ, zero, suc, ◌+◌, ◌-◌, ◌<◌, ◌≤◌, List, [], ◌∷◌, ◌++◌, length, drop, refl, sym, ap, ◌∙◌, subst, arith, append_assoc, true, false, Node, size_of, used, has}
+use Rattle.tree_handles.proofs.Shared.{first_of, place_of, AreDistinct, since, IsBoundary, State, since-append, used-append, size_from, boundary-append, place_of-append, root_ids, IsChildAt}
+use Rattle.tree_handles.proofs.Shared.{AreSiblings, nth, plain, IsExpression, AllExpressions, children_of, Forest, empty, tree, join, arity, root_id, node_of, first_trees, rest_trees, forest_of}
+use Rattle.tree_handles.proofs.{Shared.{flatten, tree_nth, holds, kids_of, tree_at, Stands, forest, skip, IsChildPlace}, Distinct.{distinct, child_tree, held_parent, not_before}}
+use Rattle.tree_handles.proofs.{Forests.{forest_of-flatten, flatten-first_rest, skip-first, nth_tree, arity-join, arity-rest_trees}, Nths.first_trees-behind, Parts.{IsAt, IsTaken, is_before}}
+use Rattle.tree_handles.proofs.{Parts.{kid_place, live_at, live_node, root_nth, child_taken}, Readings.{expression_child, whole_child}, Swapping.{IsSwap, swaps}}
 
 -- ---- a walk over trees
 

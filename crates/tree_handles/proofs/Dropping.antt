@@ -1,7 +1,6 @@
 -- The trees that stand first are left, and the others are dropped.
-use Rattle.tree_handles.proofs.Shared.{◌≡◌, ℕ, ◌+◌, ◌-◌, ◌≤◌, List, [], ◌++◌, ap, ◌∙◌, sym, subst, arith, append-nil, Node, used, IsBoundary, without, State}
-use Rattle.tree_handles.proofs.Shared.{IsPool, used-append, boundary-append, without-append, Forest, flatten, bytes_in, AllNodes, Starts, Stands, IsCounted, forest}
-use Rattle.tree_handles.proofs.Forests.{all-left, bytes-flatten, flatten-join, stands}
+use Rattle.tree_handles.proofs.Shared.{◌≡◌, ℕ, ◌+◌, ◌-◌, ◌≤◌, List, [], ◌++◌, ap, ◌∙◌, sym, subst, arith, append-nil, Node, used, IsBoundary, without, State, IsPool, used-append, boundary-append}
+use Rattle.tree_handles.proofs.{Shared.{without-append, Forest, flatten, bytes_in, AllNodes, Starts, Stands, IsCounted, forest}, Forests.{all-left, bytes-flatten, flatten-join, stands}}
 
 -- some trees stand first, and take so many bytes
 pub record StandsFirst (bytes : ℕ) (first : Forest) (s : State) : Type 0 where

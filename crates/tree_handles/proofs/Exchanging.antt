@@ -1,11 +1,10 @@
 -- A root that stands last and a child among the trees before it change places.
-use Rattle.tree_handles.proofs.Shared.{◌≡◌, ℕ, ◌+◌, ◌<◌, ◌≤◌, List, [], ◌∷◌, ◌++◌, refl, sym, ap, ◌∙◌, subst, arith, append_assoc, true, false, append-nil}
-use Rattle.tree_handles.proofs.Shared.{Node, has, used, place_of, AreDistinct, since, exchanged, IsBoundary, State, since-append, exchanged-append, AreDistinct-parts, used-append}
-use Rattle.tree_handles.proofs.Shared.{place_of-append, IsChildAt, Label, Forest, empty, tree, join, arity, kids, root_id, node_of, flatten, first_trees, rest_trees, tree_nth, set_nth, AllNodes}
-use Rattle.tree_handles.proofs.Shared.{Ends, tree_at, kids_of, with_kids, has_root, root_tree, put, forest, Stands, IsCounted, skip}
-use Rattle.tree_handles.proofs.{Counted.{all-kids, all-tree_at, all-with_kids, all-tree_nth, all-set_nth}, Distinct.{Distinct, distinct, child_tree, clear_front, held_parent, not_before}}
-use Rattle.tree_handles.proofs.{Distinct.{put-root, tree_at-root}, Forests.{flatten-join, has-flatten, arity-set_nth, arity-tree_nth, nth_tree, nth_parts, all-join, all-left, all-right}}
-use Rattle.tree_handles.proofs.{Joins.holds-left, Parts.{IsAt, at}, Swapping.behind_one}
+use Rattle.tree_handles.proofs.Shared.{◌≡◌, ℕ, ◌+◌, ◌<◌, ◌≤◌, List, [], ◌∷◌, ◌++◌, refl, sym, ap, ◌∙◌, subst, arith, append_assoc, true, false, append-nil, Node, has, used, place_of, AreDistinct}
+use Rattle.tree_handles.proofs.Shared.{since, exchanged, IsBoundary, State, since-append, exchanged-append, AreDistinct-parts, used-append, place_of-append, IsChildAt, Label, Forest, empty, tree}
+use Rattle.tree_handles.proofs.Shared.{join, arity, kids, root_id, node_of, flatten, first_trees, rest_trees, tree_nth, set_nth, AllNodes, Ends, tree_at, kids_of, with_kids, has_root, root_tree, put}
+use Rattle.tree_handles.proofs.{Shared.{forest, Stands, IsCounted, skip}, Counted.{all-kids, all-tree_at, all-with_kids, all-tree_nth, all-set_nth}, Distinct.{Distinct, distinct, child_tree}}
+use Rattle.tree_handles.proofs.{Distinct.{clear_front, held_parent, not_before, put-root, tree_at-root}, Forests.{flatten-join, has-flatten, arity-set_nth, arity-tree_nth, nth_tree, nth_parts}}
+use Rattle.tree_handles.proofs.{Forests.{all-join, all-left, all-right}, Joins.holds-left, Swapping.behind_one, Parts.{IsAt, at}}
 
 -- what the exchange of their blocks asks for and leaves
 pub record IsExchange (i n first mid second end : ℕ) (t others : Forest) (ns : List Node) : Type 0 where

@@ -1,8 +1,7 @@
 -- Free bytes and those of handed trees, from one pool to the next.
-use Rattle.tree_handles.proofs.Shared.{◌≡◌, ℕ, ◌+◌, ◌≤◌, Bool, true, false, cond, eqb, refl, sym, ap, ◌∙◌, subst, arith, ◌<◌, Tree, size, used, State, free_of, plain}
-use Rattle.tree_handles.proofs.Shared.{Forest, empty, tree, bytes_in, IsHanded, tree_of, Gives, has_root, root_tree, without_root, Stands, forest, KeepsRefusals, IsRefused, Full}
-use Rattle.tree_handles.proofs.{Forests.{bytes-flatten, bytes_in-join}, Outcomes.by_test, Plains.size-plain, Roots.{root_arity, tree-without}, Given.handed_beside, Lasts.last_tree}
-use Rattle.tree_handles.proofs.Places.{used_forest}
+use Rattle.tree_handles.proofs.Shared.{◌≡◌, ℕ, ◌+◌, ◌≤◌, Bool, true, false, cond, eqb, refl, sym, ap, ◌∙◌, subst, arith, ◌<◌, Tree, size, used, State, free_of, plain, Forest, empty, tree, bytes_in}
+use Rattle.tree_handles.proofs.{Shared.{IsHanded, tree_of, Gives, has_root, root_tree, without_root, Stands, forest, KeepsRefusals, IsRefused, Full}, Outcomes.by_test, Plains.size-plain}
+use Rattle.tree_handles.proofs.{Given.handed_beside, Lasts.last_tree, Forests.{bytes-flatten, bytes_in-join}, Roots.{root_arity, tree-without}, Places.{used_forest}}
 
 -- ---- bytes
 

@@ -1,10 +1,9 @@
 -- A released node, wherever it stands.
-use Rattle.tree_handles.proofs.Shared.{◌≡◌, ℕ, suc, ◌<◌, inl, inr, List, [], ◌∷◌, ◌++◌, cond, eqb, refl, sym, ap, ◌∙◌, subst, append_assoc, arith, Bool, true, false}
-use Rattle.tree_handles.proofs.Shared.{eqb-true, eq-eqb, Node, State, has, used, place_of, AreDistinct, since, until, has-append, or_is_false, since-append, until-append, place_of-append, Label}
-use Rattle.tree_handles.proofs.Shared.{Forest, empty, tree, join, arity, root_count, node_of, flatten, forest_of, AllOnce, IsOwned, holds, tree_at, count_of, released, released_in, has_root}
-use Rattle.tree_handles.proofs.{Shared.{root_tree, without_root, IsReleasable, forest, Stands, release_first, released_at}, Distinct.{Distinct, distinct_parts, not_before}}
-use Rattle.tree_handles.proofs.{Forests.{flatten-join, join_assoc, forest_of_whole, has-flatten}, Joins.released_in-join_right, Releases.released_held, Roots.{top, root_held}}
-use Rattle.tree_handles.proofs.Outcomes.{by_test}
+use Rattle.tree_handles.proofs.Shared.{◌≡◌, ℕ, suc, ◌<◌, inl, inr, List, [], ◌∷◌, ◌++◌, cond, eqb, refl, sym, ap, ◌∙◌, subst, append_assoc, arith, Bool, true, false, eqb-true, eq-eqb, Node, State}
+use Rattle.tree_handles.proofs.Shared.{has, used, place_of, AreDistinct, since, until, has-append, or_is_false, since-append, until-append, place_of-append, Label, Forest, empty, tree, join, arity}
+use Rattle.tree_handles.proofs.Shared.{root_count, node_of, flatten, forest_of, AllOnce, IsOwned, holds, tree_at, count_of, released, released_in, has_root, root_tree, without_root, IsReleasable}
+use Rattle.tree_handles.proofs.{Shared.{forest, Stands, release_first, released_at}, Distinct.{Distinct, distinct_parts, not_before}, Joins.released_in-join_right, Releases.released_held}
+use Rattle.tree_handles.proofs.{Forests.{flatten-join, join_assoc, forest_of_whole, has-flatten}, Roots.{top, root_held}, Outcomes.{by_test}}
 
 -- the nodes before, and the trees from the node on
 pub record IsReleased (i : ℕ) (f : Forest) : Type 0 where

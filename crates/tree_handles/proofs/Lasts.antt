@@ -1,9 +1,8 @@
 -- The tree that stands last.
-use Rattle.tree_handles.proofs.Shared.{◌≡◌, ℕ, cond, eqb, refl, sym, ap, ◌∙◌, subst, arith, Bool, true, false, eqb-true, eq-eqb, State, plain, AllExpressions, IsExpression, Forest}
-use Rattle.tree_handles.proofs.Shared.{empty, tree, join, arity, kids, root_id, with_root_kids, with_nth, IsHanded, Ends, holds, tree_at, kids_of, has_root, root_tree, without_root, put, Stands}
-use Rattle.tree_handles.proofs.{Shared.forest, Distinct.{Distinct, distinct, distinct_parts, tree_at-root}, Forests.join-empty}
-use Rattle.tree_handles.proofs.Roots.{root_held, root-left, root-right, tree-left, tree-right, without-left, without-right, put-left, put-right, root-without, root-put}
-use Rattle.tree_handles.proofs.Outcomes.{by_test, not_left, not_right, eqb-sym}
+use Rattle.tree_handles.proofs.Shared.{◌≡◌, ℕ, cond, eqb, refl, sym, ap, ◌∙◌, subst, arith, Bool, true, false, eqb-true, eq-eqb, State, plain, AllExpressions, IsExpression, Forest, empty, tree, join}
+use Rattle.tree_handles.proofs.Shared.{arity, kids, root_id, with_root_kids, with_nth, IsHanded, Ends, holds, tree_at, kids_of, has_root, root_tree, without_root, put, Stands}
+use Rattle.tree_handles.proofs.{Shared.forest, Forests.join-empty, Distinct.{Distinct, distinct, distinct_parts, tree_at-root}, Roots.{root_held, root-left, root-right, tree-left, tree-right}}
+use Rattle.tree_handles.proofs.{Roots.{without-left, without-right, put-left, put-right, root-without, root-put}, Outcomes.{by_test, not_left, not_right, eqb-sym}}
 
 -- one tree, by its root's identifier
 alone_tree : (i : ℕ) (t : Forest) → arity t ≡ 1 → root_id t ≡ i → (has_root i t ≡ true) × (root_tree i t ≡ t) × (without_root i t ≡ empty) × ((n : Forest) → put i n t ≡ with_root_kids n t)

@@ -1,7 +1,6 @@
 -- Walks that measure a tree.
-use Rattle.tree_handles.proofs.Shared.{◌≡◌, ℕ, ◌+◌, ◌≤◌, List, ◌∷◌, ◌++◌, length, ap, ◌∙◌, arith, true, Node, used, place_of, since, State, length_le_used}
-use Rattle.tree_handles.proofs.Shared.{since-append, place_of-append, Label, Forest, empty, tree, arity, node_of, flatten, nodes_in, holds, tree_at, kids_of, Stands, forest}
-use Rattle.tree_handles.proofs.{Forests.nodes-flatten, Parts.{at, live_at}}
+use Rattle.tree_handles.proofs.Shared.{◌≡◌, ℕ, ◌+◌, ◌≤◌, List, ◌∷◌, ◌++◌, length, ap, ◌∙◌, arith, true, Node, used, place_of, since, State, length_le_used, since-append, place_of-append, Label}
+use Rattle.tree_handles.proofs.{Shared.{Forest, empty, tree, arity, node_of, flatten, nodes_in, holds, tree_at, kids_of, Stands, forest}, Forests.nodes-flatten, Parts.{at, live_at}}
 
 -- the nodes from a tree's place on
 pub record IsBefore (i at : ℕ) (s : State) : Type 0 where

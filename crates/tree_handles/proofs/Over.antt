@@ -1,11 +1,10 @@
 -- A root over these trees, and what it becomes: a child is taken out or put in, and the root goes last.
-use Rattle.tree_handles.proofs.Shared.{◌≡◌, ℕ, eqb, refl, sym, ap, ◌∙◌, subst, arith, true, false, ◌∷◌, [], Kind, Payload, bare, Tree, Trees, none, more, append, count}
-use Rattle.tree_handles.proofs.Shared.{is_mult, is_add, nth, grown, compound, plain, takes, takes_kind, children_of, inserted, Forest, empty, tree, arity, kids, root_payload, root_count}
-use Rattle.tree_handles.proofs.Shared.{with_root_kids, tree_nth, without_nth, with_nth, AllOnce, IsHanded, Represents, Ends, Gives, KeepsFront, kids_of, has_root, root_tree, without_root, put}
-use Rattle.tree_handles.proofs.{Shared.{State, Stands, forest}, Given.{gives, gives_as, given_handed, given_told, given_rest, represents_handed, represents_with}}
-use Rattle.tree_handles.proofs.{Lasts.{other_tree, other_root, kids_of_root}, Plains.{children_of-plain, whole_kids}, Counted.all-kids}
-use Rattle.tree_handles.proofs.{Roots.{root_arity, root-put, root-without, tree-without, kids-put}, Cuts.{cut_at, represents_count}}
-use Rattle.tree_handles.proofs.Fronts.{behind_first, front_same, front_at, front_end, front_put, front_without}
+use Rattle.tree_handles.proofs.Shared.{◌≡◌, ℕ, eqb, refl, sym, ap, ◌∙◌, subst, arith, true, false, ◌∷◌, [], Kind, Payload, bare, Tree, Trees, none, more, append, count, is_mult, is_add, nth, grown}
+use Rattle.tree_handles.proofs.Shared.{compound, plain, takes, takes_kind, children_of, inserted, Forest, empty, tree, arity, kids, root_payload, root_count, with_root_kids, tree_nth, without_nth}
+use Rattle.tree_handles.proofs.{Shared.{with_nth, AllOnce, IsHanded, Represents, Ends, Gives, KeepsFront, kids_of, has_root, root_tree, without_root, put, State, Stands, forest}, Given.{gives}}
+use Rattle.tree_handles.proofs.{Given.{gives_as, given_handed, given_told, given_rest, represents_handed, represents_with}, Counted.all-kids, Lasts.{other_tree, other_root, kids_of_root}}
+use Rattle.tree_handles.proofs.{Plains.{children_of-plain, whole_kids}, Roots.{root_arity, root-put, root-without, tree-without, kids-put}, Cuts.{cut_at, represents_count}, Fronts.{behind_first}}
+use Rattle.tree_handles.proofs.Fronts.{front_same, front_at, front_end, front_put, front_without}
 use Rattle.calc_terms.specs.declared.kind.Kind.TheVariants as kind
 
 -- ---- a root that holds these trees

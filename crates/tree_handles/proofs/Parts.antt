@@ -1,11 +1,10 @@
 -- A node in a forest, with its children and what is around it.
-use Rattle.tree_handles.proofs.Shared.{◌≡◌, ℕ, zero, suc, ◌+◌, ◌-◌, ◌<◌, ◌≤◌, List, [], ◌∷◌, ◌++◌, drop, cond, eqb, refl, sym, ap, ◌∙◌, arith}
-use Rattle.tree_handles.proofs.Shared.{append_assoc, Bool, true, false, eqb-true, append_cancel_right, append-nil, Node, State, has, used, place_of, first_of, with_children, with_count, since}
-use Rattle.tree_handles.proofs.Shared.{until, IsBoundary, moved, used-append, size_from, has-append, or_is_false, since-append, until-since, place_of-append, moved_right, with_children-append}
-use Rattle.tree_handles.proofs.Shared.{with_count-append, forest, Stands, IsCounted, Label, Forest, empty, tree, join, arity, node_of, flatten, first_trees, rest_trees, root_id, tree_nth}
-use Rattle.tree_handles.proofs.Shared.{without_nth, AllNodes, holds, tree_at, kids_of, with_kids, with_count_in, skip}
-use Rattle.tree_handles.proofs.Counted.{all-kids, all-tree_at, all-with_kids, all-without_nth, all-tree_nth}
-use Rattle.tree_handles.proofs.Forests.{all-join, has-flatten, skip-flatten, skip-first, first-rest, flatten-join, nth_parts, arity-tree_nth, arity-without_nth}
+use Rattle.tree_handles.proofs.Shared.{◌≡◌, ℕ, zero, suc, ◌+◌, ◌-◌, ◌<◌, ◌≤◌, List, [], ◌∷◌, ◌++◌, drop, cond, eqb, refl, sym, ap, ◌∙◌, arith, append_assoc, Bool, true, false, eqb-true}
+use Rattle.tree_handles.proofs.Shared.{append_cancel_right, append-nil, Node, State, has, used, place_of, first_of, with_children, with_count, since, until, IsBoundary, moved, used-append, size_from}
+use Rattle.tree_handles.proofs.Shared.{has-append, or_is_false, since-append, until-since, place_of-append, moved_right, with_children-append, with_count-append, forest, Stands, IsCounted, Label}
+use Rattle.tree_handles.proofs.Shared.{Forest, empty, tree, join, arity, node_of, flatten, first_trees, rest_trees, root_id, tree_nth, without_nth, AllNodes, holds, tree_at, kids_of, with_kids}
+use Rattle.tree_handles.proofs.{Shared.{with_count_in, skip}, Counted.{all-kids, all-tree_at, all-with_kids, all-without_nth, all-tree_nth}, Forests.{all-join, has-flatten, skip-flatten, skip-first}}
+use Rattle.tree_handles.proofs.Forests.{first-rest, flatten-join, nth_parts, arity-tree_nth, arity-without_nth}
 
 -- where a node stands: its children, and any in their place, are a block
 pub record IsAt (i : ℕ) (f : Forest) : Type 0 where

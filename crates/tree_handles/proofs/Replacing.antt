@@ -1,8 +1,7 @@
 -- A root beside a node whose children change.
-use Rattle.tree_handles.proofs.Shared.{◌≡◌, ℕ, ◌<◌, ◌≤◌, cond, eqb, refl, ap, ◌∙◌, subst, arith, Bool, true, false, Forest, empty, tree, join, arity, tree_nth}
-use Rattle.tree_handles.proofs.{Shared.{without_nth, with_nth, set_nth, holds, kids_of, with_kids, has_root, root_tree, without_root}, Distinct.held_parent, Forests.arity-without_nth}
-use Rattle.tree_handles.proofs.{Joins.{holds-left, kids_of-join_left, with_kids-join_left, holds-with_kids, kids_of-with_kids, with_kids-with_kids}, Nths.with_nth-without_nth}
-use Rattle.tree_handles.proofs.{Roots.{root-left, tree-left, without-left}, Outcomes.by_test}
+use Rattle.tree_handles.proofs.Shared.{◌≡◌, ℕ, ◌<◌, ◌≤◌, cond, eqb, refl, ap, ◌∙◌, subst, arith, Bool, true, false, Forest, empty, tree, join, arity, tree_nth, without_nth, with_nth, set_nth, holds}
+use Rattle.tree_handles.proofs.{Shared.{kids_of, with_kids, has_root, root_tree, without_root}, Distinct.held_parent, Forests.arity-without_nth, Nths.with_nth-without_nth, Outcomes.by_test}
+use Rattle.tree_handles.proofs.{Joins.{holds-left, kids_of-join_left, with_kids-join_left, holds-with_kids, kids_of-with_kids, with_kids-with_kids}, Roots.{root-left, tree-left, without-left}}
 
 pub has_root-with_kids : (c p : ℕ) (n f : Forest) → has_root c (with_kids p n f) ≡ has_root c f
 has_root-with_kids c p n empty = refl

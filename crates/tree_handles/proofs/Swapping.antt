@@ -1,12 +1,11 @@
 -- Blocks of children that move within their parent.
-use Rattle.tree_handles.proofs.Shared.{◌≡◌, ℕ, ◌+◌, ◌-◌, ◌<◌, ◌≤◌, List, [], ◌∷◌, ◌++◌, length, drop, refl, sym, ap, ◌∙◌, subst, arith, append_assoc}
-use Rattle.tree_handles.proofs.Shared.{true, false, append-nil, length-append, Node, size_of, has, used, place_of, first_of, with_children, AreDistinct, since, moved, without, exchanged}
-use Rattle.tree_handles.proofs.Shared.{IsBoundary, State, used-append, size_from, since-append, exchanged-append, boundary-append, place_of-append, moved_right, without-append}
-use Rattle.tree_handles.proofs.Shared.{with_children-append, Forest, empty, tree, join, arity, kids, node_of, flatten, first_trees, rest_trees, tree_nth, set_nth, swapped_nth, merged_nth}
-use Rattle.tree_handles.proofs.Shared.{AllNodes, tree_at, kids_of, with_kids, has_root, root_tree, without_root, forest, Stands, IsCounted, skip}
-use Rattle.tree_handles.proofs.{Counted.{all-kids, all-tree_at, all-with_kids, all-tree_nth, all-set_nth, all-root_tree, all-without_root}, Distinct.{not_before, held_parent}}
-use Rattle.tree_handles.proofs.{Forests.{flatten-join, join-empty, skip-flatten, arity-join, arity-set_nth, arity-tree_nth, nth_tree, all-join}, Nths.pair}
-use Rattle.tree_handles.proofs.{Parts.{live_at, kid_place, place_is, has_mid}, Releases.arity_le, Roots.top}
+use Rattle.tree_handles.proofs.Shared.{◌≡◌, ℕ, ◌+◌, ◌-◌, ◌<◌, ◌≤◌, List, [], ◌∷◌, ◌++◌, length, drop, refl, sym, ap, ◌∙◌, subst, arith, append_assoc, true, false, append-nil, length-append, Node}
+use Rattle.tree_handles.proofs.Shared.{size_of, has, used, place_of, first_of, with_children, AreDistinct, since, moved, without, exchanged, IsBoundary, State, used-append, size_from, since-append}
+use Rattle.tree_handles.proofs.Shared.{exchanged-append, boundary-append, place_of-append, moved_right, without-append, with_children-append, Forest, empty, tree, join, arity, kids, node_of, flatten}
+use Rattle.tree_handles.proofs.Shared.{first_trees, rest_trees, tree_nth, set_nth, swapped_nth, merged_nth, AllNodes, tree_at, kids_of, with_kids, has_root, root_tree, without_root, forest, Stands}
+use Rattle.tree_handles.proofs.{Shared.{IsCounted, skip}, Counted.{all-kids, all-tree_at, all-with_kids, all-tree_nth, all-set_nth, all-root_tree, all-without_root}}
+use Rattle.tree_handles.proofs.{Distinct.{not_before, held_parent}, Nths.pair, Releases.arity_le, Roots.top, Forests.{flatten-join, join-empty, skip-flatten, arity-join, arity-set_nth}}
+use Rattle.tree_handles.proofs.{Forests.{arity-tree_nth, nth_tree, all-join}, Parts.{live_at, kid_place, place_is, has_mid}}
 
 used_some : (f : Forest) → arity f ≡ 1 → 0 < used (flatten f)
 used_some empty h = absurd (omega arith)

@@ -1,12 +1,11 @@
 -- Walks over nodes, and what they come to.
-use Rattle.tree_handles.proofs.Shared.{◌≡◌, ℕ, zero, suc, ◌+◌, ◌-◌, ◌<◌, ◌≤◌, List, [], ◌∷◌, ◌++◌, length, drop, refl, sym, ap, ◌∙◌, subst, arith, true}
-use Rattle.tree_handles.proofs.Shared.{eq-eqb, length-append, length-map, map-append, Header, Node, header_of, kind_of_payload, used, place_of, first_of, since, until, IsBoundary, State, IsPool}
-use Rattle.tree_handles.proofs.Shared.{until-since, length_le_used, Visit, Label, Forest, empty, tree, join, arity, node_of, flatten, first_trees, rest_trees, forest_of, kids, root_payload}
-use Rattle.tree_handles.proofs.Shared.{nodes_in, holds, tree_at, kids_of, Stands, forest, visit_of, visits_of, visit_at, AreFound, BeginsTrees, skip}
-use Rattle.tree_handles.proofs.Distinct.{Distinct, distinct_parts, distinct-tree_at, holds-tree_at, tree_at-inside, other_id}
-use Rattle.tree_handles.proofs.{Forests.{arity-join, arity-rest_trees, first-rest, flatten-join, forest_of-flatten, nodes-flatten}, Measures.before, Nths.first_trees-behind}
-use Rattle.tree_handles.proofs.{Parts.{is_before, kid_place, live_at}, Releases.arity_le}
-use Rattle.std.proofs.{Common.{map, Option, Some, append-nil}, lemmas.Iterator.items_from_drains, lemmas.Iterator.Consumers.YieldsList-from_first}
+use Rattle.tree_handles.proofs.Shared.{◌≡◌, ℕ, zero, suc, ◌+◌, ◌-◌, ◌<◌, ◌≤◌, List, [], ◌∷◌, ◌++◌, length, drop, refl, sym, ap, ◌∙◌, subst, arith, true, eq-eqb, length-append, length-map, map-append}
+use Rattle.tree_handles.proofs.Shared.{Header, Node, header_of, kind_of_payload, used, place_of, first_of, since, until, IsBoundary, State, IsPool, until-since, length_le_used, Visit, Label, Forest}
+use Rattle.tree_handles.proofs.Shared.{empty, tree, join, arity, node_of, flatten, first_trees, rest_trees, forest_of, kids, root_payload, nodes_in, holds, tree_at, kids_of, Stands, forest, visit_of}
+use Rattle.tree_handles.proofs.{Shared.{visits_of, visit_at, AreFound, BeginsTrees, skip}, Distinct.{Distinct, distinct_parts, distinct-tree_at, holds-tree_at, tree_at-inside, other_id}}
+use Rattle.tree_handles.proofs.{Measures.before, Nths.first_trees-behind, Releases.arity_le, Forests.{arity-join, arity-rest_trees, first-rest, flatten-join, forest_of-flatten, nodes-flatten}}
+use Rattle.tree_handles.proofs.Parts.{is_before, kid_place, live_at}
+use Rattle.std.proofs.{lemmas.Iterator.items_from_drains, lemmas.Iterator.Consumers.YieldsList-from_first, Common.{map, Option, Some, append-nil}}
 use Rattle.std.specs.{Prelude.IsSome, Iterator.{YieldsFirst, Drains}}
 
 -- ---- the pool's side

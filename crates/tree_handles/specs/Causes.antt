@@ -1,14 +1,10 @@
 -- Why a call that builds trees is refused.
 use Rattle.std.specs.Prelude.{◌≡◌, false}
 use Rattle.calc_terms.specs.declared.kind.Kind.TheVariants as kind
-use Rattle.calc_terms.specs.Kind.{size_by_form}
-use Rattle.calc_terms.specs.Rat.{value_of}
-use Rattle.node_pool.specs.declared.full.Full.{Full}
-use Rattle.node_pool.specs.State.{State}
-use Rattle.rational128.specs.declared.overflow.Overflow.{Overflow}
-use Rattle.rational128.specs.Refusals.{DoesNotFit}
-use Rattle.tree_handles.specs.Standing.{LacksBytes}
-use Rattle.tree_handles.specs.declared.fault.NumberFault.{NumberFault}
+use Rattle.calc_terms.specs.{Kind.{size_by_form}, Rat.{value_of}}
+use Rattle.node_pool.specs.{declared.full.Full.{Full}, State.{State}}
+use Rattle.rational128.specs.{declared.overflow.Overflow.{Overflow}, Refusals.{DoesNotFit}}
+use Rattle.tree_handles.specs.{Standing.{LacksBytes}, declared.fault.NumberFault.{NumberFault}}
 use Rattle.tree_handles.specs.declared.fault.NumberFault.TheVariants as fault
 
 -- the named operation on the named operands does not fit

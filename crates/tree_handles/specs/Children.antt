@@ -1,7 +1,6 @@
 -- The children of a node, by their places among them.
 use Rattle.std.specs.Prelude.{ℕ, ◌≡◌, ◌<◌, List, [], ◌∷◌}
-use Rattle.tree_handles.specs.Forest.{Forest, empty, tree, arity, root_id, tree_nth}
-use Rattle.tree_handles.specs.Inside.{kids_of}
+use Rattle.tree_handles.specs.{Forest.{Forest, empty, tree, arity, root_id, tree_nth}, Inside.{kids_of}}
 
 -- the identifiers of the roots of a forest
 abbrev pub root_ids : Forest → List ℕ

@@ -2,11 +2,8 @@
 use Rattle.std.specs.Prelude.{ℕ, zero, suc, ◌≡◌, ◌==◌, Bool, true, false}
 use Rattle.calc_terms.specs.declared.kind.Kind.{Kind}
 use Rattle.calc_terms.specs.declared.kind.Kind.TheVariants as kind
-use Rattle.calc_terms.specs.Fractions.{lowest}
-use Rattle.calc_terms.specs.Payload.{Payload, rational, named, bare}
-use Rattle.calc_terms.specs.Trees.{Tree, num, symbol, undef, add, mult, power, root, neg, sub, div, Trees, none, more, append}
-use Rattle.tree_handles.specs.Forest.{Label, Forest, empty, tree, AllNodes}
-use Rattle.tree_handles.specs.Inside.{holds, tree_at}
+use Rattle.calc_terms.specs.{Fractions.{lowest}, Payload.{Payload, rational, named, bare}, Trees.{Tree, num, symbol, undef, add, mult, power, root, neg, sub, div, Trees, none, more, append}}
+use Rattle.tree_handles.specs.{Forest.{Label, Forest, empty, tree, AllNodes}, Inside.{holds, tree_at}}
 
 -- the tree at a place among trees, counted from 0; Undef where there is none
 abbrev pub nth : ℕ → Trees → Tree

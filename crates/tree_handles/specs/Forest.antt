@@ -1,8 +1,7 @@
 -- Forests of labelled trees, and their nodes in prefix order.
 use Rattle.std.specs.Prelude.{ℕ, zero, suc, ◌+◌, ◌-◌, max, List, [], ◌∷◌, ◌++◌}
 use Rattle.calc_terms.specs.declared.kind.Kind.TheVariants as kind
-use Rattle.calc_terms.specs.Payload.{Payload, bare, size_of_payload}
-use Rattle.calc_terms.specs.Node.{Node}
+use Rattle.calc_terms.specs.{Payload.{Payload, bare, size_of_payload}, Node.{Node}}
 
 pub record Label : Type 0 where
   pub id : ℕ

@@ -1,11 +1,8 @@
 -- What a call that is handed whole trees wants and promises.
 use Rattle.std.specs.Prelude.{ℕ, ◌≡◌, List, [], ◌∷◌, true, false}
 use Rattle.calc_terms.specs.Trees.{Tree, Trees}
-use Rattle.tree_handles.specs.Forest.{Label, Forest, join, arity, root_id, AllNodes}
+use Rattle.tree_handles.specs.{Forest.{Label, Forest, join, arity, root_id, AllNodes}, Roots.{has_root, root_tree}, Standing.{forest}, Expressions.{plains, plain, AllExpressions}}
 use Rattle.node_pool.specs.State.{State}
-use Rattle.tree_handles.specs.Roots.{has_root, root_tree}
-use Rattle.tree_handles.specs.Standing.{forest}
-use Rattle.tree_handles.specs.Expressions.{plains, plain, AllExpressions}
 
 -- the plain tree of a root
 abbrev pub tree_of : ℕ → State → Tree

@@ -1,10 +1,7 @@
 -- A child of a root is taken out for a while, and a tree fills its place.
 use Rattle.std.specs.Prelude.{ℕ, zero, suc, ◌≡◌, ◌<◌}
 use Rattle.calc_terms.specs.Trees.{Tree, Trees, none, more, count, root_kind}
-use Rattle.tree_handles.specs.Expressions.{children_of, compound, plain}
-use Rattle.tree_handles.specs.Forest.{Forest, kids, without_nth}
-use Rattle.tree_handles.specs.Handed.{IsHanded}
-use Rattle.tree_handles.specs.Roots.{put, root_tree}
+use Rattle.tree_handles.specs.{Expressions.{children_of, compound, plain}, Forest.{Forest, kids, without_nth}, Handed.{IsHanded}, Roots.{put, root_tree}}
 
 -- ---- plain trees
 

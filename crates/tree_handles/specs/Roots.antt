@@ -1,7 +1,6 @@
 -- The roots of a forest, and their trees.
 use Rattle.std.specs.Prelude.{ℕ, ◌<◌, ◌≡◌, ◌⊎◌, ◌==◌, if◌then◌else◌, Bool, true, false}
-use Rattle.tree_handles.specs.Forest.{Forest, empty, tree, join, first_trees, rest_trees}
-use Rattle.tree_handles.specs.Inside.{count_of}
+use Rattle.tree_handles.specs.{Forest.{Forest, empty, tree, join, first_trees, rest_trees}, Inside.{count_of}}
 
 abbrev pub has_root : ℕ → Forest → Bool
 has_root i empty = false

@@ -1,7 +1,6 @@
 -- A pool that stands for a forest.
 use Rattle.std.specs.Prelude.{ℕ, ◌≡◌, ◌≤◌, ◌<◌}
-use Rattle.node_pool.specs.declared.full.Full.{Full}
-use Rattle.node_pool.specs.State.{State, IsPool, free_of, refused}
+use Rattle.node_pool.specs.{declared.full.Full.{Full}, State.{State, IsPool, free_of, refused}}
 use Rattle.tree_handles.specs.Forest.{Label, Forest, flatten, forest_of, AllNodes}
 
 -- the forest for which a pool stands

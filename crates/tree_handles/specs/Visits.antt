@@ -1,10 +1,7 @@
 -- Nodes, as a walk over trees comes to them.
 use Rattle.std.specs.Prelude.{ℕ, ◌≡◌, List, map, true}
-use Rattle.calc_terms.specs.Node.{Node}
-use Rattle.calc_terms.specs.Payload.{kind_of_payload}
-use Rattle.tree_handles.specs.declared.visits.Visit.{Visit}
-use Rattle.tree_handles.specs.Forest.{Forest, empty, tree, arity, flatten}
-use Rattle.tree_handles.specs.Inside.{holds, tree_at, kids_of, payload_in}
+use Rattle.calc_terms.specs.{Node.{Node}, Payload.{kind_of_payload}}
+use Rattle.tree_handles.specs.{declared.visits.Visit.{Visit}, Forest.{Forest, empty, tree, arity, flatten}, Inside.{holds, tree_at, kids_of, payload_in}}
 
 -- a node without its count and what it holds
 abbrev pub visit_of : Node → Visit

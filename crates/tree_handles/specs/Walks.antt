@@ -1,12 +1,8 @@
 -- Walks over nodes in prefix order.
 use Rattle.std.specs.Prelude.{ℕ, zero, suc, ◌+◌, ◌≡◌, ◌≤◌, ◌<◌, List, [], ◌∷◌, ◌++◌, length, drop}
 use Rattle.calc_terms.specs.Node.{Node}
-use Rattle.node_pool.specs.Nodes.{used, place_of}
-use Rattle.node_pool.specs.Places.{since, until, IsBoundary}
-use Rattle.node_pool.specs.State.{State}
-use Rattle.tree_handles.specs.Forest.{Forest, join, arity, flatten, first_trees, rest_trees, forest_of}
-use Rattle.tree_handles.specs.Inside.{kids_of, released}
-use Rattle.tree_handles.specs.Standing.{forest}
+use Rattle.node_pool.specs.{Nodes.{used, place_of}, Places.{since, until, IsBoundary}, State.{State}}
+use Rattle.tree_handles.specs.{Forest.{Forest, join, arity, flatten, first_trees, rest_trees, forest_of}, Inside.{kids_of, released}, Standing.{forest}}
 
 -- what is behind a number of trees
 abbrev pub skip : ℕ → List Node → List Node

@@ -1,12 +1,10 @@
 -- A coefficient changes no count.
 use Rattle.std.proofs.Common.{◌≡◌, ◌+◌, ◌≤◌, max, Bool, true, false, refl, sym, ap, ◌∙◌, arith}
 use Rattle.std.specs.Prelude.{if◌then◌else◌}
-use Rattle.calc_algebra.specs.Numbers.{is_number, is_radicand}
-use Rattle.calc_algebra.specs.Reduced.{split, split_product, product_tree, part_of, num_one}
+use Rattle.calc_algebra.specs.{Numbers.{is_number, is_radicand}, Reduced.{split, split_product, product_tree, part_of, num_one}}
 use Rattle.calc_room.specs.Counts.{counted, counted_among}
 use Rattle.calc_room.proofs.TreeBytes.{counted_number, counted_other}
-use Rattle.calc_terms.specs.Fractions.{Fraction}
-use Rattle.calc_terms.specs.Trees.{Tree, num, add, mult, root, Trees, none, more}
+use Rattle.calc_terms.specs.{Fractions.{Fraction}, Trees.{Tree, num, add, mult, root, Trees, none, more}}
 use Rattle.tree_room.specs.Handed.{HasSamePart, HaveSameParts}
 use Rattle.tree_room.proofs.Counts.{counts_one, number_counts_one, at_most_itself}
 

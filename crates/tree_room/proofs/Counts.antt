@@ -1,8 +1,7 @@
 -- What counts among children.
 use Rattle.std.proofs.Common.{◌≡◌, ℕ, suc, ◌+◌, ◌≤◌, Bool, true, false, refl, ap, ◌∙◌, arith}
 use Rattle.std.specs.Prelude.{if◌then◌else◌}
-use Rattle.calc_algebra.specs.Numbers.{IsNumber, is_number}
-use Rattle.calc_algebra.specs.Reduced.{is_whole_num}
+use Rattle.calc_algebra.specs.{Numbers.{IsNumber, is_number}, Reduced.{is_whole_num}}
 use Rattle.calc_algebra.proofs.NumberLaws.{number_words}
 use Rattle.calc_room.specs.Counts.{counted, counted_among}
 use Rattle.calc_room.proofs.TreeBytes.{counted_number, counted_other, none_counted, number_counts}

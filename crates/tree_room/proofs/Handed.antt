@@ -1,17 +1,10 @@
 -- How many bytes trees have that are handed to a sum, a product or a power.
-use Rattle.std.proofs.Common.{◌≡◌, ℕ, ◌+◌, ◌*◌, ◌^◌, ◌≤◌, List, length, Bool, true, false, not, refl, arith}
+use Rattle.std.proofs.{Common.{◌≡◌, ℕ, ◌+◌, ◌*◌, ◌^◌, ◌≤◌, List, length, Bool, true, false, not, refl, arith}, lemmas.Bool.{and_parts, not-true}, lemmas.Nat.{pow_pos, mul-le}}
 use Rattle.std.specs.Prelude.{if◌then◌else◌}
-use Rattle.std.proofs.lemmas.Bool.{and_parts, not-true}
-use Rattle.std.proofs.lemmas.Nat.{pow_pos, mul-le}
-use Rattle.calc_algebra.specs.Numbers.{is_number}
-use Rattle.calc_algebra.specs.Reduced.{are_reduced, is_reduced, is_whole_num, none_is}
-use Rattle.calc_algebra.proofs.NumberLaws.{number_words}
-use Rattle.calc_algebra.proofs.ReducedLaws.{reduced_words}
-use Rattle.calc_room.specs.Counts.{counted, counted_among}
-use Rattle.calc_room.specs.Spans.{SpansTree, SpansTrees}
-use Rattle.calc_room.proofs.NumberBytes.{number_bytes}
-use Rattle.calc_room.proofs.NumberSpans.{value_spanned}
-use Rattle.calc_room.proofs.TreeBytes.{tree_bytes, factor_bytes, counted_other}
+use Rattle.calc_algebra.specs.{Numbers.{is_number}, Reduced.{are_reduced, is_reduced, is_whole_num, none_is}}
+use Rattle.calc_algebra.proofs.{NumberLaws.{number_words}, ReducedLaws.{reduced_words}}
+use Rattle.calc_room.specs.{Counts.{counted, counted_among}, Spans.{SpansTree, SpansTrees}}
+use Rattle.calc_room.proofs.{NumberBytes.{number_bytes}, NumberSpans.{value_spanned}, TreeBytes.{tree_bytes, factor_bytes, counted_other}}
 use Rattle.calc_terms.specs.Trees.{Tree, add, mult, power, Trees, none, more, is_mult, size, sizes}
 use Rattle.tree_room.specs.Handed.{counted_in_all, sum_count, numbers_among, product_count}
 

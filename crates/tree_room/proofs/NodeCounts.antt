@@ -2,8 +2,7 @@
 use Rattle.std.proofs.Common.{ℕ, ◌+◌, ◌≤◌, arith}
 use Rattle.calc_room.specs.Counts.{counted}
 use Rattle.calc_terms.specs.Trees.{Tree, num, symbol, undef, add, mult, power, root, neg, sub, div, Trees, none, more, count, nodes, nodes_of}
-use Rattle.tree_room.specs.Children.{CountWithin}
-use Rattle.tree_room.specs.Handed.{counted_in_all, product_count}
+use Rattle.tree_room.specs.{Children.{CountWithin}, Handed.{counted_in_all, product_count}}
 use Rattle.tree_room.proofs.Counts.{numbers_and_others}
 
 pub all_within : (rs ts : Trees) → CountWithin rs ts → counted_in_all rs ≤ nodes_of ts

@@ -1,9 +1,7 @@
 -- How powers count.
-use Rattle.std.proofs.Common.{◌≡◌, suc, ◌+◌, ◌≤◌, Bool, true, false, refl, sym, ap, ◌∙◌, arith}
+use Rattle.std.proofs.{Common.{◌≡◌, suc, ◌+◌, ◌≤◌, Bool, true, false, refl, sym, ap, ◌∙◌, arith}, lemmas.Bool.{true≢false}}
 use Rattle.std.specs.Prelude.{if◌then◌else◌}
-use Rattle.std.proofs.lemmas.Bool.{true≢false}
-use Rattle.calc_algebra.specs.Numbers.{is_number}
-use Rattle.calc_algebra.specs.Reduced.{is_whole_num}
+use Rattle.calc_algebra.specs.{Numbers.{is_number}, Reduced.{is_whole_num}}
 use Rattle.calc_room.specs.Counts.{counted, counted_among}
 use Rattle.calc_room.proofs.TreeBytes.{counted_number, counted_other}
 use Rattle.calc_terms.specs.Trees.{Tree, mult, power, root, Trees, none, more, is_num}

@@ -1,19 +1,14 @@
 -- The room of a tree against that of its children.
-use Rattle.std.proofs.Common.{◌≡◌, ℕ, ◌+◌, ◌*◌, ◌^◌, ◌≤◌, List, length, true, ◌&&◌, ap, arith}
+use Rattle.std.proofs.{Common.{◌≡◌, ℕ, ◌+◌, ◌*◌, ◌^◌, ◌≤◌, List, length, true, ◌&&◌, ap, arith}, lemmas.Bool.{and_parts}, lemmas.Nat.{pow_pos, mul-le}, Math.Nat.{pow-le-pow_right}}
 use Rattle.std.specs.Prelude.{if◌then◌else◌}
-use Rattle.std.proofs.lemmas.Bool.{and_parts}
-use Rattle.std.proofs.lemmas.Nat.{pow_pos, mul-le}
-use Rattle.std.proofs.Math.Nat.{pow-le-pow_right}
 use Rattle.calc_algebra.specs.Reduced.{is_reduced}
 use Rattle.calc_algebra.proofs.ReducedLaws.{reduced_words}
 use Rattle.calc_measures.specs.Measures.{roots, roots_of, all_simple, are_all_simple, is_simple_power, room, unbounded_room}
-use Rattle.calc_room.specs.Counts.{counted}
-use Rattle.calc_room.specs.Spans.{SpansTree}
+use Rattle.calc_room.specs.{Counts.{counted}, Spans.{SpansTree}}
 use Rattle.calc_room.proofs.TreeBytes.{tree_bytes}
 use Rattle.calc_terms.specs.Trees.{Tree, num, symbol, undef, add, mult, power, root, neg, sub, div, Trees, none, more, append, nodes, nodes_of, size, sizes}
 use Rattle.calc_terms.proofs.Sizes.{root_most}
-use Rattle.tree_room.specs.Children.{answer_bytes, answers_bytes}
-use Rattle.tree_room.specs.Needs.{simple_room}
+use Rattle.tree_room.specs.{Children.{answer_bytes, answers_bytes}, Needs.{simple_room}}
 
 -- ---- multiples of powers of 2
 

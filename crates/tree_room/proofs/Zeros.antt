@@ -1,15 +1,10 @@
 -- Every name is 0.
-use Rattle.std.proofs.Common.{◌≡◌, ℕ, suc, pos, ◌⊎◌, inl, inr, List, [], ◌∷◌, Bool, true, false, refl, sym, ap, ◌∙◌, subst, arith}
-use Rattle.std.specs.Prelude.{Contains}
-use Rattle.std.specs.Str.{bytes_eq}
-use Rattle.std.proofs.lemmas.Bool.{true≢false}
-use Rattle.std.proofs.lemmas.List.{get_or-map, length-map}
+use Rattle.std.proofs.{Common.{◌≡◌, ℕ, suc, pos, ◌⊎◌, inl, inr, List, [], ◌∷◌, Bool, true, false, refl, sym, ap, ◌∙◌, subst, arith}, lemmas.Bool.{true≢false}, lemmas.List.{get_or-map, length-map}}
 use Rattle.std.proofs.lemmas.Slice.Eq.{bytes_eq-Decides}
-use Rattle.calc_algebra.specs.Meanings.{Binding, IsAssignment, bound_names}
-use Rattle.calc_algebra.specs.Surds.{surd_of}
+use Rattle.std.specs.{Prelude.{Contains}, Str.{bytes_eq}}
+use Rattle.calc_algebra.specs.{Meanings.{Binding, IsAssignment, bound_names}, Surds.{surd_of}}
 use Rattle.calc_algebra.proofs.TermLaws.{Same-refl}
-use Rattle.calc_terms.specs.Fractions.{zero_fraction}
-use Rattle.calc_terms.specs.Trees.{symbol}
+use Rattle.calc_terms.specs.{Fractions.{zero_fraction}, Trees.{symbol}}
 use Rattle.tree_room.specs.Exponents.{MeansWhole, zeros}
 
 abbrev as_zero : List ℕ → Binding

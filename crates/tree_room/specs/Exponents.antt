@@ -1,9 +1,7 @@
 -- Exponents that mean whole numbers.
 use Rattle.std.specs.Prelude.{ℕ, ℤ, List, map, ⊤}
-use Rattle.calc_algebra.specs.Meanings.{Assignment, Means}
-use Rattle.calc_algebra.specs.Surds.{surd_of}
-use Rattle.calc_terms.specs.Fractions.{whole_fraction, zero_fraction}
-use Rattle.calc_terms.specs.Trees.{Tree, power, Trees, AllParts, AllPartsOf}
+use Rattle.calc_algebra.specs.{Meanings.{Assignment, Means}, Surds.{surd_of}}
+use Rattle.calc_terms.specs.{Fractions.{whole_fraction, zero_fraction}, Trees.{Tree, power, Trees, AllParts, AllPartsOf}}
 
 -- the tree means a whole number under f
 abbrev pub MeansWhole : Assignment → Tree → Type 0

@@ -1,7 +1,6 @@
 -- How many nodes of handed trees count.
 use Rattle.std.specs.Prelude.{ℕ, suc, ◌+◌, ◌-◌, ◌≡◌, false, max, ⊤, if◌then◌else◌}
-use Rattle.calc_algebra.specs.Numbers.{is_number}
-use Rattle.calc_algebra.specs.Reduced.{is_whole_num, part_of}
+use Rattle.calc_algebra.specs.{Numbers.{is_number}, Reduced.{is_whole_num, part_of}}
 use Rattle.calc_room.specs.Counts.{counted, counted_among}
 use Rattle.calc_terms.specs.Trees.{Tree, Trees, none, more}
 

@@ -1,6 +1,5 @@
 -- The opposite of a number is no number that a text can hold, unless it is 0.
-use Rattle.std.proofs.Common.{◌≡◌, ◌∙◌, ◌==◌, ℕ, zero, suc, pos, negsuc, neg_ℤ, IsTrue, sym, ap, refl}
-use Rattle.std.proofs.lemmas.Bool.{eqb-true}
+use Rattle.std.proofs.{Common.{◌≡◌, ◌∙◌, ◌==◌, ℕ, zero, suc, pos, negsuc, neg_ℤ, IsTrue, sym, ap, refl}, lemmas.Bool.{eqb-true}}
 use Rattle.calc_language.specs.Texts.{IsNatural}
 use Rattle.calc_terms.specs.Fractions.{Fraction, whole_fraction}
 use Rattle.calc_terms.proofs.FractionFacts.{whole_numerator}

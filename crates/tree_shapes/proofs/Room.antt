@@ -1,16 +1,10 @@
 -- The bytes that a shape's tree takes.
 use Rattle.std.proofs.Common.{◌≡◌, ℕ, ◌+◌, arith, refl}
-use Rattle.calc_terms.specs.Payload.{bare, size_of_payload}
-use Rattle.calc_terms.specs.Trees.{Tree, more, none, size}
+use Rattle.calc_terms.specs.{Payload.{bare, size_of_payload}, Trees.{Tree, more, none, size}}
 use Rattle.node_pool.specs.State.{State, free_of}
-use Rattle.tree_handles.specs.Expressions.{compound}
-use Rattle.tree_handles.specs.Handed.{Gives}
-use Rattle.tree_handles.specs.Standing.{KeepsRefusals, Stands, forest}
-use Rattle.tree_handles.proofs.Given.{given_told}
-use Rattle.tree_handles.proofs.Room.{given_free}
-use Rattle.tree_shapes.specs.Shapes.{kind_of_pair, kind_of_single}
-use Rattle.tree_shapes.specs.declared.shapes.Pair.{Pair}
-use Rattle.tree_shapes.specs.declared.shapes.Single.{Single}
+use Rattle.tree_handles.specs.{Expressions.{compound}, Handed.{Gives}, Standing.{KeepsRefusals, Stands, forest}}
+use Rattle.tree_handles.proofs.{Given.{given_told}, Room.{given_free}}
+use Rattle.tree_shapes.specs.{Shapes.{kind_of_pair, kind_of_single}, declared.shapes.Pair.{Pair}, declared.shapes.Single.{Single}}
 
 -- a new tree takes its bytes
 pub grown_free : {s t : State} {i : ℕ} {u : Tree} → Stands s → Stands t → KeepsRefusals s t → Gives (forest s) (forest t) i (λ x. x ≡ u) → free_of s ≡ free_of t + size u

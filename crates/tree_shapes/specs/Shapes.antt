@@ -1,16 +1,10 @@
 -- The trees that shapes are.
 use Rattle.std.specs.Prelude.{ℕ, List, codes, if◌then◌else◌, pos, neg_ℤ}
-use Rattle.calc_terms.specs.declared.kind.Kind.{Kind}
-use Rattle.calc_terms.specs.declared.kind.Kind.TheVariants.{Add, Sub, Mult, Div, Pow, Neg, Root as RootKind}
-use Rattle.calc_terms.specs.Fractions.{whole_fraction}
-use Rattle.calc_terms.specs.Name.{is_name}
+use Rattle.calc_terms.specs.{declared.kind.Kind.{Kind}, declared.kind.Kind.TheVariants.{Add, Sub, Mult, Div, Pow, Neg, Root as RootKind}, Fractions.{whole_fraction}, Name.{is_name}}
 use Rattle.calc_terms.specs.Trees.{Tree, num, symbol, undef, more, none}
 use Rattle.tree_handles.specs.Expressions.{compound}
-use Rattle.tree_shapes.specs.declared.shapes.Pair.{Pair}
-use Rattle.tree_shapes.specs.declared.shapes.Pair.TheVariants.{Sum, Difference, Product, Quotient, Power}
-use Rattle.tree_shapes.specs.declared.shapes.Single.{Single}
-use Rattle.tree_shapes.specs.declared.shapes.Single.TheVariants.{Opposite, Root}
-use Rattle.tree_shapes.specs.declared.shapes.Shape.{Shape, Name, Number, Negative, Undef, Two', One'}
+use Rattle.tree_shapes.specs.{declared.shapes.Pair.{Pair}, declared.shapes.Pair.TheVariants.{Sum, Difference, Product, Quotient, Power}, declared.shapes.Single.{Single}}
+use Rattle.tree_shapes.specs.{declared.shapes.Single.TheVariants.{Opposite, Root}, declared.shapes.Shape.{Shape, Name, Number, Negative, Undef, Two', One'}}
 
 abbrev pub kind_of_pair : Pair → Kind
 kind_of_pair Sum = Add

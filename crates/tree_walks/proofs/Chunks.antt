@@ -1,8 +1,7 @@
 -- The leaves of a name that are found at a time, and replaced one after another.
-use Rattle.tree_walks.proofs.Shared.{◌≡◌, ℕ, ◌+◌, ◌-◌, ◌*◌, ◌<◌, ◌≤◌, List, [], ◌∷◌, ◌++◌, length, take, drop, get_or, sym, ap, ◌∙◌, subst, arith}
-use Rattle.tree_walks.proofs.Shared.{drop_of_length-le, drop_more, get_or-take, length-append, length-take-le, Tree, State, free_of, plain, bytes_in, tree_at, Stands, forest, KeepsRefusals}
-use Rattle.tree_walks.proofs.{Shared.{without_root, few_in, one_at, occurrences, AreFirst, IsLeafAt, PutsCopy, leaves_of}, Filling.{IsFilling, IsSource, leaves_now, next, source_in}}
-use Rattle.tree_walks.proofs.LeafLists.{few_leaves, leaves_plain}
+use Rattle.tree_walks.proofs.Shared.{◌≡◌, ℕ, ◌+◌, ◌-◌, ◌*◌, ◌<◌, ◌≤◌, List, [], ◌∷◌, ◌++◌, length, take, drop, get_or, sym, ap, ◌∙◌, subst, arith, drop_of_length-le, drop_more, get_or-take}
+use Rattle.tree_walks.proofs.Shared.{length-append, length-take-le, Tree, State, free_of, plain, bytes_in, tree_at, Stands, forest, KeepsRefusals, without_root, few_in, one_at, occurrences, AreFirst}
+use Rattle.tree_walks.proofs.{Shared.{IsLeafAt, PutsCopy, leaves_of}, Filling.{IsFilling, IsSource, leaves_now, next, source_in}, LeafLists.{few_leaves, leaves_plain}}
 use Rattle.std.proofs.Math.Seq.{drop-append_seam}
 
 -- of the leaves that were found some have been replaced, and the others and all behind them are left

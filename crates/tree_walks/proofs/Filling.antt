@@ -1,18 +1,17 @@
 -- A name is replaced in the last tree: how it begins, goes on and ends, and what finds room.
-use Rattle.tree_walks.proofs.Shared.{◌≡◌, ℕ, zero, suc, ◌+◌, ◌-◌, ◌<◌, ◌≤◌, List, ◌∷◌, ◌++◌, length, refl, sym, ap, ◌∙◌, subst, arith, append_assoc}
-use Rattle.tree_walks.proofs.Shared.{inl, inr, true, false, [], le-leb, lt-leb, length-append, Payload, rational, named, bare, Tree, Trees, symbol, none, more, size, root_size, State, free_of}
-use Rattle.tree_walks.proofs.Shared.{nth, grown, plains, plain, AllExpressions, IsExpression, Label, Forest, empty, tree, join, arity, kids, root_id, root_count, root_payload, flatten, set_nth}
-use Rattle.tree_walks.proofs.Shared.{tree_nth, bytes_in, AllOnce, IsOwned, Ends, Gives, IsHanded, KeepsFront, tree_of, holds, tree_at, kids_of, with_kids, payload_in, without_root, Stands}
-use Rattle.tree_walks.proofs.Shared.{forest, KeepsRefusals, IsRefused, Refuses, Distinct, distinct, distinct_parts, other_id, clear_front, arity-tree_nth, bytes_in-join, flatten-join}
-use Rattle.tree_walks.proofs.Shared.{keeps_none, keeps_after, refuses_after, given_handed, given_other, given_root, given_told, ends_at, ends_without, last_root, last_tree, other_tree}
-use Rattle.tree_walks.proofs.{Shared.{tree_of_root, one_at, alone, size-plain, replaced, replaced_in, replacing, occurrences, IsLeafAt, PutsCopy, has_name, leaves_of}, Holes.{IsBelow, hole}}
-use Rattle.tree_walks.proofs.LeafLists.{later, later-all, later-none, leaves_plain}
+use Rattle.tree_walks.proofs.Shared.{◌≡◌, ℕ, zero, suc, ◌+◌, ◌-◌, ◌<◌, ◌≤◌, List, ◌∷◌, ◌++◌, length, refl, sym, ap, ◌∙◌, subst, arith, append_assoc, inl, inr, true, false, [], le-leb, lt-leb}
+use Rattle.tree_walks.proofs.Shared.{length-append, Payload, rational, named, bare, Tree, Trees, symbol, none, more, size, root_size, State, free_of, nth, grown, plains, plain, AllExpressions}
+use Rattle.tree_walks.proofs.Shared.{IsExpression, Label, Forest, empty, tree, join, arity, kids, root_id, root_count, root_payload, flatten, set_nth, tree_nth, bytes_in, AllOnce, IsOwned, Ends}
+use Rattle.tree_walks.proofs.Shared.{Gives, IsHanded, KeepsFront, tree_of, holds, tree_at, kids_of, with_kids, payload_in, without_root, Stands, forest, KeepsRefusals, IsRefused, Refuses, Distinct}
+use Rattle.tree_walks.proofs.Shared.{distinct, distinct_parts, other_id, clear_front, arity-tree_nth, bytes_in-join, flatten-join, keeps_none, keeps_after, refuses_after, given_handed, given_other}
+use Rattle.tree_walks.proofs.Shared.{given_root, given_told, ends_at, ends_without, last_root, last_tree, other_tree, tree_of_root, one_at, alone, size-plain, replaced, replaced_in, replacing}
+use Rattle.tree_walks.proofs.{Shared.{occurrences, IsLeafAt, PutsCopy, has_name, leaves_of}, Holes.{IsBelow, hole}, LeafLists.{later, later-all, later-none, leaves_plain}}
 use Rattle.std.proofs.Common.{leb, append-nil}
 use Rattle.std.specs.Prelude.{Ok, Err}
 use Rattle.node_pool.specs.{declared.full.Full.Full, Nodes.AreDistinct}
 use Rattle.node_pool.proofs.Ids.{AreDistinct-parts}
-use Rattle.tree_handles.proofs.{Fronts.{starts_join, starts_same, starts_without}, Joins.{holds-left, holds-right, kids_of-join_right, tree_at-join_left, with_kids-join_right}}
-use Rattle.tree_handles.proofs.{Places.used_forest, Room.{given_free, released_free}}
+use Rattle.tree_handles.proofs.{Fronts.{starts_join, starts_same, starts_without}, Joins.{holds-left, holds-right, kids_of-join_right, tree_at-join_left, with_kids-join_right}, Places.used_forest}
+use Rattle.tree_handles.proofs.Room.{given_free, released_free}
 
 -- ---- a leaf goes
 

@@ -1,8 +1,7 @@
 -- The leaves of a name, in prefix order, and what comes of them one after another.
-use Rattle.tree_walks.proofs.Shared.{◌≡◌, ℕ, ◌+◌, ◌-◌, ◌≤◌, List, [], ◌∷◌, ◌++◌, length, cond, eqb, refl, sym, ap, ◌∙◌, arith, append_assoc, Bool, true}
-use Rattle.tree_walks.proofs.Shared.{false, ne_eqb, length-append, Payload, Tree, Trees, none, more, append, grown, plains, plain, AllExpressions, Label, Forest, empty, tree, join, arity}
-use Rattle.tree_walks.proofs.Shared.{nodes_in, by_test, alone, replaced, replaced_in, occurrences, has_name, leaves_of}
-use Rattle.tree_walks.proofs.Names.{named_in, named-tree, occurrences_in, occurrences-alone, replaced-other, replaced-named}
+use Rattle.tree_walks.proofs.Shared.{◌≡◌, ℕ, ◌+◌, ◌-◌, ◌≤◌, List, [], ◌∷◌, ◌++◌, length, cond, eqb, refl, sym, ap, ◌∙◌, arith, append_assoc, Bool, true, false, ne_eqb, length-append, Payload, Tree}
+use Rattle.tree_walks.proofs.Shared.{Trees, none, more, append, grown, plains, plain, AllExpressions, Label, Forest, empty, tree, join, arity, nodes_in, by_test, alone, replaced, replaced_in}
+use Rattle.tree_walks.proofs.{Shared.{occurrences, has_name, leaves_of}, Names.{named_in, named-tree, occurrences_in, occurrences-alone, replaced-other, replaced-named}}
 
 -- how many there are at a node and below it
 abbrev pub leaves_at : List ℕ → Label → Forest → ℕ

@@ -1,7 +1,5 @@
 -- A tree in the place of a name.
-use Rattle.std.specs.Prelude.{ℕ, zero, suc, ◌+◌, ◌-◌, List, nat_le, if◌then◌else◌, Result, Ok, Err}
-use Rattle.std.specs.List.{count_by}
-use Rattle.std.specs.Str.{bytes_eq}
+use Rattle.std.specs.{Prelude.{ℕ, zero, suc, ◌+◌, ◌-◌, List, nat_le, if◌then◌else◌, Result, Ok, Err}, List.{count_by}, Str.{bytes_eq}}
 use Rattle.calc_terms.specs.Trees.{Tree, num, symbol, undef, add, mult, power, root, neg, sub, div, Trees, none, more, names}
 use Rattle.node_pool.specs.declared.full.Full.{Full}
 

@@ -1,12 +1,7 @@
 -- Leaves of a name in walks over trees, and copies in their places.
-use Rattle.std.specs.Prelude.{ℕ, ◌≡◌, ◌≤◌, ◌<◌, List, [], ◌∷◌, ◌++◌, length, take, if◌then◌else◌, Bool, false}
-use Rattle.std.specs.Str.{bytes_eq}
-use Rattle.calc_terms.specs.Payload.{Payload, rational, named, bare}
-use Rattle.calc_terms.specs.Trees.{Tree, none, more}
-use Rattle.tree_handles.specs.Children.{IsChildAt}
-use Rattle.tree_handles.specs.Forest.{Forest, empty, tree, kids, root_count, set_nth, tree_nth}
-use Rattle.tree_handles.specs.Handed.{Represents}
-use Rattle.tree_handles.specs.Inside.{kids_of, with_kids}
+use Rattle.std.specs.{Prelude.{ℕ, ◌≡◌, ◌≤◌, ◌<◌, List, [], ◌∷◌, ◌++◌, length, take, if◌then◌else◌, Bool, false}, Str.{bytes_eq}}
+use Rattle.calc_terms.specs.{Payload.{Payload, rational, named, bare}, Trees.{Tree, none, more}}
+use Rattle.tree_handles.specs.{Children.{IsChildAt}, Forest.{Forest, empty, tree, kids, root_count, set_nth, tree_nth}, Handed.{Represents}, Inside.{kids_of, with_kids}}
 
 -- a leaf of the name holds it
 abbrev pub has_name : List ℕ → Payload → Bool

@@ -1,5 +1,4 @@
-use Rattle.beautify.proofs.Shared.{rules, ◌≡◌, ℕ, length, sym, subst, refl, arith, Some, Option, Forest, Gives, more, none, forest, keeps_after}
-use Rattle.beautify.proofs.Drafting.{IsJoining, started, joined, all_joined}
+use Rattle.beautify.proofs.{Shared.{rules, ◌≡◌, ℕ, length, sym, subst, refl, arith, Some, Option, Forest, Gives, more, none, forest, keeps_after}, Drafting.{IsJoining, started, joined, all_joined}}
 use Rattle.std.specs.Option.{IsSome}
 use Rattle.beautify.proofs.draft.join_notes.Goals as goal
 

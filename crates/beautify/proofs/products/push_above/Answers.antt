@@ -1,5 +1,4 @@
-use Rattle.beautify.proofs.{Shared.{◌≡◌, ◌≤◌, arith, append, factors_above, children_of, plain, tree_at, forest, count}, Pushing.owes_as, Resolving.{product, product_first}}
-use Rattle.beautify.proofs.Trees.{count-append}
+use Rattle.beautify.proofs.{Pushing.owes_as, Shared.{◌≡◌, ◌≤◌, arith, append, factors_above, children_of, plain, tree_at, forest, count}, Resolving.{product, product_first}, Trees.{count-append}}
 use Rattle.beautify.proofs.products.push_above.Goals as goal
 
 pub push_multiplied-requires : goal.push_multiplied-requires

@@ -1,10 +1,6 @@
-use Rattle.calc_algebra.proofs.Shared.{◌≡◌, inl, inr, refl, [], ◌∷◌, ◌++◌, ℤ, pos, negsuc, subst, gcd, Fraction, lowest, quotient, plus, times, zero_fraction, one_fraction}
-use Rattle.calc_algebra.proofs.Shared.{whole_fraction, minus_one_fraction, square_root, Surd, term, surd_of, Same, IsWholePower, IsPower, IsRootOf}
-use Rattle.calc_algebra.proofs.SurdLaws.{Agree-sym, Agree-trans}
-use Rattle.calc_algebra.proofs.SquareClassLaws.{Same-Agree, Same-trans}
-use Rattle.calc_algebra.proofs.MeaningLaws.{surd_of_one, whole_one, whole_is_no_half}
-use Rattle.calc_algebra.proofs.InverseLaws.{Inverts-not_zero}
-use Rattle.calc_algebra.proofs.PowerLaws.{root_zero}
+use Rattle.calc_algebra.proofs.Shared.{◌≡◌, inl, inr, refl, [], ◌∷◌, ◌++◌, ℤ, pos, negsuc, subst, gcd, Fraction, lowest, quotient, plus, times, zero_fraction, one_fraction, whole_fraction}
+use Rattle.calc_algebra.proofs.{Shared.{minus_one_fraction, square_root, Surd, term, surd_of, Same, IsWholePower, IsPower, IsRootOf}, SurdLaws.{Agree-sym, Agree-trans}}
+use Rattle.calc_algebra.proofs.{SquareClassLaws.{Same-Agree, Same-trans}, MeaningLaws.{surd_of_one, whole_one, whole_is_no_half}, InverseLaws.{Inverts-not_zero}, PowerLaws.{root_zero}}
 use Rattle.calc_algebra.proofs.Compared.{compared_same}
 use Rattle.calc_algebra.proofs.examples.meanings_found.Goals as goal
 

@@ -1,5 +1,4 @@
-use Rattle.calc_algebra.proofs.Shared.{◌≡◌, refl, pos, ap, arith, gcd, lowest, plus, times, zero_fraction, one_fraction, square_root}
-use Rattle.calc_algebra.proofs.Compared.{compared_same}
+use Rattle.calc_algebra.proofs.{Shared.{◌≡◌, refl, pos, ap, arith, gcd, lowest, plus, times, zero_fraction, one_fraction, square_root}, Compared.{compared_same}}
 use Rattle.calc_algebra.proofs.examples.surds_compared.Goals as goal
 
 pub returns-clause-one_class : goal.returns-clause-one_class

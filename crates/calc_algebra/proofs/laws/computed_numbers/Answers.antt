@@ -1,5 +1,4 @@
-use Rattle.calc_algebra.proofs.SquareRootLaws.{square_root_is}
-use Rattle.calc_algebra.proofs.ComputedNumbers.{alike_words, alike_test, left_of_free, left_of_tried}
+use Rattle.calc_algebra.proofs.{SquareRootLaws.{square_root_is}, ComputedNumbers.{alike_words, alike_test, left_of_free, left_of_tried}}
 use Rattle.calc_algebra.proofs.laws.computed_numbers.Goals as goal
 
 pub returns-clause-square_root : goal.returns-clause-square_root

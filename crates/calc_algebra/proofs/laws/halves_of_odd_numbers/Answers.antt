@@ -1,5 +1,4 @@
-use Rattle.calc_algebra.proofs.Shared.{sym, ap, Fraction}
-use Rattle.calc_algebra.proofs.HalfLaws.{half_is_odd, half_parts, half_of_is}
+use Rattle.calc_algebra.proofs.{Shared.{sym, ap, Fraction}, HalfLaws.{half_is_odd, half_parts, half_of_is}}
 use Rattle.calc_algebra.proofs.laws.halves_of_odd_numbers.Goals as goal
 
 pub returns-clause-odd : goal.returns-clause-odd

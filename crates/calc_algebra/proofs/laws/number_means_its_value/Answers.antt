@@ -1,5 +1,4 @@
-use Rattle.calc_algebra.proofs.NumberLaws.{number_words}
-use Rattle.calc_algebra.proofs.NumberValues.{number_means}
+use Rattle.calc_algebra.proofs.{NumberLaws.{number_words}, NumberValues.{number_means}}
 use Rattle.calc_algebra.proofs.laws.number_means_its_value.Goals as goal
 
 pub returns : goal.returns

@@ -1,5 +1,4 @@
-use Rattle.calc_algebra.proofs.SurdLaws.{Agree-Same, one_inverse}
-use Rattle.calc_algebra.proofs.SquareClassLaws.{Same-Agree}
+use Rattle.calc_algebra.proofs.{SurdLaws.{Agree-Same, one_inverse}, SquareClassLaws.{Same-Agree}}
 use Rattle.calc_algebra.proofs.laws.one_inverse.Goals as goal
 
 pub returns : goal.returns

@@ -1,5 +1,4 @@
-use Rattle.calc_algebra.proofs.MeaningLaws.{one_meaning}
-use Rattle.calc_algebra.proofs.SurdLaws.{Agree-Same}
+use Rattle.calc_algebra.proofs.{MeaningLaws.{one_meaning}, SurdLaws.{Agree-Same}}
 use Rattle.calc_algebra.proofs.laws.one_meaning.Goals as goal
 
 pub returns : goal.returns

@@ -1,5 +1,4 @@
-use Rattle.calc_algebra.proofs.NumberLaws.{number_words}
-use Rattle.calc_algebra.proofs.NumberUniqueness.{one_number}
+use Rattle.calc_algebra.proofs.{NumberLaws.{number_words}, NumberUniqueness.{one_number}}
 use Rattle.calc_algebra.proofs.laws.one_number.Goals as goal
 
 pub returns : goal.returns

@@ -1,5 +1,4 @@
-use Rattle.calc_algebra.proofs.SurdLaws.{Agree-Same}
-use Rattle.calc_algebra.proofs.SquareClassLaws.{Same-Agree}
+use Rattle.calc_algebra.proofs.{SurdLaws.{Agree-Same}, SquareClassLaws.{Same-Agree}}
 use Rattle.calc_algebra.proofs.laws.same_at_every_number.Goals as goal
 
 pub returns : goal.returns

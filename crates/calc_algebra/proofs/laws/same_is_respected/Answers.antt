@@ -1,5 +1,4 @@
-use Rattle.calc_algebra.proofs.SurdLaws.{Agree-Same, Agree-append, Agree-surd_scale, Agree-surd_times, Agree-surd_power}
-use Rattle.calc_algebra.proofs.SquareClassLaws.{Same-Agree}
+use Rattle.calc_algebra.proofs.{SurdLaws.{Agree-Same, Agree-append, Agree-surd_scale, Agree-surd_times, Agree-surd_power}, SquareClassLaws.{Same-Agree}}
 use Rattle.calc_algebra.proofs.laws.same_is_respected.Goals as goal
 
 pub returns-clause-joined : goal.returns-clause-joined

@@ -1,5 +1,4 @@
-use Rattle.calc_algebra.proofs.NumberLaws.{clean_words, clean_test, number_words, number_test}
-use Rattle.calc_algebra.proofs.ReducedLaws.{reduced_words, reduced_test}
+use Rattle.calc_algebra.proofs.{NumberLaws.{clean_words, clean_test, number_words, number_test}, ReducedLaws.{reduced_words, reduced_test}}
 use Rattle.calc_algebra.proofs.laws.tests_say_their_words.Goals as goal
 
 pub returns-clause-clean : goal.returns-clause-clean

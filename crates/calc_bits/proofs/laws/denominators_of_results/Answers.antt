@@ -1,5 +1,4 @@
-use Rattle.calc_bits.proofs.Quotients.{plus_den, times_den, multiple_den}
-use Rattle.calc_bits.proofs.Fitting.{power_den}
+use Rattle.calc_bits.proofs.{Quotients.{plus_den, times_den, multiple_den}, Fitting.{power_den}}
 use Rattle.calc_bits.proofs.laws.denominators_of_results.Goals as goal
 
 pub returns-clause-sums : goal.returns-clause-sums

@@ -1,5 +1,4 @@
-use Rattle.calc_bits.proofs.MassLaws.{parts_scale, parts_append, parts_times}
-use Rattle.calc_bits.proofs.Held.{parts_power}
+use Rattle.calc_bits.proofs.{MassLaws.{parts_scale, parts_append, parts_times}, Held.{parts_power}}
 use Rattle.calc_bits.proofs.laws.denominators_of_surds.Goals as goal
 
 pub returns-clause-multiples : goal.returns-clause-multiples

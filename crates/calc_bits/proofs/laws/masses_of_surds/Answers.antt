@@ -1,5 +1,4 @@
-use Rattle.calc_bits.proofs.MassLaws.{mass_scale, mass-append, mass_times}
-use Rattle.calc_bits.proofs.Held.{mass_power}
+use Rattle.calc_bits.proofs.{MassLaws.{mass_scale, mass-append, mass_times}, Held.{mass_power}}
 use Rattle.calc_bits.proofs.laws.masses_of_surds.Goals as goal
 
 pub returns-clause-multiples : goal.returns-clause-multiples

@@ -1,5 +1,4 @@
-use Rattle.calc_bits.proofs.Shared.{value, number_words, value_proper, value_rises}
-use Rattle.calc_bits.proofs.ClassMasses.{mass_same}
+use Rattle.calc_bits.proofs.{Shared.{value, number_words, value_proper, value_rises}, ClassMasses.{mass_same}}
 use Rattle.calc_bits.proofs.laws.numbers_have_least_mass.Goals as goal
 
 pub returns : goal.returns

@@ -1,5 +1,4 @@
-use Rattle.calc_bits.proofs.Shared.{value, number_words, value_proper, value_rises}
-use Rattle.calc_bits.proofs.Parts.{mass_of_same, held_same, held_same_by_one}
+use Rattle.calc_bits.proofs.{Shared.{value, number_words, value_proper, value_rises}, Parts.{mass_of_same, held_same, held_same_by_one}}
 use Rattle.calc_bits.proofs.laws.same_numbers_are_held.Goals as goal
 
 pub returns-clause-mass : goal.returns-clause-mass

@@ -1,5 +1,4 @@
-use Rattle.calc_bits.proofs.Shared.{terms_of, terms_proper}
-use Rattle.calc_bits.proofs.Parts.{mass_of_same, held_same, held_same_by_one, held_same_with, same_without}
+use Rattle.calc_bits.proofs.{Shared.{terms_of, terms_proper}, Parts.{mass_of_same, held_same, held_same_by_one, held_same_with, same_without}}
 use Rattle.calc_bits.proofs.laws.same_terms_are_held.Goals as goal
 
 pub returns-clause-mass : goal.returns-clause-mass

@@ -1,5 +1,4 @@
-use Rattle.calc_bits.proofs.Shared.{terms_of, terms_proper}
-use Rattle.calc_bits.proofs.NoLarger.{held_so_far}
+use Rattle.calc_bits.proofs.{Shared.{terms_of, terms_proper}, NoLarger.{held_so_far}}
 use Rattle.calc_bits.proofs.laws.sums_so_far_are_held.Goals as goal
 
 pub returns : goal.returns

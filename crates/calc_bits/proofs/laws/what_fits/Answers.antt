@@ -1,5 +1,4 @@
-use Rattle.calc_bits.proofs.Shared.{nat_abs, fraction_power, times}
-use Rattle.calc_bits.proofs.Fitting.{sum_fits_over, quotient_fits}
+use Rattle.calc_bits.proofs.{Shared.{nat_abs, fraction_power, times}, Fitting.{sum_fits_over, quotient_fits}}
 use Rattle.calc_bits.proofs.laws.what_fits.Goals as goal
 
 pub returns-clause-sums : goal.returns-clause-sums

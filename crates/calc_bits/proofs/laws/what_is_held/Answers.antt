@@ -1,5 +1,4 @@
-use Rattle.calc_bits.proofs.MassLaws.{held_meet}
-use Rattle.calc_bits.proofs.Held.{held_append, held_times, held_power}
+use Rattle.calc_bits.proofs.{MassLaws.{held_meet}, Held.{held_append, held_times, held_power}}
 use Rattle.calc_bits.proofs.laws.what_is_held.Goals as goal
 
 pub returns-clause-by_both : goal.returns-clause-by_both

@@ -1,12 +1,8 @@
-use Rattle.std.proofs.Common.{◌≡◌, ◌∙◌, ◌+◌, ◌<◌, ◌≤◌, length, drop, sym, ap, subst, arith}
-use Rattle.std.specs.Prelude.{Contains, ◌-◌, take}
-use Rattle.std.specs.List.{position_or_len}
-use Rattle.std.proofs.lemmas.Bool.{both_ways}
-use Rattle.std.proofs.lemmas.List.{take_rest}
-use Rattle.std.proofs.Math.Dec.{eqb}
-use Rattle.calc_commands.proofs.Splitting.{drop_first, first_there, has_sign, left_there, right_there, sides_there}
+use Rattle.std.proofs.{Common.{◌≡◌, ◌∙◌, ◌+◌, ◌<◌, ◌≤◌, length, drop, sym, ap, subst, arith}, lemmas.Bool.{both_ways}, lemmas.List.{take_rest}, Math.Dec.{eqb}}
+use Rattle.std.specs.{Prelude.{Contains, ◌-◌, take}, List.{position_or_len}}
+use Rattle.calc_commands.proofs.{Splitting.{drop_first, first_there, has_sign, left_there, right_there, sides_there}, equations.sign_in.Goals.{then-are_blanks-via-then-are_blanks}}
+use Rattle.calc_commands.proofs.equations.sign_in.Goals.{then-are_blanks-via-else-are_blanks+then-are_blanks-2}
 use Rattle.calc_commands.specs.Parsing.{are_blanks}
-use Rattle.calc_commands.proofs.equations.sign_in.Goals.{then-are_blanks-via-then-are_blanks, then-are_blanks-via-else-are_blanks+then-are_blanks-2}
 use Rattle.calc_commands.proofs.equations.sign_in.Goals as goal
 
 pub returns-then-sign-piece : goal.returns-then-sign-piece

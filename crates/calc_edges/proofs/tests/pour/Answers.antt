@@ -1,5 +1,4 @@
-use Rattle.std.proofs.Common.{◌++◌, take, arith}
-use Rattle.std.proofs.KnownBytes.{Appends-trans, Consumes-trans}
+use Rattle.std.proofs.{Common.{◌++◌, take, arith}, KnownBytes.{Appends-trans, Consumes-trans}}
 use Rattle.calc_edges.proofs.tests.pour.Goals as goal
 
 pub loop-preserved : goal.loop-preserved

@@ -1,5 +1,4 @@
-use Rattle.calc_parser.proofs.Shared.{arith, common_steps, sym, subst, What, token_of, forest, Grows, leaf}
-use Rattle.calc_parser.proofs.Leaves.{ok_as, number_grows, name_grows, other, other_grows}
+use Rattle.calc_parser.proofs.{Shared.{arith, common_steps, sym, subst, What, token_of, forest, Grows, leaf}, Leaves.{ok_as, number_grows, name_grows, other, other_grows}}
 use Rattle.calc_parser.proofs.building.place_leaf.Goals as goal
 
 pub returns-in-Number-clause-ok : goal.returns-in-Number-clause-ok

@@ -1,5 +1,4 @@
-use Rattle.calc_parser.proofs.Shared.{◌≡◌, map, ap, ◌∙◌, arith, option_map, name_of, Tree, depth, bare, tokens_of, node_of, IsLine}
-use Rattle.calc_parser.proofs.checking.checked.Goals.{After-depth}
+use Rattle.calc_parser.proofs.{Shared.{◌≡◌, map, ap, ◌∙◌, arith, option_map, name_of, Tree, depth, bare, tokens_of, node_of, IsLine}, checking.checked.Goals.{After-depth}}
 use Rattle.calc_parser.proofs.checking.checked.Goals as goal
 
 -- the depth of the line's tree

@@ -1,5 +1,4 @@
-use Rattle.calc_room.proofs.Shared.{◌≡◌, List, [], ◌∷◌, Bool, true, false, refl, are_alike, square_root, lowest, gcd, chosen_product}
-use Rattle.calc_room.proofs.SpanLaws.{one_spanned}
+use Rattle.calc_room.proofs.{Shared.{◌≡◌, List, [], ◌∷◌, Bool, true, false, refl, are_alike, square_root, lowest, gcd, chosen_product}, SpanLaws.{one_spanned}}
 use Rattle.calc_room.proofs.examples.spans_found.Goals as goal
 
 not_five : (cs : List Bool) → are_alike (chosen_product (2 ∷ 3 ∷ []) cs) 5 ≡ true → ⊥

@@ -1,5 +1,4 @@
-use Rattle.calc_room.proofs.Shared.{number_words}
-use Rattle.calc_room.proofs.NumberSpans.{sum_spanned, product_spanned, power_spanned, inverse_spanned}
+use Rattle.calc_room.proofs.{Shared.{number_words}, NumberSpans.{sum_spanned, product_spanned, power_spanned, inverse_spanned}}
 use Rattle.calc_room.proofs.laws.answers_are_spanned.Goals as goal
 
 pub returns-clause-sums : goal.returns-clause-sums

@@ -1,5 +1,4 @@
-use Rattle.calc_room.proofs.Shared.{number_words}
-use Rattle.calc_room.proofs.NumberSpans.{spans_inverse}
+use Rattle.calc_room.proofs.{Shared.{number_words}, NumberSpans.{spans_inverse}}
 use Rattle.calc_room.proofs.laws.inverses_are_spanned.Goals as goal
 
 pub returns : goal.returns

@@ -1,5 +1,4 @@
-use Rattle.calc_room.proofs.Shared.{◌≤◌, ◌+◌, ◌*◌, ◌^◌, length, arith, size, number_words}
-use Rattle.calc_room.proofs.NumberBytes.{number_classes, number_roots, number_bytes}
+use Rattle.calc_room.proofs.{Shared.{◌≤◌, ◌+◌, ◌*◌, ◌^◌, length, arith, size, number_words}, NumberBytes.{number_classes, number_roots, number_bytes}}
 use Rattle.calc_room.proofs.laws.numbers_are_small.Goals as goal
 
 pub returns-clause-classes : goal.returns-clause-classes

@@ -1,5 +1,4 @@
-use Rattle.calc_room.proofs.Shared.{number_words}
-use Rattle.calc_room.proofs.NumberSpans.{value_spanned, tree_spanned}
+use Rattle.calc_room.proofs.{Shared.{number_words}, NumberSpans.{value_spanned, tree_spanned}}
 use Rattle.calc_room.proofs.laws.numbers_as_trees.Goals as goal
 
 pub returns : goal.returns

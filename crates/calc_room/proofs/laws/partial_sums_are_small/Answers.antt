@@ -1,6 +1,4 @@
-use Rattle.calc_room.proofs.Shared.{◌≤◌, ◌+◌, ◌*◌, ◌^◌, length, arith, add, size, terms_of, terms_proper}
-use Rattle.calc_room.proofs.NumberSpans.{spans_same_terms}
-use Rattle.calc_room.proofs.NumberBytes.{partial_bytes}
+use Rattle.calc_room.proofs.{Shared.{◌≤◌, ◌+◌, ◌*◌, ◌^◌, length, arith, add, size, terms_of, terms_proper}, NumberSpans.{spans_same_terms}, NumberBytes.{partial_bytes}}
 use Rattle.calc_room.proofs.laws.partial_sums_are_small.Goals as goal
 
 pub returns-clause-spanned : goal.returns-clause-spanned

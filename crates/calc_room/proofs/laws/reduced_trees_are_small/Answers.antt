@@ -1,5 +1,4 @@
-use Rattle.calc_room.proofs.Shared.{reduced_words}
-use Rattle.calc_room.proofs.TreeBytes.{tree_bytes, factor_bytes, base_bytes}
+use Rattle.calc_room.proofs.{Shared.{reduced_words}, TreeBytes.{tree_bytes, factor_bytes, base_bytes}}
 use Rattle.calc_room.proofs.laws.reduced_trees_are_small.Goals as goal
 
 pub returns-clause-bytes : goal.returns-clause-bytes

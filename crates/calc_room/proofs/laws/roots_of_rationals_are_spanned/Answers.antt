@@ -1,5 +1,4 @@
-use Rattle.calc_room.proofs.Shared.{number_words}
-use Rattle.calc_room.proofs.NumberSpans.{root_spanned}
+use Rattle.calc_room.proofs.{Shared.{number_words}, NumberSpans.{root_spanned}}
 use Rattle.calc_room.proofs.laws.roots_of_rationals_are_spanned.Goals as goal
 
 pub returns : goal.returns

@@ -1,5 +1,4 @@
-use Rattle.calc_room.proofs.Shared.{number_words}
-use Rattle.calc_room.proofs.NumberSpans.{spans_same}
+use Rattle.calc_room.proofs.{Shared.{number_words}, NumberSpans.{spans_same}}
 use Rattle.calc_room.proofs.laws.same_numbers_are_spanned.Goals as goal
 
 pub returns : goal.returns

@@ -1,7 +1,6 @@
 use Rattle.std.proofs.Common.{◌∙◌, ◌++◌, List, ℕ, Ok, length, sym, ap, subst, arith}
 use Rattle.calc_session.proofs.Shared.{Content, IsLayout, drawing, serial, given_layout, given_room, bytes_in, tree_at, forest, CountsRefusal, lack_in, told_at}
-use Rattle.calc_session.proofs.DrawingLemmas.{given_told, lacks_where, told_where}
-use Rattle.calc_session.proofs.PoolLemmas.{old_below, rolled_back}
+use Rattle.calc_session.proofs.{DrawingLemmas.{given_told, lacks_where, told_where}, PoolLemmas.{old_below, rolled_back}}
 use Rattle.calc_session.proofs.drawing.write_layout.Goals as goal
 
 pub write_serial-requires-clause-layout : goal.write_serial-requires-clause-layout

@@ -1,8 +1,7 @@
 use Rattle.std.proofs.Common.{◌≡◌, ◌∙◌, ◌∷◌, [], length, encode_utf8_all, refl, sym, ap, subst, arith, length-append}
 use Rattle.calc_session.proofs.Shared.{Appends-nil, err_from_is_err_and, Content, spare_of, Draft, Measures, drawing, cut, height, picture, tree_at, forest, row_text}
+use Rattle.calc_session.proofs.{DrawingLemmas.{row_fits, row_written, rows_cut, rows_more}, drawing.write_rows.Goals.{After-push}}
 use Rattle.calc_edges.proofs.Stops.{stops_later}
-use Rattle.calc_session.proofs.DrawingLemmas.{row_fits, row_written, rows_cut, rows_more}
-use Rattle.calc_session.proofs.drawing.write_rows.Goals.{After-push}
 use Rattle.calc_session.proofs.drawing.write_rows.Goals as goal
 
 pub loop-row-init : goal.loop-row-init

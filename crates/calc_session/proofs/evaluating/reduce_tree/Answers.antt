@@ -1,6 +1,5 @@
 use Rattle.std.proofs.Common.{◌+◌, Err, sym, subst}
-use Rattle.calc_session.proofs.Shared.{states, size, free_of, tree_of, Handle, given_handed, Refusal, reply_of, IsReduction}
-use Rattle.calc_session.proofs.EvaluationLemmas.{answer_to, refused_reply, overflow_at, full_both}
+use Rattle.calc_session.proofs.{Shared.{states, size, free_of, tree_of, Handle, given_handed, Refusal, reply_of, IsReduction}, EvaluationLemmas.{answer_to, refused_reply, overflow_at, full_both}}
 use Rattle.calc_session.proofs.evaluating.reduce_tree.Goals as goal
 
 pub reduce-requires-clause-handed : goal.reduce-requires-clause-handed

@@ -1,8 +1,6 @@
 use Rattle.std.proofs.Common.{◌≡◌, ◌∙◌, sym, ap}
-use Rattle.calc_session.proofs.Shared.{root_kind, tree_of}
-use Rattle.calc_session.proofs.EvaluationLemmas.{undef_by_kind, defined_by_kind}
+use Rattle.calc_session.proofs.{Shared.{root_kind, tree_of}, EvaluationLemmas.{undef_by_kind, defined_by_kind}, evaluating.show.Goals.{After-kind}}
 use Rattle.tree_handles.proofs.Seen.{expression, seen}
-use Rattle.calc_session.proofs.evaluating.show.Goals.{After-kind}
 use Rattle.calc_session.proofs.evaluating.show.Goals as goal
 
 kind_is : (c : After-kind) → c.kind.result ≡ root_kind (tree_of c.args.answer c.args.work.now.pool)

@@ -1,8 +1,8 @@
 use Rattle.std.proofs.Common.{◌≡◌, ◌≤◌, ◌∙◌, true, false, refl, sym, ap, arith}
-use Rattle.calc_session.proofs.Shared.{is_one_fraction, name_of, named, rational, size_of_payload, ratio_of, value_of, num, symbol, mult, none, more, size, AddsAll, added_begin, added_few, adds_free, adds_join, free_of, multiple_of}
+use Rattle.calc_session.proofs.Shared.{is_one_fraction, name_of, named, rational, size_of_payload, ratio_of, value_of, num, symbol, mult, none, more, size, AddsAll, added_begin, added_few, adds_free}
+use Rattle.calc_session.proofs.{Shared.{adds_join, free_of, multiple_of}, PlacingLemmas.{adds_by, adds_node, adds_placed, front_of_all, front_node, not_once, not_one_den, once, tests_one}}
+use Rattle.calc_session.proofs.{PlacingLemmas.{tests_other}, forms.place_multiple.Goals.{else-num-eq1-via-then-num-eq1+else-is_whole, else-num-eq1-via-else-num-eq1}}
 use Rattle.calc_terms.specs.Payload.{bare}
-use Rattle.calc_session.proofs.PlacingLemmas.{adds_by, adds_node, adds_placed, front_of_all, front_node, not_once, not_one_den, once, tests_one, tests_other}
-use Rattle.calc_session.proofs.forms.place_multiple.Goals.{else-num-eq1-via-then-num-eq1+else-is_whole, else-num-eq1-via-else-num-eq1}
 use Rattle.calc_terms.specs.declared.kind.Kind.TheVariants as kind
 use Rattle.calc_session.proofs.forms.place_multiple.Goals as goal
 

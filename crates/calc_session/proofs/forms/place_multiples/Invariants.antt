@@ -1,6 +1,5 @@
 use Rattle.std.proofs.Common.{map}
-use Rattle.calc_session.proofs.Shared.{name_of, entries_of}
-use Rattle.calc_session.proofs.PlacingLemmas.{AreFirst}
+use Rattle.calc_session.proofs.{Shared.{name_of, entries_of}, PlacingLemmas.{AreFirst}}
 use Rattle.calc_session.proofs.forms.place_multiples.Given as goal
 
 abbrev pub invariant-loop-at : goal.invariant-loop-at

@@ -1,5 +1,4 @@
-use Rattle.calc_session.proofs.Shared.{tokens_of}
-use Rattle.calc_session.proofs.ReadLemmas.{read_text}
+use Rattle.calc_session.proofs.{Shared.{tokens_of}, ReadLemmas.{read_text}}
 use Rattle.calc_session.proofs.reading.read_text.Goals as goal
 
 pub refusal_to_read-requires : goal.refusal_to_read-requires

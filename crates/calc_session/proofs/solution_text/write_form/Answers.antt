@@ -1,9 +1,7 @@
 use Rattle.std.proofs.Common.{None, Some, map, arith}
-use Rattle.calc_session.proofs.Shared.{forest, name_of, value_of, entries_of, free_of, keeps_after, given_handed, refuses_after}
-use Rattle.calc_session.proofs.PoolLemmas.{old_below, rolled_back}
-use Rattle.calc_session.proofs.EvaluationLemmas.{front_over}
-use Rattle.calc_session.proofs.FormFaces.{sizes_of_summands}
-use Rattle.calc_session.proofs.SolutionLemmas.{face_room, lacks_room, placed_defined, placed_reduced, shown_expression, shown_room, shown_short, shown_text, shown_writable}
+use Rattle.calc_session.proofs.{Shared.{forest, name_of, value_of, entries_of, free_of, keeps_after, given_handed, refuses_after}, PoolLemmas.{old_below, rolled_back}, EvaluationLemmas.{front_over}}
+use Rattle.calc_session.proofs.{FormFaces.{sizes_of_summands}, SolutionLemmas.{face_room, lacks_room, placed_defined, placed_reduced, shown_expression, shown_room, shown_short, shown_text}}
+use Rattle.calc_session.proofs.SolutionLemmas.{shown_writable}
 use Rattle.calc_session.proofs.solution_text.write_form.Goals as goal
 
 pub returns-in-Err-clause-lacks : goal.returns-in-Err-clause-lacks

@@ -1,6 +1,5 @@
 use Rattle.std.proofs.Common.{◌<◌, ◌∙◌, [], length, map, sym, ap, arith}
-use Rattle.calc_session.proofs.Shared.{length-map, name_of, Content, form_told, line_text, line_texts}
-use Rattle.calc_session.proofs.SolutionLemmas.{all_taken, line_there, lines_are, long_next, many_lines, told_next}
+use Rattle.calc_session.proofs.{Shared.{length-map, name_of, Content, form_told, line_text, line_texts}, SolutionLemmas.{all_taken, line_there, lines_are, long_next, many_lines, told_next}}
 use Rattle.calc_session.proofs.solution_text.write_lines.Goals as goal
 
 pub loop-at-preserved : goal.loop-at-preserved

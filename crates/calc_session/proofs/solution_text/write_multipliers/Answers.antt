@@ -1,6 +1,5 @@
 use Rattle.std.proofs.Common.{◌<◌, ◌∙◌, length, map, codes, ap, arith}
-use Rattle.calc_session.proofs.Shared.{length-map, value_of, Content, entries_of, operand_text}
-use Rattle.calc_session.proofs.SolutionLemmas.{long_next, operand_there, told_next}
+use Rattle.calc_session.proofs.{Shared.{length-map, value_of, Content, entries_of, operand_text}, SolutionLemmas.{long_next, operand_there, told_next}}
 use Rattle.calc_session.proofs.solution_text.write_multipliers.Goals as goal
 
 pub push_operand-requires : goal.push_operand-requires

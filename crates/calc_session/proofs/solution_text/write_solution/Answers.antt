@@ -1,6 +1,5 @@
 use Rattle.std.proofs.Common.{◌≡◌, Ok, List, length, map, sym, ap, subst}
-use Rattle.calc_session.proofs.Shared.{Line, Solution, Form, HoldLaterFreeNames, solved, IfSolved, answer_told, form_told}
-use Rattle.calc_session.proofs.SolutionLemmas.{line_small, on_err}
+use Rattle.calc_session.proofs.{Shared.{Line, Solution, Form, HoldLaterFreeNames, solved, IfSolved, answer_told, form_told}, SolutionLemmas.{line_small, on_err}}
 use Rattle.calc_session.proofs.solution_text.write_solution.Goals as goal
 
 pub write_lines-requires-clause-small : goal.write_lines-requires-clause-small

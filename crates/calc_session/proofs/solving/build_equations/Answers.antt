@@ -1,9 +1,6 @@
-use Rattle.std.proofs.Common.{◌∙◌, ◌+◌, ◌++◌, ℕ, List, [], ◌∷◌, get_or, sym, ap, subst}
-use Rattle.calc_session.proofs.Shared.{err_from_is_err_and, adds_more, EquationRange, fills, free_of, front_after, reason_of, refusal_in}
-use Rattle.std.proofs.lemmas.Grind.{take_at_read}
-use Rattle.calc_session.proofs.BuiltSides.{AreBuilt, built_more, built_none, entries_there, same_built, unmade_at_left, unmade_at_right}
-use Rattle.calc_session.proofs.EvaluationLemmas.{keeps_then}
-use Rattle.calc_session.proofs.PlacingLemmas.{front_of_all}
+use Rattle.std.proofs.{Common.{◌∙◌, ◌+◌, ◌++◌, ℕ, List, [], ◌∷◌, get_or, sym, ap, subst}, lemmas.Grind.{take_at_read}}
+use Rattle.calc_session.proofs.{Shared.{err_from_is_err_and, adds_more, EquationRange, fills, free_of, front_after, reason_of, refusal_in}, BuiltSides.{AreBuilt, built_more, built_none}}
+use Rattle.calc_session.proofs.{BuiltSides.{entries_there, same_built, unmade_at_left, unmade_at_right}, EvaluationLemmas.{keeps_then}, PlacingLemmas.{front_of_all}}
 use Rattle.calc_session.proofs.RangeLemmas.{pieces_behind, reads_at}
 use Rattle.calc_session.proofs.solving.build_equations.Goals as goal
 

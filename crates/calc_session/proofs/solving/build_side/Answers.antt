@@ -1,7 +1,5 @@
 use Rattle.std.proofs.Common.{◌+◌, None}
-use Rattle.calc_session.proofs.Shared.{err_from_is_err_and}
-use Rattle.calc_session.proofs.SideLemmas.{builds_side, side_line}
-use Rattle.calc_session.proofs.TextLemmas.{read_at_all}
+use Rattle.calc_session.proofs.{Shared.{err_from_is_err_and}, SideLemmas.{builds_side, side_line}, TextLemmas.{read_at_all}}
 use Rattle.calc_session.proofs.solving.build_side.Goals as goal
 
 pub build_and_fill-requires-clause-line : goal.build_and_fill-requires-clause-line

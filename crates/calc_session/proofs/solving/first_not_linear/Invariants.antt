@@ -1,5 +1,4 @@
-use Rattle.calc_session.proofs.Shared.{forest}
-use Rattle.calc_session.proofs.SolvingLemmas.{AreLinearUpTo}
+use Rattle.calc_session.proofs.{Shared.{forest}, SolvingLemmas.{AreLinearUpTo}}
 use Rattle.calc_session.proofs.solving.first_not_linear.Given as goal
 
 abbrev pub invariant-loop-at : goal.invariant-loop-at

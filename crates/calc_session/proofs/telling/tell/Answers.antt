@@ -1,8 +1,6 @@
 use Rattle.std.proofs.Common.{◌≡◌, ◌∙◌, ◌++◌, ℕ, List, refl, sym, ap, length, subst, arith}
-use Rattle.calc_session.proofs.Shared.{IsWritable, text, Content, plain, Forest, Gives, tree_of, tree_at, forest, given_told, Tells, HasFace}
-use Rattle.calc_session.proofs.EvaluationLemmas.{gives_told}
-use Rattle.calc_session.proofs.SessionLemmas.{face_expression, face_room, face_tree}
-use Rattle.calc_session.proofs.telling.tell.Goals.{After-id}
+use Rattle.calc_session.proofs.{Shared.{IsWritable, text, Content, plain, Forest, Gives, tree_of, tree_at, forest, given_told, Tells, HasFace}, EvaluationLemmas.{gives_told}}
+use Rattle.calc_session.proofs.{SessionLemmas.{face_expression, face_room, face_tree}, telling.tell.Goals.{After-id}}
 use Rattle.calc_session.specs.declared.answers.LineAnswer.TheVariants as answer
 use Rattle.calc_session.proofs.telling.tell.Goals as goal
 

@@ -1,6 +1,5 @@
 use Rattle.std.proofs.Common.{◌∙◌, ap, sym}
-use Rattle.calc_session.proofs.Shared.{signed_decimal, ratio_of, Content, extended, denominator_text}
-use Rattle.calc_session.proofs.ReplyLemmas.{extended_twice, text_of_operand}
+use Rattle.calc_session.proofs.{Shared.{signed_decimal, ratio_of, Content, extended, denominator_text}, ReplyLemmas.{extended_twice, text_of_operand}}
 use Rattle.calc_session.proofs.text.push_operand.Goals as goal
 
 pub returns-clause-value : goal.returns-clause-value

@@ -1,5 +1,4 @@
-use Rattle.calc_terms.proofs.Shared.{same_lowest}
-use Rattle.calc_terms.proofs.FractionFacts.{cross_products}
+use Rattle.calc_terms.proofs.{Shared.{same_lowest}, FractionFacts.{cross_products}}
 use Rattle.calc_terms.proofs.laws.equal_fractions.Goals as goal
 
 pub returns-clause-equal : goal.returns-clause-equal

@@ -1,5 +1,4 @@
-use Rattle.calc_terms.proofs.Shared.{arith}
-use Rattle.calc_terms.proofs.Sizes.{told_by, told_long, told_more, told_short, told_two}
+use Rattle.calc_terms.proofs.{Shared.{arith}, Sizes.{told_by, told_long, told_more, told_short, told_two}}
 use Rattle.calc_terms.proofs.leaf.size_by_code.Goals as goal
 
 pub returns-then-code-gt2 : goal.returns-then-code-gt2

@@ -1,5 +1,4 @@
-use Rattle.child_lists.proofs.Shared.{subst, IsNextAt, next_adopted, last_root, other_root, other_apart, apart, eqb-sym}
-use Rattle.child_lists.proofs.PutBefore.{kept_child, put_next, put_last}
+use Rattle.child_lists.proofs.{Shared.{subst, IsNextAt, next_adopted, last_root, other_root, other_apart, apart, eqb-sym}, PutBefore.{kept_child, put_next, put_last}}
 use Rattle.child_lists.proofs.placing.put_before.Goals as goal
 
 pub add_before-requires-clause-known : goal.add_before-requires-clause-known

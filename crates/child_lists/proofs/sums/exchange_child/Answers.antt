@@ -1,9 +1,7 @@
-use Rattle.child_lists.proofs.Shared.{rules, ◌≡◌, ◌<◌, ℕ, inl, refl, sym, ap, ◌∙◌, subst, arith, Some, slice_set, Tree, add, count, more, none, removed, IsChildAt, root_ids, children_of}
-use Rattle.child_lists.proofs.Shared.{inserted, plain, Forest, kids, set_nth, tree_nth, Ends, kids_of, put, root_tree, without_root, forest, behind_first, behind_later, front_at, front_put}
-use Rattle.child_lists.proofs.Shared.{front_same, front_without, given_handed, given_other, given_root, given_same, given_told, gives_as, last_rest, last_root, last_tree, expression, seen}
-use Rattle.child_lists.proofs.ListedChildren.{ids_exchanged, lists_at, lists_other}
-use Rattle.child_lists.proofs.LastSums.{many_kids, next_before, sum_is, taken_owned, exchanged_child}
-use Rattle.child_lists.proofs.sums.exchange_child.Given.{Over}
+use Rattle.child_lists.proofs.Shared.{rules, ◌≡◌, ◌<◌, ℕ, inl, refl, sym, ap, ◌∙◌, subst, arith, Some, slice_set, Tree, add, count, more, none, removed, IsChildAt, root_ids, children_of, inserted}
+use Rattle.child_lists.proofs.Shared.{plain, Forest, kids, set_nth, tree_nth, Ends, kids_of, put, root_tree, without_root, forest, behind_first, behind_later, front_at, front_put, front_same}
+use Rattle.child_lists.proofs.Shared.{front_without, given_handed, given_other, given_root, given_same, given_told, gives_as, last_rest, last_root, last_tree, expression, seen}
+use Rattle.child_lists.proofs.{ListedChildren.{ids_exchanged, lists_at, lists_other}, LastSums.{many_kids, next_before, sum_is, taken_owned, exchanged_child}, sums.exchange_child.Given.{Over}}
 use Rattle.child_lists.proofs.sums.exchange_child.Goals.{After-id-id, After-release, After-replace_known_child-gone}
 use Rattle.child_lists.proofs.sums.exchange_child.Goals as goal
 

@@ -1,11 +1,7 @@
 use Rattle.child_lists.proofs.Shared.{rules, ◌≡◌, ◌≤◌, ℕ, refl, sym, ap, ◌∙◌, subst, arith, Tree, add, count, more, none, IsNextAt, root_ids, children_of, inserted, plain, Forest, arity, kids}
 use Rattle.child_lists.proofs.Shared.{root_id, with_nth, kids_of, put, root_tree, without_root, forest, behind_first, behind_later, front_at, front_put, front_same, front_without, given_handed}
-use Rattle.child_lists.proofs.Shared.{given_other, given_root, given_same, given_told, gives_as, last_tree, expression, seen, insert}
-use Rattle.child_lists.proofs.ListedChildren.{ids_with, lists_at, lists_more}
-use Rattle.child_lists.proofs.PutBefore.{put_as}
-use Rattle.child_lists.proofs.LastSums.{many_kids, next_before, sum_is, inserted_child}
-use Rattle.child_lists.proofs.sums.insert_child.Given.{Over}
-use Rattle.child_lists.proofs.sums.insert_child.Goals.{After-put_before}
+use Rattle.child_lists.proofs.{Shared.{given_other, given_root, given_same, given_told, gives_as, last_tree, expression, seen, insert}, ListedChildren.{ids_with, lists_at, lists_more}}
+use Rattle.child_lists.proofs.{PutBefore.{put_as}, LastSums.{many_kids, next_before, sum_is, inserted_child}, sums.insert_child.Given.{Over}, sums.insert_child.Goals.{After-put_before}}
 use Rattle.child_lists.proofs.sums.insert_child.Goals as goal
 
 pub next_child-next-requires : goal.next_child-next-requires

@@ -1,8 +1,6 @@
 use Rattle.child_lists.proofs.Shared.{rules, ◌<◌, ℕ, inl, sym, ◌∙◌, subst, arith, Tree, count, kept_after, IsChildAt, children_of, kids, tree_nth, without_nth, Ends, put, root_tree, forest}
 use Rattle.child_lists.proofs.Shared.{behind_first, front_same, front_at, front_put, given_root, given_handed, last_root, last_rest, expression, seen, given_told}
-use Rattle.child_lists.proofs.ListedChildren.{ids_without, lists_at, lists_less}
-use Rattle.child_lists.proofs.LastSums.{many_kids, removed_free, taken_owned, sum_is, removed_child}
-use Rattle.child_lists.proofs.sums.remove_child.Given.{Over}
+use Rattle.child_lists.proofs.{ListedChildren.{ids_without, lists_at, lists_less}, LastSums.{many_kids, removed_free, taken_owned, sum_is, removed_child}, sums.remove_child.Given.{Over}}
 use Rattle.child_lists.proofs.sums.remove_child.Goals.{After-release}
 use Rattle.child_lists.proofs.sums.remove_child.Goals as goal
 

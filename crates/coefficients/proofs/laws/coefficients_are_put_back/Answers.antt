@@ -1,5 +1,4 @@
-use Rattle.coefficients.proofs.Shared.{number_test, coefficient_of}
-use Rattle.coefficients.proofs.Coefficients.{taken}
+use Rattle.coefficients.proofs.{Shared.{number_test, coefficient_of}, Coefficients.{taken}}
 use Rattle.coefficients.proofs.laws.coefficients_are_put_back.Goals as goal
 
 pub returns : goal.returns

@@ -1,6 +1,4 @@
-use Rattle.coefficients.proofs.Shared.{number_words, keeps}
-use Rattle.coefficients.proofs.Coefficients.{put_reduces}
-use Rattle.coefficients.proofs.Keeps.{coefficient_keeps}
+use Rattle.coefficients.proofs.{Shared.{number_words, keeps}, Coefficients.{put_reduces}, Keeps.{coefficient_keeps}}
 use Rattle.coefficients.proofs.laws.coefficients_keep_meanings.Goals as goal
 
 pub returns : goal.returns

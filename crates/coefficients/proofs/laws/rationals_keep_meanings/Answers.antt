@@ -1,5 +1,4 @@
-use Rattle.coefficients.proofs.Shared.{keeps}
-use Rattle.coefficients.proofs.Keeps.{term_keeps, sum_keeps}
+use Rattle.coefficients.proofs.{Shared.{keeps}, Keeps.{term_keeps, sum_keeps}}
 use Rattle.coefficients.proofs.laws.rationals_keep_meanings.Goals as goal
 
 pub returns : goal.returns

@@ -1,11 +1,8 @@
 use Rattle.coefficients.proofs.Shared.{rules, ◌≡◌, ◌+◌, ◌^◌, ◌<◌, length, ap, ◌∙◌, refl, sym, subst, arith, value_of, is_reduced, keeps_none, keeps_after, given_handed, given_told}
-use Rattle.coefficients.proofs.Shared.{rational_times_term, leads_sum, count, changes_front, changes_last, changes_last_front, children_told, children_of, front_again, hole_stays, LeadsTerm}
-use Rattle.coefficients.proofs.Shared.{LeadsIn, counted, SpansTree, Tree, add, append, more, size, put_room, OfFull, free_of, tree_of}
-use Rattle.coefficients.proofs.Loops.{IsNext, next_at, sum_row, none_done, part_within, part_told, part_next, part_all, part_free, term_reduced}
-use Rattle.coefficients.proofs.Named.{passed_named, multiple_of, leads_behind}
-use Rattle.coefficients.proofs.Lacks.{passed_lacks, factor_of, sum_whole}
-use Rattle.coefficients.proofs.Rooms.{term_lacks, spanned_sum, spans_at}
-use Rattle.coefficients.proofs.multiples.distribute.Goals.{After-children-terms, After-open_child-hole}
+use Rattle.coefficients.proofs.Shared.{rational_times_term, leads_sum, count, changes_front, changes_last, changes_last_front, children_told, children_of, front_again, hole_stays, LeadsTerm, LeadsIn}
+use Rattle.coefficients.proofs.{Shared.{counted, SpansTree, Tree, add, append, more, size, put_room, OfFull, free_of, tree_of}, Loops.{IsNext, next_at, sum_row, none_done, part_within, part_told}}
+use Rattle.coefficients.proofs.{Loops.{part_next, part_all, part_free, term_reduced}, Named.{passed_named, multiple_of, leads_behind}, Lacks.{passed_lacks, factor_of, sum_whole}}
+use Rattle.coefficients.proofs.{Rooms.{term_lacks, spanned_sum, spans_at}, multiples.distribute.Goals.{After-children-terms, After-open_child-hole}}
 use Rattle.tree_room.specs.Needs as need
 use Rattle.coefficients.proofs.multiples.distribute.Goals as goal
 

@@ -1,5 +1,4 @@
-use Rattle.coefficients.proofs.Shared.{KeepsRefusals, Stands, add, children_of, forest, rational_times_term, tree_of, value_of}
-use Rattle.coefficients.proofs.Loops.{IsPart}
+use Rattle.coefficients.proofs.{Shared.{KeepsRefusals, Stands, add, children_of, forest, rational_times_term, tree_of, value_of}, Loops.{IsPart}}
 use Rattle.coefficients.proofs.multiples.distribute.Given as goal
 
 abbrev pub invariant-loop-at : goal.invariant-loop-at

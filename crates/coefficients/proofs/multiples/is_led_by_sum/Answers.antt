@@ -1,6 +1,4 @@
-use Rattle.coefficients.proofs.Shared.{◌≡◌, ◌∙◌, sym, subst, arith, true, is_reduced, Tree, forest, product_kind}
-use Rattle.coefficients.proofs.Lengths.{long}
-use Rattle.coefficients.proofs.Places.{two_children}
+use Rattle.coefficients.proofs.{Shared.{◌≡◌, ◌∙◌, sym, subst, arith, true, is_reduced, Tree, forest, product_kind}, Lengths.{long}, Places.{two_children}}
 use Rattle.coefficients.proofs.multiples.is_led_by_sum.Goals as goal
 
 pub child_id-first-requires-clause-within : goal.child_id-first-requires-clause-within

@@ -1,6 +1,5 @@
 use Rattle.coefficients.proofs.Shared.{ap, ◌∙◌, ◌+◌, ◌≤◌, sym, subst, arith, rational, ratio_of, value_of, Tree, num, mult, more, size, children_of, behind_first, behind_new, front_after_one}
-use Rattle.coefficients.proofs.Shared.{front_same, front_without, gives_as, given_told, given_rest, if_map, refusal_as, tree_of}
-use Rattle.coefficients.proofs.Free.{as_product_size, number_refused, product_free}
+use Rattle.coefficients.proofs.{Shared.{front_same, front_without, gives_as, given_told, given_rest, if_map, refusal_as, tree_of}, Free.{as_product_size, number_refused, product_free}}
 use Rattle.coefficients.proofs.multiples.put_before.Goals as goal
 
 pub returns-clause-ok : goal.returns-clause-ok

@@ -1,9 +1,6 @@
 use Rattle.coefficients.proofs.Shared.{ap, ◌∙◌, sym, refl, arith, released_free, rational, ratio_of, value_of, Fraction, num, Leads, IsMultiple, tree_of, behind_first, front_after, front_at}
-use Rattle.coefficients.proofs.Shared.{front_same, front_without, gives_as, owned, seen, kind_of_root, product_kind, if_map}
-use Rattle.coefficients.proofs.Named.{named, multiple_named, leads_number}
-use Rattle.coefficients.proofs.LedFactors.{times_number, times_product, times_other}
-use Rattle.coefficients.proofs.Free.{number_refused}
-use Rattle.coefficients.proofs.Lacks.{refusal_lacks}
+use Rattle.coefficients.proofs.{Shared.{front_same, front_without, gives_as, owned, seen, kind_of_root, product_kind, if_map}, Named.{named, multiple_named, leads_number}}
+use Rattle.coefficients.proofs.{LedFactors.{times_number, times_product, times_other}, Free.{number_refused}, Lacks.{refusal_lacks}}
 use Rattle.coefficients.proofs.multiples.rational_times.Goals as goal
 
 pub returns-in_err-number-in-Num-clause-front : goal.returns-in_err-number-in-Num-clause-front

@@ -1,12 +1,8 @@
-use Rattle.coefficients.proofs.Shared.{rules, ◌≤◌, ap, ◌∙◌, sym, subst, arith, inl, refl, released_free, sizes, IsTaken, IsAdded, rational, ratio_of, value_of, product_tree, Tree, num, mult}
-use Rattle.coefficients.proofs.Shared.{more, count, is_mult, root_kind, Fraction, Leads, IsMultiple, tree_of, children_of, without_root, forest, behind_first, front_after_one, gives_as}
-use Rattle.coefficients.proofs.Shared.{given_handed, given_root, owned, over_product, over_handed, over_plain, without_put, children_at, expression}
-use Rattle.coefficients.proofs.Named.{named, multiple_named, leads_children}
-use Rattle.coefficients.proofs.LedFactors.{IsRationalLed, first_led, first_seen, led_taken, led_dropped, added_front, times_to_one, times_to_other, times_unled}
-use Rattle.coefficients.proofs.Lengths.{long}
-use Rattle.coefficients.proofs.Free.{taken_free, number_refused}
-use Rattle.coefficients.proofs.Lacks.{refusal_lacks}
-use Rattle.coefficients.proofs.multiples.rational_times_factors.Goals.{After-take_child-old, After-release}
+use Rattle.coefficients.proofs.Shared.{rules, ◌≤◌, ap, ◌∙◌, sym, subst, arith, inl, refl, released_free, sizes, IsTaken, IsAdded, rational, ratio_of, value_of, product_tree, Tree, num, mult, more}
+use Rattle.coefficients.proofs.Shared.{count, is_mult, root_kind, Fraction, Leads, IsMultiple, tree_of, children_of, without_root, forest, behind_first, front_after_one, gives_as, given_handed}
+use Rattle.coefficients.proofs.{Shared.{given_root, owned, over_product, over_handed, over_plain, without_put, children_at, expression}, Named.{named, multiple_named, leads_children}}
+use Rattle.coefficients.proofs.{LedFactors.{IsRationalLed, first_led, first_seen, led_taken, led_dropped, added_front, times_to_one, times_to_other, times_unled}, Lengths.{long}}
+use Rattle.coefficients.proofs.{Free.{taken_free, number_refused}, Lacks.{refusal_lacks}, multiples.rational_times_factors.Goals.{After-take_child-old, After-release}}
 use Rattle.calc_terms.specs.declared.kind.Kind.TheVariants as kind
 use Rattle.coefficients.proofs.multiples.rational_times_factors.Goals as goal
 

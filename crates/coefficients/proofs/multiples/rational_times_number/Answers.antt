@@ -1,10 +1,7 @@
 use Rattle.coefficients.proofs.Shared.{rules, ◌≡◌, ◌+◌, ◌*◌, ◌^◌, ◌<◌, length, ap, ◌∙◌, refl, sym, subst, arith, value_of, is_reduced, keeps_none, keeps_after, given_handed, given_told}
 use Rattle.coefficients.proofs.Shared.{rational_times, count, changes_front, changes_last, changes_last_front, children_told, children_of, front_again, hole_stays, Leads, LeadsIn, is_number}
-use Rattle.coefficients.proofs.Shared.{SpansTree, Tree, add, size, free_of, tree_of}
-use Rattle.coefficients.proofs.Loops.{IsNext, next_at, sum_row, none_done, part_within, part_told, part_next, part_all, part_free, term_reduced}
-use Rattle.coefficients.proofs.Named.{passed_named, multiple_of, leads_behind}
-use Rattle.coefficients.proofs.Lacks.{passed_lacks, factor_of, sum_whole}
-use Rattle.coefficients.proofs.Rooms.{number_lacks}
+use Rattle.coefficients.proofs.{Shared.{SpansTree, Tree, add, size, free_of, tree_of}, Loops.{IsNext, next_at, sum_row, none_done, part_within, part_told, part_next, part_all, part_free}}
+use Rattle.coefficients.proofs.{Loops.{term_reduced}, Named.{passed_named, multiple_of, leads_behind}, Lacks.{passed_lacks, factor_of, sum_whole}, Rooms.{number_lacks}}
 use Rattle.coefficients.proofs.multiples.rational_times_number.Goals.{After-children-terms, After-open_child-hole}
 use Rattle.coefficients.proofs.multiples.rational_times_number.Goals as goal
 

@@ -1,5 +1,4 @@
-use Rattle.coefficients.proofs.Shared.{KeepsRefusals, Stands, add, children_of, forest, rational_times, tree_of, value_of}
-use Rattle.coefficients.proofs.Loops.{IsPart}
+use Rattle.coefficients.proofs.{Shared.{KeepsRefusals, Stands, add, children_of, forest, rational_times, tree_of, value_of}, Loops.{IsPart}}
 use Rattle.coefficients.proofs.multiples.rational_times_number.Given as goal
 
 abbrev pub invariant-loop-at : goal.invariant-loop-at

@@ -1,11 +1,8 @@
 use Rattle.coefficients.proofs.Shared.{true≢false, rules, ◌≡◌, ap, ◌∙◌, sym, refl, subst, arith, ◌+◌, ◌^◌, ◌<◌, length, tree_of, forest, value_of, is_reduced, Tree, add, count, is_add, size}
 use Rattle.coefficients.proofs.Shared.{children_of, nth, gives_as, given_handed, given_told, leads_sum, rational_times_number, rational_times_term, ChangesTree, changes_as, changes_last}
 use Rattle.coefficients.proofs.Shared.{changes_last_front, hole_stays, set_child, Leads, LeadsIn, expression, seen, if_map, is_number, counted, SpansTree, free_of}
-use Rattle.coefficients.proofs.Named.{passed_named, multiple_of, leads_coefficient}
-use Rattle.coefficients.proofs.LedFactors.{IsSumLed, sum_led, led_children, led_reduced, times_led, times_sum_unled}
-use Rattle.coefficients.proofs.Lacks.{passed_lacks}
-use Rattle.coefficients.proofs.Rooms.{coefficient_lacks}
-use Rattle.coefficients.proofs.multiples.rational_times_term.Goals.{After-open_child-hole, After-fill}
+use Rattle.coefficients.proofs.{Named.{passed_named, multiple_of, leads_coefficient}, LedFactors.{IsSumLed, sum_led, led_children, led_reduced, times_led, times_sum_unled}, Lacks.{passed_lacks}}
+use Rattle.coefficients.proofs.{Rooms.{coefficient_lacks}, multiples.rational_times_term.Goals.{After-open_child-hole, After-fill}}
 use Rattle.tree_room.specs.Needs as need
 use Rattle.coefficients.proofs.multiples.rational_times_term.Goals as goal
 

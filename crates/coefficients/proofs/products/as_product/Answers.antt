@@ -1,8 +1,5 @@
-use Rattle.coefficients.proofs.Shared.{◌∙◌, ap, refl, sym, mult, behind_first, front_same, front_end, front_without, gives, represents_handed, kind_of_root, product_kind, no_product_kind}
-use Rattle.coefficients.proofs.Shared.{gives_as, if_map}
-use Rattle.coefficients.proofs.Bytes.{product_bytes, other_bytes, always, no_bytes, as_bytes}
-use Rattle.coefficients.proofs.Factors.{single_factors}
-use Rattle.coefficients.proofs.Steps.{product_factors}
+use Rattle.coefficients.proofs.Shared.{◌∙◌, ap, refl, sym, mult, behind_first, front_same, front_end, front_without, gives, represents_handed, kind_of_root, product_kind, no_product_kind, gives_as}
+use Rattle.coefficients.proofs.{Shared.{if_map}, Bytes.{product_bytes, other_bytes, always, no_bytes, as_bytes}, Factors.{single_factors}, Steps.{product_factors}}
 use Rattle.coefficients.proofs.products.as_product.Goals as goal
 
 pub returns-in-Mult-clause-ok : goal.returns-in-Mult-clause-ok

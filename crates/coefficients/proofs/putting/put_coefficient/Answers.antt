@@ -1,10 +1,7 @@
 use Rattle.coefficients.proofs.Shared.{◌∙◌, sym, ap, refl, ◌^◌, length, subst, arith, released_free, is_reduced, plain, Forest, root_tree, without_root, forest, behind_first, behind_later}
-use Rattle.coefficients.proofs.Shared.{front_after_one, front_at, front_same, front_without, gives_as, handed_at, handed_beside, owned, eqb-sym, if_map, tree-without, without-swap}
-use Rattle.coefficients.proofs.Shared.{with_coefficient, seen, kind_of_root, counted, SpansTree, Tree, size, put_room, free_of, refused_below, tree_of}
-use Rattle.coefficients.proofs.Named.{result_named, put_as}
-use Rattle.coefficients.proofs.Puttings.{on_ok_after, fault_after, with_irrational}
-use Rattle.coefficients.proofs.Lacks.{refusal_lacks, result_lacks}
-use Rattle.coefficients.proofs.Rooms.{both_lack}
+use Rattle.coefficients.proofs.Shared.{front_after_one, front_at, front_same, front_without, gives_as, handed_at, handed_beside, owned, eqb-sym, if_map, tree-without, without-swap, with_coefficient}
+use Rattle.coefficients.proofs.{Shared.{seen, kind_of_root, counted, SpansTree, Tree, size, put_room, free_of, refused_below, tree_of}, Named.{result_named, put_as}}
+use Rattle.coefficients.proofs.{Puttings.{on_ok_after, fault_after, with_irrational}, Lacks.{refusal_lacks, result_lacks}, Rooms.{both_lack}}
 use Rattle.coefficients.proofs.putting.put_coefficient.Goals as goal
 
 pub put_rational-requires-clause-handed : goal.put_rational-requires-clause-handed

@@ -1,8 +1,5 @@
-use Rattle.coefficients.proofs.Shared.{◌∙◌, sym, refl, value_of, gives_as, kind_of_root, sum_kind, no_sum_kind, if_map, free_of, tree_of}
-use Rattle.coefficients.proofs.Named.{result_named, names_sum}
-use Rattle.coefficients.proofs.Puttings.{before_sum, before_other}
-use Rattle.coefficients.proofs.Lacks.{refusal_lacks}
-use Rattle.coefficients.proofs.Rooms.{part_lacks}
+use Rattle.coefficients.proofs.{Shared.{◌∙◌, sym, refl, value_of, gives_as, kind_of_root, sum_kind, no_sum_kind, if_map, free_of, tree_of}, Named.{result_named, names_sum}}
+use Rattle.coefficients.proofs.{Puttings.{before_sum, before_other}, Lacks.{refusal_lacks}, Rooms.{part_lacks}}
 use Rattle.coefficients.proofs.putting.put_other_rational.Goals as goal
 
 pub distribute-requires-clause-sum : goal.distribute-requires-clause-sum

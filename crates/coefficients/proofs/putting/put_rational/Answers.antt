@@ -1,9 +1,6 @@
-use Rattle.coefficients.proofs.Shared.{◌∙◌, sym, ap, refl, arith, released_free, rational, ratio_of, value_of, num, behind_first, front_after, front_at, front_end, front_same, front_without}
-use Rattle.coefficients.proofs.Shared.{gives, gives_as, owned, represents_handed, if_map, counted, tree_of, zero_value}
-use Rattle.coefficients.proofs.Puttings.{with_zero, with_one, with_other}
-use Rattle.coefficients.proofs.Free.{number_refused}
-use Rattle.coefficients.proofs.Lacks.{refusal_lacks}
-use Rattle.coefficients.proofs.Rooms.{few_for_put}
+use Rattle.coefficients.proofs.Shared.{◌∙◌, sym, ap, refl, arith, released_free, rational, ratio_of, value_of, num, behind_first, front_after, front_at, front_end, front_same, front_without, gives}
+use Rattle.coefficients.proofs.{Shared.{gives_as, owned, represents_handed, if_map, counted, tree_of, zero_value}, Puttings.{with_zero, with_one, with_other}, Free.{number_refused}}
+use Rattle.coefficients.proofs.{Lacks.{refusal_lacks}, Rooms.{few_for_put}}
 use Rattle.coefficients.proofs.putting.put_rational.Goals as goal
 
 pub returns-in_err-number-clause-front : goal.returns-in_err-number-clause-front

@@ -1,5 +1,4 @@
-use Rattle.coefficients.proofs.Shared.{forest, apart, root_held}
-use Rattle.coefficients.proofs.FirstFactors.{first_factor, first_last, last_front}
+use Rattle.coefficients.proofs.{Shared.{forest, apart, root_held}, FirstFactors.{first_factor, first_last, last_front}}
 use Rattle.coefficients.proofs.splicing.put_factor.Goals as goal
 
 pub add_child-requires-clause-live : goal.add_child-requires-clause-live

@@ -1,5 +1,4 @@
-use Rattle.coefficients.proofs.Shared.{forest, apart, root_held}
-use Rattle.coefficients.proofs.FirstFactors.{first_factor, first_last, last_front, first_alone, first_within, first_merged}
+use Rattle.coefficients.proofs.{Shared.{forest, apart, root_held}, FirstFactors.{first_factor, first_last, last_front, first_alone, first_within, first_merged}}
 use Rattle.coefficients.proofs.splicing.put_factors.Goals as goal
 
 pub add_child-requires-clause-live : goal.add_child-requires-clause-live

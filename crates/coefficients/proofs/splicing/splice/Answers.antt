@@ -1,8 +1,6 @@
 use Rattle.coefficients.proofs.Shared.{rules, ◌∙◌, ap, sym, Trees, mult, more, append, is_mult, plain, children_of, root_tree, forest, keeps_after, behind_first, behind_later, behind_new}
 use Rattle.coefficients.proofs.Shared.{front_after_one, front_after_two, front_same, front_without, gives_as, given_handed, given_other, given_apart, given_same, given_told, given_without}
-use Rattle.coefficients.proofs.Shared.{handed_beside, eqb-sym, tree-without, factors_of, kind_of_root, product_kind, no_product_kind}
-use Rattle.coefficients.proofs.Factors.{single_factors}
-use Rattle.coefficients.proofs.FirstFactors.{product_children}
+use Rattle.coefficients.proofs.{Shared.{handed_beside, eqb-sym, tree-without, factors_of, kind_of_root, product_kind, no_product_kind}, Factors.{single_factors}, FirstFactors.{product_children}}
 use Rattle.coefficients.proofs.splicing.splice.Goals as goal
 
 pub put_factors-spliced-requires : goal.put_factors-spliced-requires

@@ -1,5 +1,4 @@
-use Rattle.coefficients.proofs.Shared.{refl, ◌≡◌, true, sym, ap, ◌∙◌, subst, arith, is_number, is_reduced, Tree}
-use Rattle.coefficients.proofs.Lengths.{long}
+use Rattle.coefficients.proofs.{Shared.{refl, ◌≡◌, true, sym, ap, ◌∙◌, subst, arith, is_number, is_reduced, Tree}, Lengths.{long}}
 use Rattle.coefficients.proofs.taking.coefficient_length.Goals as goal
 
 pub is_reduced_number-requires-clause-reduced : goal.is_reduced_number-requires-clause-reduced

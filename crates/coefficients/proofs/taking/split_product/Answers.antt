@@ -1,5 +1,4 @@
-use Rattle.coefficients.proofs.Shared.{behind_first, front_same, front_end, front_put, front_without, over_product, over_put, over_end}
-use Rattle.coefficients.proofs.Steps.{leaves_two}
+use Rattle.coefficients.proofs.{Shared.{behind_first, front_same, front_end, front_put, front_without, over_product, over_put, over_end}, Steps.{leaves_two}}
 use Rattle.coefficients.proofs.taking.split_product.Goals as goal
 
 pub move_last-requires-clause-root : goal.move_last-requires-clause-root

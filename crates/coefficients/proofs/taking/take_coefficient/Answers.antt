@@ -1,8 +1,7 @@
 use Rattle.coefficients.proofs.Shared.{rules, ◌≤◌, ◌∙◌, ap, refl, sym, subst, gives_without, product_tree, Tree, num, count, is_mult, plain, children_of, keeps_none, keeps_after, behind_first}
 use Rattle.coefficients.proofs.Shared.{behind_new, front_after_one, front_same, front_end, front_without, gives, gives_as, given_handed, given_other, given_rest, given_same, given_told}
-use Rattle.coefficients.proofs.Shared.{represents_handed, other_root, without_root, forest, kind_of_root, product_kind, no_product_kind}
-use Rattle.coefficients.proofs.Bytes.{taking_product, taking_other, as_bytes, never, refused_once, short, short_as, passed_short}
-use Rattle.coefficients.proofs.Lengths.{some_factors, product_coefficient, product_part, other_coefficient, other_part}
+use Rattle.coefficients.proofs.{Shared.{represents_handed, other_root, without_root, forest, kind_of_root, product_kind, no_product_kind}, Bytes.{taking_product, taking_other, as_bytes, never}}
+use Rattle.coefficients.proofs.{Bytes.{refused_once, short, short_as, passed_short}, Lengths.{some_factors, product_coefficient, product_part, other_coefficient, other_part}}
 use Rattle.coefficients.proofs.Steps.{one_value, one_size}
 use Rattle.coefficients.proofs.taking.take_coefficient.Goals as goal
 

@@ -1,10 +1,8 @@
-use Rattle.coefficients.proofs.Shared.{rules, ◌≡◌, ℕ, ◌∙◌, ap, refl, sym, subst, arith, root, Fraction, Split, is_reduced, num_one, Trees, num, is_mult, Forest, kids, Represents, Gives}
-use Rattle.coefficients.proofs.Shared.{root_tree, forest, behind_first, front_end, front_put, front_same, gives_as, put-same, LeavesRest, keeps_after, IsOver, over_product, children_in}
-use Rattle.coefficients.proofs.Shared.{expression, seen, if_map, refusal_as, first_handed, given_handed, pair_apart, pair_rest, front_after_two, behind_new}
-use Rattle.coefficients.proofs.Bytes.{none_bytes, one_bytes, two_bytes, pair_free, always, no_bytes, as_bytes, short, result_short}
-use Rattle.coefficients.proofs.Lengths.{long, measured}
-use Rattle.coefficients.proofs.Steps.{IsFirstTaken, IsPairTaken, length_seen, leaves_one, first_taken, pair_taken, pair_front, one_value, one_size, pair_tree}
-use Rattle.coefficients.proofs.taking.take_leading.Goals.{After-take_child-root}
+use Rattle.coefficients.proofs.Shared.{rules, ◌≡◌, ℕ, ◌∙◌, ap, refl, sym, subst, arith, root, Fraction, Split, is_reduced, num_one, Trees, num, is_mult, Forest, kids, Represents, Gives, root_tree}
+use Rattle.coefficients.proofs.Shared.{forest, behind_first, front_end, front_put, front_same, gives_as, put-same, LeavesRest, keeps_after, IsOver, over_product, children_in, expression, seen, if_map}
+use Rattle.coefficients.proofs.{Shared.{refusal_as, first_handed, given_handed, pair_apart, pair_rest, front_after_two, behind_new}, Bytes.{none_bytes, one_bytes, two_bytes, pair_free, always}}
+use Rattle.coefficients.proofs.{Bytes.{no_bytes, as_bytes, short, result_short}, Lengths.{long, measured}, Steps.{IsFirstTaken, IsPairTaken, length_seen, leaves_one, first_taken, pair_taken}}
+use Rattle.coefficients.proofs.{Steps.{pair_front, one_value, one_size, pair_tree}, taking.take_leading.Goals.{After-take_child-root}}
 use Rattle.calc_terms.specs.declared.kind.Kind.TheVariants as kind
 use Rattle.coefficients.proofs.taking.take_leading.Goals as goal
 

@@ -1,11 +1,8 @@
 use Rattle.std.proofs.Common.{◌≡◌, false, length, ◌<◌, ◌+◌, ◌^◌, rules, sym, ap, ◌∙◌, subst, refl, arith}
-use Rattle.deep_reduce.proofs.Shared.{are_reduced, SpansTree, bare, size_of_payload, Tree, Trees, Kind, size, has_undef, takes_kind, IsCalmAtZero, HoldsNode, both_replaced_free, refused_below, passed_on, free_of, Gives, tree_of, without_root, forest, children_of, compound, gives, given_handed, given_other, given_rest, given_told, represents_handed, joined_by, joined_room}
-use Rattle.deep_reduce.proofs.Connected.{children_joined, joined_lacks, takes_two}
-use Rattle.deep_reduce.proofs.Lacking.{result_lacks}
-use Rattle.deep_reduce.proofs.Results.{answer_as, overflow_as}
-use Rattle.deep_reduce.proofs.Sides.{apart_second, joined_front}
-use Rattle.deep_reduce.proofs.Steps.{two}
-use Rattle.deep_reduce.proofs.Told.{answer_at, overflow_at, two_reduced}
+use Rattle.deep_reduce.proofs.Shared.{are_reduced, SpansTree, bare, size_of_payload, Tree, Trees, Kind, size, has_undef, takes_kind, IsCalmAtZero, HoldsNode, both_replaced_free, refused_below}
+use Rattle.deep_reduce.proofs.Shared.{passed_on, free_of, Gives, tree_of, without_root, forest, children_of, compound, gives, given_handed, given_other, given_rest, given_told, represents_handed}
+use Rattle.deep_reduce.proofs.{Shared.{joined_by, joined_room}, Connected.{children_joined, joined_lacks, takes_two}, Lacking.{result_lacks}, Results.{answer_as, overflow_as}}
+use Rattle.deep_reduce.proofs.{Sides.{apart_second, joined_front}, Steps.{two}, Told.{answer_at, overflow_at, two_reduced}}
 use Rattle.tree_handles.specs.declared.fault.NumberFault.TheVariants as fault
 use Rattle.deep_reduce.proofs.differences.join_sides.Goals.{After-kind, In_ok-both}
 use Rattle.deep_reduce.proofs.differences.join_sides.Goals as goal

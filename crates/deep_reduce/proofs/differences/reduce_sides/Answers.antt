@@ -1,14 +1,11 @@
 use Rattle.std.proofs.Common.{◌≡◌, rules, length, true, false, ◌<◌, ◌+◌, ◌^◌, refl, sym, ap, ◌∙◌, subst, arith}
-use Rattle.deep_reduce.proofs.Shared.{fraction_fits, Fraction, HoldsNode, is_reduced, Tree, size, sizes, num, has_undef, tree_of, gives_as, given_handed, given_root, given_told, nth, children_of, counted, SpansTree, expression, seen, IsNodeAnswer, IsCalmAtZero, stands_last, free_of, replaced_free, passed_on, turned, joined_by, joined_room, turned_room}
+use Rattle.deep_reduce.proofs.Shared.{fraction_fits, Fraction, HoldsNode, is_reduced, Tree, size, sizes, num, has_undef, tree_of, gives_as, given_handed, given_root, given_told, nth, children_of}
+use Rattle.deep_reduce.proofs.Shared.{counted, SpansTree, expression, seen, IsNodeAnswer, IsCalmAtZero, stands_last, free_of, replaced_free, passed_on, turned, joined_by, joined_room, turned_room}
 use Rattle.deep_reduce.proofs.Connected.{HoldsTurned, children_joined, sides_answer, sides_children, sides_held, sides_overflow, sides_ready, turned_lacks, turned_overflow, turned_ready}
-use Rattle.deep_reduce.proofs.Results.{answer_as, overflow_as, overflow_on}
-use Rattle.deep_reduce.proofs.Sides.{left_beside, rewritten_front, paired_front, sides_free}
-use Rattle.deep_reduce.proofs.Steps.{two, undefined_answer}
-use Rattle.deep_reduce.proofs.Told.{answer_at, overflow_at, right_reduced, left_reduced}
-use Rattle.deep_reduce.proofs.Lacking.{lacks_as, result_lacks}
+use Rattle.deep_reduce.proofs.{Results.{answer_as, overflow_as, overflow_on}, Sides.{left_beside, rewritten_front, paired_front, sides_free}, Steps.{two, undefined_answer}}
+use Rattle.deep_reduce.proofs.{Told.{answer_at, overflow_at, right_reduced, left_reduced}, Lacking.{lacks_as, result_lacks}, differences.reduce_sides.Goals.{After-take_sides-left}}
 use Rattle.node_bounds.proofs.NodeBits.{holds_as, second_side}
 use Rattle.reduce_walk.proofs.HeldRationals.{root_fits}
-use Rattle.deep_reduce.proofs.differences.reduce_sides.Goals.{After-take_sides-left}
 use Rattle.deep_reduce.proofs.differences.reduce_sides.Goals as goal
 
 -- both sides are defined, and a right side that is a rational fits

@@ -1,6 +1,5 @@
 use Rattle.std.proofs.Common.{rules, inl, refl, arith}
-use Rattle.deep_reduce.proofs.Shared.{tree_of, behind_first, front_at, front_without, children_of}
-use Rattle.deep_reduce.proofs.Parents.{first_out, both_out, parent_children}
+use Rattle.deep_reduce.proofs.{Shared.{tree_of, behind_first, front_at, front_without, children_of}, Parents.{first_out, both_out, parent_children}}
 use Rattle.reduce_walk.proofs.TakenOut.{parent_end}
 use Rattle.deep_reduce.proofs.differences.take_sides.Goals as goal
 

@@ -1,7 +1,7 @@
 use Rattle.std.proofs.Common.{◌≡◌, ap, sym, ◌∙◌, subst}
 use Rattle.deep_reduce.proofs.Shared.{IsExpression, IsNodeAnswer, Trees, Tree, add_op, mul_op, num, root_kind, children_of, expression, kind_of_root, seen, plain, tree_at, tree_of, forest, value_of}
-use Rattle.deep_reduce.proofs.Steps.{two}
-use Rattle.deep_reduce.proofs.Folded.{calculated_is, difference_answered, difference_over, opposite_answered, opposite_over, product_answered, product_over_these, quotient_over, rational_fits, some_answered, some_told, sum_answered, sum_over_these}
+use Rattle.deep_reduce.proofs.{Steps.{two}, Folded.{calculated_is, difference_answered, difference_over, opposite_answered, opposite_over, product_answered, product_over_these, quotient_over}}
+use Rattle.deep_reduce.proofs.Folded.{rational_fits, some_answered, some_told, sum_answered, sum_over_these}
 use Rattle.deep_reduce.proofs.folding.folded.Goals as goal
 use Rattle.deep_reduce.proofs.folding.folded.Goals.{After-kind}
 

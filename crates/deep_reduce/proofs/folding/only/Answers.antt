@@ -1,7 +1,6 @@
 use Rattle.std.proofs.Common.{◌≡◌, sym, ◌∙◌, subst}
 use Rattle.std.specs.Prelude.{IfSome}
-use Rattle.deep_reduce.proofs.Shared.{Tree, children_of, num, plain, tree_at, forest, value_of}
-use Rattle.deep_reduce.proofs.Folded.{only_child}
+use Rattle.deep_reduce.proofs.{Shared.{Tree, children_of, num, plain, tree_at, forest, value_of}, Folded.{only_child}}
 use Rattle.deep_reduce.proofs.folding.only.Goals as goal
 
 pub returns : goal.returns

@@ -1,7 +1,6 @@
 use Rattle.std.proofs.Common.{◌≡◌, false, sym, ◌∙◌}
-use Rattle.deep_reduce.proofs.Shared.{mul_op, is_zero_fraction, value_of}
+use Rattle.deep_reduce.proofs.{Shared.{mul_op, is_zero_fraction, value_of}, Folded.{calculated_is, other_than_zero, quotient_answered, rational_fits, some_told}}
 use Rattle.rational128.proofs.LowestTerms.{ratio_parts}
-use Rattle.deep_reduce.proofs.Folded.{calculated_is, other_than_zero, quotient_answered, rational_fits, some_told}
 use Rattle.deep_reduce.proofs.folding.quotient.Goals as goal
 
 pub invert-inverse-requires : goal.invert-inverse-requires

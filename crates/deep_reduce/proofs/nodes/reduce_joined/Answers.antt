@@ -1,13 +1,8 @@
 use Rattle.std.proofs.Common.{ℤ, rules, ◌≡◌, ◌+◌, ◌≤◌, ◌^◌, length, ap, ◌∙◌, sym, refl, subst, arith, IfErr}
-use Rattle.deep_reduce.proofs.Shared.{plain_value, Tree, count, num, whole_fraction, is_add, is_mult, tree_of, children_of, expression, seen, sum_words, KeepsSumBounds, LacksBelow, free_of, size, joined_by, joined_room, Connective}
-use Rattle.node_bounds.proofs.HeldFits.{product_fits}
-use Rattle.node_bounds.proofs.NodeBits.{as_overflow, holds_as}
-use Rattle.deep_reduce.proofs.Connected.{empty_answer, neutral_told}
-use Rattle.deep_reduce.proofs.Lacking.{result_lacks}
-use Rattle.node_bounds.proofs.NodeBytes.{some_factors}
-use Rattle.deep_reduce.proofs.Results.{answered, answer_as, overflowed_defined, with_facts}
-use Rattle.deep_reduce.proofs.Told.{sum_told, product_told}
-use Rattle.deep_reduce.proofs.nodes.reduce_joined.Goals.{After-children}
+use Rattle.deep_reduce.proofs.Shared.{plain_value, Tree, count, num, whole_fraction, is_add, is_mult, tree_of, children_of, expression, seen, sum_words, KeepsSumBounds, LacksBelow, free_of, size}
+use Rattle.deep_reduce.proofs.{Shared.{joined_by, joined_room, Connective}, Connected.{empty_answer, neutral_told}, Lacking.{result_lacks}}
+use Rattle.deep_reduce.proofs.{Results.{answered, answer_as, overflowed_defined, with_facts}, Told.{sum_told, product_told}, nodes.reduce_joined.Goals.{After-children}}
+use Rattle.node_bounds.proofs.{HeldFits.{product_fits}, NodeBits.{as_overflow, holds_as}, NodeBytes.{some_factors}}
 use Rattle.deep_reduce.proofs.nodes.reduce_joined.Goals as goal
 use Rattle.product_reduce.proofs.Stepped.{mult_words as product_words}
 

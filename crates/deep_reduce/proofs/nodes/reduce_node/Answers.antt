@@ -1,13 +1,11 @@
 use Rattle.std.proofs.Common.{rules, subst, false, ◌≡◌, ◌^◌, ℕ, List, length, refl, sym, ◌∙◌, arith}
-use Rattle.deep_reduce.proofs.Shared.{IsNodeAnswer, plain_value, Tree, root_kind, tree_of, keeps_none, front_same, gives, represents_handed, kind_of_root, pow_pos, SpansTree, value, int_is_negative, base_in, exponent_in, argument_of, IfRational, IsNoLargerThanRoot, children_of, free_of, sum_kind, product_kind, sum_words}
-use Rattle.node_bounds.proofs.HeldFits.{product_fits}
-use Rattle.node_bounds.proofs.NodeBits.{as_overflow, power_node_fits, root_node_fits, measured_facts, holds_as}
-use Rattle.deep_reduce.proofs.Folded.{number_needs}
-use Rattle.deep_reduce.proofs.Lacking.{result_lacks, power_result}
-use Rattle.node_bounds.proofs.NodeBytes.{sum_fits, factors_fit, power_fits, half_fits, root_result, no_half_power, node_spans}
-use Rattle.deep_reduce.proofs.Results.{answered, answer_as, overflow_as, overflowed_defined, with_facts, span_facts}
-use Rattle.deep_reduce.proofs.Told.{power_kind, root_kind_is, neg_kind, sub_kind, div_kind, sub_is, div_is, power_told, power_sides, IsRationalPower, rational_answer, rational_overflow, power_reduced, root_told, root_overflow, argument_reduced, leaf_told, node_fits}
-use Rattle.deep_reduce.proofs.nodes.reduce_node.Goals.{After-kind}
+use Rattle.deep_reduce.proofs.Shared.{IsNodeAnswer, plain_value, Tree, root_kind, tree_of, keeps_none, front_same, gives, represents_handed, kind_of_root, pow_pos, SpansTree, value, int_is_negative}
+use Rattle.deep_reduce.proofs.{Shared.{base_in, exponent_in, argument_of, IfRational, IsNoLargerThanRoot, children_of, free_of, sum_kind, product_kind, sum_words}, Folded.{number_needs}}
+use Rattle.deep_reduce.proofs.{Lacking.{result_lacks, power_result}, Results.{answered, answer_as, overflow_as, overflowed_defined, with_facts, span_facts}, Told.{power_kind, root_kind_is, neg_kind}}
+use Rattle.deep_reduce.proofs.Told.{sub_kind, div_kind, sub_is, div_is, power_told, power_sides, IsRationalPower, rational_answer, rational_overflow, power_reduced, root_told, root_overflow}
+use Rattle.deep_reduce.proofs.{Told.{argument_reduced, leaf_told, node_fits}, nodes.reduce_node.Goals.{After-kind}}
+use Rattle.node_bounds.proofs.{HeldFits.{product_fits}, NodeBits.{as_overflow, power_node_fits, root_node_fits, measured_facts, holds_as}, NodeBytes.{sum_fits, factors_fit, power_fits, half_fits}}
+use Rattle.node_bounds.proofs.NodeBytes.{root_result, no_half_power, node_spans}
 use Rattle.deep_reduce.proofs.nodes.reduce_node.Goals as goal
 use Rattle.radical_forms.proofs.Handed.{root_is}
 use Rattle.product_reduce.proofs.Stepped.{mult_words as product_words}

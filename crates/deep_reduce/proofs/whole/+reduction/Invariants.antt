@@ -1,7 +1,6 @@
 use Rattle.std.proofs.Common.{◌<◌, ◌+◌, ◌^◌, [], ◌∷◌, IfSome}
-use Rattle.deep_reduce.proofs.Shared.{load_of_factors, IsLess, IsPairAt, tree_of, Gives, KeepsFront, without_root, children_of, Stands, forest, KeepsRefusals}
-use Rattle.deep_reduce.proofs.Measures.{of_product, of_pairs, of_two, of_power, of_joint, of_powers, of_exponent, of_rewritten}
-use Rattle.deep_reduce.proofs.Rows.{IsPartReduced}
+use Rattle.deep_reduce.proofs.{Shared.{load_of_factors, IsLess, IsPairAt, tree_of, Gives, KeepsFront, without_root, children_of, Stands, forest, KeepsRefusals}, Measures.{of_product, of_pairs}}
+use Rattle.deep_reduce.proofs.{Measures.{of_two, of_power, of_joint, of_powers, of_exponent, of_rewritten}, Rows.{IsPartReduced}}
 use Rattle.deep_reduce.proofs.whole.+reduction.Given as goal
 
 abbrev pub decreases-reduce_product : goal.decreases-reduce_product

@@ -1,11 +1,10 @@
-use Rattle.dual_diff.proofs.Shared.{◌<◌, ◌+◌, ◌∙◌, refl, sym, ap, arith, rules, whole_fraction, name_of, count, nodes, none, num, power, size, sizes, whole_num}
-use Rattle.dual_diff.proofs.Shared.{derivative, products, with_derivative, behind, first, occurs, told, children_of, nth, takes_kind, CanDerive, one, tree_of, ◌≤◌}
-use Rattle.dual_diff.proofs.{AllNodes.{as_holds, child_in, child_ready, exponent_in}, Forms.{base_and_exponent, one_argument, quotient_nodes, sizes_append, two_children}}
-use Rattle.dual_diff.proofs.Numbers.{first_power, lowered_as, lowered_told, small_fits, told_fits, told_less, told_less_fits, told_less_of, told_small, zero_power}
-use Rattle.dual_diff.proofs.Products.{count_derivatives, count_with, derivatives_all, derivatives_more, derivatives_room, made_rule, made_some, more_than_one, one_product, products_room, sum_room}
-use Rattle.dual_diff.proofs.{Rules.{absent_zero, other_linear, product_sum, quotient_divided, quotient_whole, root_slope, same_node, symbol_one}, Slices.{rest_after, slice_first, with_room}}
-use Rattle.dual_diff.proofs.Written.{added, added_behind, all_factors, can_copy, factors_through, gather, gather_behind, room_for, seen_more, still, written_as, written_more}
-use Rattle.dual_diff.proofs.Written.{written_none, written_same}
+use Rattle.dual_diff.proofs.Shared.{◌<◌, ◌+◌, ◌∙◌, refl, sym, ap, arith, rules, whole_fraction, name_of, count, nodes, none, num, power, size, sizes, whole_num, derivative, products, with_derivative}
+use Rattle.dual_diff.proofs.{Shared.{behind, first, occurs, told, children_of, nth, takes_kind, CanDerive, one, tree_of, ◌≤◌}, AllNodes.{as_holds, child_in, child_ready, exponent_in}}
+use Rattle.dual_diff.proofs.{Forms.{base_and_exponent, one_argument, quotient_nodes, sizes_append, two_children}, Numbers.{first_power, lowered_as, lowered_told, small_fits, told_fits, told_less}}
+use Rattle.dual_diff.proofs.{Numbers.{told_less_fits, told_less_of, told_small, zero_power}, Products.{count_derivatives, count_with, derivatives_all, derivatives_more, derivatives_room, made_rule}}
+use Rattle.dual_diff.proofs.{Products.{made_some, more_than_one, one_product, products_room, sum_room}, Rules.{absent_zero, other_linear, product_sum, quotient_divided, quotient_whole, root_slope}}
+use Rattle.dual_diff.proofs.{Rules.{same_node, symbol_one}, Slices.{rest_after, slice_first, with_room}, Written.{added, added_behind, all_factors, can_copy, factors_through, gather, gather_behind}}
+use Rattle.dual_diff.proofs.Written.{room_for, seen_more, still, written_as, written_more, written_none, written_same}
 use Rattle.dual_diff.proofs.writing.+writing.Goals as goal
 
 -- ---- write_derivative

@@ -1,5 +1,4 @@
-use Rattle.dual_diff.proofs.Shared.{◌+◌, ◌*◌, name_of, nodes, derivatives, first, children_of, tree_of}
-use Rattle.dual_diff.proofs.Written.{AreWritten}
+use Rattle.dual_diff.proofs.{Shared.{◌+◌, ◌*◌, name_of, nodes, derivatives, first, children_of, tree_of}, Written.{AreWritten}}
 use Rattle.dual_diff.proofs.writing.+writing.Given as goal
 
 abbrev pub decreases-write_derivative : goal.decreases-write_derivative

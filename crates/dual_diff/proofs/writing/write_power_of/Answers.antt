@@ -1,5 +1,4 @@
-use Rattle.dual_diff.proofs.Shared.{refl, ap, arith, rules, whole_fraction, num, one, size, told, two, tree_of}
-use Rattle.dual_diff.proofs.{Written.{gather, written_as}, writing.write_power_of.Goals.{After-number}}
+use Rattle.dual_diff.proofs.{Shared.{refl, ap, arith, rules, whole_fraction, num, one, size, told, two, tree_of}, Written.{gather, written_as}, writing.write_power_of.Goals.{After-number}}
 use Rattle.dual_diff.proofs.writing.write_power_of.Goals as goal
 
 pub copy-requires : goal.copy-requires

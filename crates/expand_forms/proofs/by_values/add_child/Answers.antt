@@ -1,7 +1,5 @@
-use Rattle.expand_forms.proofs.Shared.{◌∙◌, List, sym, subst, Term, IsListOf, forest, plain, polynomial_of, tree_at, value_of}
+use Rattle.expand_forms.proofs.{Shared.{◌∙◌, List, sym, subst, Term, IsListOf, forest, plain, polynomial_of, tree_at, value_of}, ListLaws.{list_sum}, ValueNodes.{passed}}
 use Rattle.expand_forms.specs.Named.{names_of}
-use Rattle.expand_forms.proofs.ListLaws.{list_sum}
-use Rattle.expand_forms.proofs.ValueNodes.{passed}
 use Rattle.expand_forms.proofs.by_values.add_child.Goals as goal
 
 pub returns-clause-list : goal.returns-clause-list

@@ -1,7 +1,5 @@
-use Rattle.expand_forms.proofs.Shared.{names, AreAmong, ◌∙◌, List, sym, subst, Name, IsListOf, forest, plain, polynomial_of, tree_at}
-use Rattle.expand_forms.proofs.PowersOfSums.{ready_expanded}
+use Rattle.expand_forms.proofs.{Shared.{names, AreAmong, ◌∙◌, List, sym, subst, Name, IsListOf, forest, plain, polynomial_of, tree_at}, PowersOfSums.{ready_expanded}, ValueNodes.{went}}
 use Rattle.expand_forms.specs.Named.{names_of}
-use Rattle.expand_forms.proofs.ValueNodes.{went}
 use Rattle.expand_forms.proofs.by_values.list_child.Goals as goal
 
 pub read_terms-requires-clause-expanded : goal.read_terms-requires-clause-expanded

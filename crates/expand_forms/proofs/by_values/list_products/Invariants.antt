@@ -1,5 +1,4 @@
-use Rattle.expand_forms.proofs.Shared.{◌≡◌, ◌≤◌, children_of, count, plain, product_of, tree_at, forest, IsListOf}
-use Rattle.expand_forms.proofs.Nodes.{from}
+use Rattle.expand_forms.proofs.{Shared.{◌≡◌, ◌≤◌, children_of, count, plain, product_of, tree_at, forest, IsListOf}, Nodes.{from}}
 use Rattle.expand_forms.specs.Named.{names_of}
 use Rattle.expand_forms.proofs.by_values.list_products.Given as goal
 

@@ -1,15 +1,11 @@
 use Rattle.expand_forms.proofs.Shared.{◌*◌, ◌≤◌, ◌≡◌, ◌↔◌, ◌+◌, ◌<◌, ℕ, Err, Result, rules, sym, subst, arith, Ends, HasNoNewName, Tree, behind_first, behind_new, bits, expansion_room, forest}
-use Rattle.expand_forms.proofs.Shared.{free_of, front_after_one, front_same, front_without, given_handed, given_rest, given_told, gives_as, gives_rest, kept_after, last_tree, nodes}
-use Rattle.expand_forms.proofs.Shared.{replaced_free, size, tree_of, without_root, Forest, CountsRefusals, IfFull, IfInterrupted, fault_of, ReduceFault, passed_result, LacksBytes}
-use Rattle.breakers.specs.Breakers.{TripsRose}
-use Rattle.breakers.specs.Watch.{states}
-use Rattle.expand_forms.proofs.AnswerFaults.{caused_full, caused_overflow, no_interruption, refusal, told_full, told_interruption, told_overflow, told_refusals}
-use Rattle.expand_forms.proofs.Names.{expanded_no_new_name}
-use Rattle.expand_forms.proofs.NodeBits.{beyond_bits}
-use Rattle.expand_forms.proofs.TermCounts.{some_nodes, within_room}
+use Rattle.expand_forms.proofs.Shared.{free_of, front_after_one, front_same, front_without, given_handed, given_rest, given_told, gives_as, gives_rest, kept_after, last_tree, nodes, replaced_free}
+use Rattle.expand_forms.proofs.{Shared.{size, tree_of, without_root, Forest, CountsRefusals, IfFull, IfInterrupted, fault_of, ReduceFault, passed_result, LacksBytes}, AnswerFaults.{caused_full}}
+use Rattle.expand_forms.proofs.{AnswerFaults.{caused_overflow, no_interruption, refusal, told_full, told_interruption, told_overflow, told_refusals}, Names.{expanded_no_new_name}}
+use Rattle.expand_forms.proofs.{NodeBits.{beyond_bits}, TermCounts.{some_nodes, within_room}}
+use Rattle.breakers.specs.{Breakers.{TripsRose}, Watch.{states}}
 use Rattle.breakers.proofs.Runs.{calm_checks_raise_no_trips}
-use Rattle.reduce_port.specs.Checks.{CalmUpTo, TripsWithin}
-use Rattle.reduce_port.specs.Faults.{IfOverflow}
+use Rattle.reduce_port.specs.{Checks.{CalmUpTo, TripsWithin}, Faults.{IfOverflow}}
 use Rattle.reduce_walk.proofs.Port.{overflow_as, unfit_after_checks}
 use Rattle.reduce_port.specs.declared.fault.ReduceFault.TheVariants as fault
 use Rattle.expand_forms.proofs.expansion.expand.Goals as goal

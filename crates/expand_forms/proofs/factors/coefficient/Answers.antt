@@ -1,5 +1,4 @@
-use Rattle.expand_forms.proofs.Shared.{◌∙◌, sym, one_value, plain, tree_at, forest}
-use Rattle.expand_forms.proofs.TermReadings.{no_coefficient}
+use Rattle.expand_forms.proofs.{Shared.{◌∙◌, sym, one_value, plain, tree_at, forest}, TermReadings.{no_coefficient}}
 use Rattle.expand_forms.proofs.factors.coefficient.Goals as goal
 
 pub returns-in_default : goal.returns-in_default

@@ -1,5 +1,4 @@
-use Rattle.expand_forms.proofs.Shared.{sym, one_value, ◌∙◌, arith, children_number, plain, tree_at, forest}
-use Rattle.expand_forms.proofs.TermReadings.{leading_is, leading_some}
+use Rattle.expand_forms.proofs.{Shared.{sym, one_value, ◌∙◌, arith, children_number, plain, tree_at, forest}, TermReadings.{leading_is, leading_some}}
 use Rattle.expand_forms.proofs.factors.leading.Goals as goal
 
 pub returns-then-first_factor-eq0 : goal.returns-then-first_factor-eq0

@@ -1,14 +1,8 @@
-use Rattle.expand_forms.proofs.Shared.{rules, ◌+◌, ◌<◌, ◌∙◌, ◌++◌, drop, ap, sym, subst, arith, value_of, size, normal, IsNoOverflow, sum_bytes, Polynomial, product, polynomial_of, row}
-use Rattle.expand_forms.proofs.Shared.{IsExpanded, free_of, OfFull, gives_rest, passed_on, full_as, IsExpression, plain, Forest, tree_of, tree_at, without_root, forest, behind_first}
-use Rattle.expand_forms.proofs.Shared.{front_after_one, given_handed, given_rest, lists_listed}
-use Rattle.expand_forms.proofs.Gathered.{gathered_append, gathered_products, gathered_refl}
-use Rattle.expand_forms.proofs.JoinLoops.{IsNextPart, IsNextTerm, joined_all, joined_lacks, joined_more, joined_none, next_part, next_term, part_few, part_held, place_read, terms_read}
-use Rattle.expand_forms.proofs.Joins.{no_summands}
-use Rattle.expand_forms.proofs.ListedTerms.{lists_beside}
-use Rattle.expand_forms.proofs.Rows.{is_nonzero, next_coefficient, rows_next}
-use Rattle.expand_forms.proofs.TermReadings.{beside}
-use Rattle.expand_forms.proofs.joining.join_products.Given.{Over}
-use Rattle.expand_forms.proofs.joining.join_products.Goals.{After-coefficient-factor}
+use Rattle.expand_forms.proofs.Shared.{rules, ◌+◌, ◌<◌, ◌∙◌, ◌++◌, drop, ap, sym, subst, arith, value_of, size, normal, IsNoOverflow, sum_bytes, Polynomial, product, polynomial_of, row, IsExpanded}
+use Rattle.expand_forms.proofs.Shared.{free_of, OfFull, gives_rest, passed_on, full_as, IsExpression, plain, Forest, tree_of, tree_at, without_root, forest, behind_first, front_after_one}
+use Rattle.expand_forms.proofs.{Shared.{given_handed, given_rest, lists_listed}, Gathered.{gathered_append, gathered_products, gathered_refl}, JoinLoops.{IsNextPart, IsNextTerm, joined_all}}
+use Rattle.expand_forms.proofs.{JoinLoops.{joined_lacks, joined_more, joined_none, next_part, next_term, part_few, part_held, place_read, terms_read}, Joins.{no_summands}, ListedTerms.{lists_beside}}
+use Rattle.expand_forms.proofs.{Rows.{is_nonzero, next_coefficient, rows_next}, TermReadings.{beside}, joining.join_products.Given.{Over}, joining.join_products.Goals.{After-coefficient-factor}}
 use Rattle.expand_forms.proofs.joining.join_products.Goals as goal
 
 here : (g : Over) (c : After-coefficient-factor g)

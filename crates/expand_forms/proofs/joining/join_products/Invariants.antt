@@ -1,5 +1,4 @@
-use Rattle.expand_forms.proofs.Shared.{◌++◌, drop, Lists, normal, product, polynomial_of, plain, tree_of, tree_at, without_root, forest}
-use Rattle.expand_forms.proofs.JoinLoops.{IsJoined}
+use Rattle.expand_forms.proofs.{Shared.{◌++◌, drop, Lists, normal, product, polynomial_of, plain, tree_of, tree_at, without_root, forest}, JoinLoops.{IsJoined}}
 use Rattle.expand_forms.proofs.joining.join_products.Given as goal
 
 abbrev pub invariant-loop-at : goal.invariant-loop-at

@@ -1,5 +1,4 @@
-use Rattle.expand_forms.proofs.Shared.{◌++◌, value_of, Lists, polynomial_of, row, plain, tree_of, tree_at, without_root, forest}
-use Rattle.expand_forms.proofs.JoinLoops.{IsJoined}
+use Rattle.expand_forms.proofs.{Shared.{◌++◌, value_of, Lists, polynomial_of, row, plain, tree_of, tree_at, without_root, forest}, JoinLoops.{IsJoined}}
 use Rattle.expand_forms.proofs.joining.row_within.Given as goal
 
 abbrev pub invariant-loop-at : goal.invariant-loop-at

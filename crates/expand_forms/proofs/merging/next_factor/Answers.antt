@@ -1,6 +1,4 @@
-use Rattle.expand_forms.proofs.Shared.{arith, refl, subst, HasExponents, BeginsWith, IsMonomial, monomial_times}
-use Rattle.expand_forms.proofs.MonomialProducts.{both_first}
-use Rattle.expand_forms.proofs.TermReadings.{next_first, next_left}
+use Rattle.expand_forms.proofs.{Shared.{arith, refl, subst, HasExponents, BeginsWith, IsMonomial, monomial_times}, MonomialProducts.{both_first}, TermReadings.{next_first, next_left}}
 use Rattle.expand_forms.proofs.merging.next_factor.Goals as goal
 
 pub first_of-requires : goal.first_of-requires

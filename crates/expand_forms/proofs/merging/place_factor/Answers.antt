@@ -1,5 +1,4 @@
-use Rattle.expand_forms.proofs.Shared.{◌∙◌, sym, refl, gives_as}
-use Rattle.expand_forms.proofs.TermReadings.{factor_one, factor_other, if_ok_map}
+use Rattle.expand_forms.proofs.{Shared.{◌∙◌, sym, refl, gives_as}, TermReadings.{factor_one, factor_other, if_ok_map}}
 use Rattle.expand_forms.proofs.merging.place_factor.Goals as goal
 
 pub returns-then-is_one-clause-ok : goal.returns-then-is_one-clause-ok

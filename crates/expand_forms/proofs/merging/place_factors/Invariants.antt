@@ -1,5 +1,4 @@
-use Rattle.expand_forms.proofs.Shared.{◌+◌, ◌-◌, [], drop, BeginsWith, Monomial, HasMonomial, plain, KeepsFront, tree_at, KeepsRefusals, Stands, forest}
-use Rattle.expand_forms.proofs.Merged.{IsMerged}
+use Rattle.expand_forms.proofs.{Shared.{◌+◌, ◌-◌, [], drop, BeginsWith, Monomial, HasMonomial, plain, KeepsFront, tree_at, KeepsRefusals, Stands, forest}, Merged.{IsMerged}}
 use Rattle.expand_forms.proofs.merging.place_factors.Given as goal
 
 abbrev pub invariant-loop-next : goal.invariant-loop-next

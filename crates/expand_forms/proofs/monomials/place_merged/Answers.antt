@@ -1,6 +1,5 @@
 use Rattle.expand_forms.proofs.Shared.{rules, ◌∙◌, ap, refl, sym, subst, ◌<◌, arith, length, forest, size, IsNoOverflow, term_bytes, monomial_times, HasMonomial, free_of, OfFull, refused_below}
-use Rattle.expand_forms.proofs.Shared.{passed_on, full_as, front_after, front_end, front_same, given_told, given_free}
-use Rattle.expand_forms.proofs.AddedTrees.{adds_more, adds_none, adopts, can_adopt, factors_beside}
+use Rattle.expand_forms.proofs.{Shared.{passed_on, full_as, front_after, front_end, front_same, given_told, given_free}, AddedTrees.{adds_more, adds_none, adopts, can_adopt, factors_beside}}
 use Rattle.expand_forms.proofs.TermReadings.{beside, count_factors}
 use Rattle.tree_handles.specs.declared.fault.NumberFault.TheVariants as fault
 use Rattle.expand_forms.proofs.monomials.place_merged.Goals as goal

@@ -1,5 +1,4 @@
-use Rattle.expand_forms.proofs.Shared.{◌≡◌, ◌+◌, suc, drop, subst, arith, name_of, Name, List, ℕ, HasName}
-use Rattle.expand_forms.proofs.NameLists.{dropped_all, dropped, has_at, name_same, not_first}
+use Rattle.expand_forms.proofs.{Shared.{◌≡◌, ◌+◌, suc, drop, subst, arith, name_of, Name, List, ℕ, HasName}, NameLists.{dropped_all, dropped, has_at, name_same, not_first}}
 use Rattle.expand_forms.specs.Named.{names_of}
 use Rattle.expand_forms.proofs.naming.has_name.Goals as goal
 

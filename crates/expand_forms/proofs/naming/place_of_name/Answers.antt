@@ -1,5 +1,4 @@
-use Rattle.expand_forms.proofs.Shared.{◌≡◌, ◌+◌, ℕ, suc, ◌∙◌, List, subst, sym, take, arith, name_of, Name, nat_cmp, slice_cmp, AreNamesBelow}
-use Rattle.expand_forms.proofs.NameLists.{below_push, is_less, taken}
+use Rattle.expand_forms.proofs.{Shared.{◌≡◌, ◌+◌, ℕ, suc, ◌∙◌, List, subst, sym, take, arith, name_of, Name, nat_cmp, slice_cmp, AreNamesBelow}, NameLists.{below_push, is_less, taken}}
 use Rattle.expand_forms.specs.Named.{names_of}
 use Rattle.expand_forms.proofs.naming.place_of_name.Goals as goal
 

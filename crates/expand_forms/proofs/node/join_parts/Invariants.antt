@@ -1,5 +1,4 @@
-use Rattle.expand_forms.proofs.Shared.{◌++◌, drop, Lists, polynomial_of, plain, tree_of, tree_at, without_root, forest, parts_of, total}
-use Rattle.expand_forms.proofs.JoinLoops.{IsJoined}
+use Rattle.expand_forms.proofs.{Shared.{◌++◌, drop, Lists, polynomial_of, plain, tree_of, tree_at, without_root, forest, parts_of, total}, JoinLoops.{IsJoined}}
 use Rattle.expand_forms.proofs.node.join_parts.Given as goal
 
 abbrev pub invariant-loop-at : goal.invariant-loop-at

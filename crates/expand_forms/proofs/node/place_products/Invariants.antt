@@ -1,5 +1,4 @@
-use Rattle.expand_forms.proofs.Shared.{◌≡◌, ◌≤◌, [], count, expanded, product_of, plain, Gives, KeepsFront, tree_at, KeepsRefusals, Stands, forest, multiplied}
-use Rattle.expand_forms.proofs.Nodes.{from}
+use Rattle.expand_forms.proofs.{Shared.{◌≡◌, ◌≤◌, [], count, expanded, product_of, plain, Gives, KeepsFront, tree_at, KeepsRefusals, Stands, forest, multiplied}, Nodes.{from}}
 use Rattle.expand_forms.proofs.node.place_products.Given as goal
 
 abbrev pub invariant-loop-left : goal.invariant-loop-left

@@ -1,13 +1,8 @@
-use Rattle.expand_forms.proofs.Shared.{rules, ◌∙◌, inl, ap, refl, sym, subst, ◌<◌, arith, ◌≡◌, Tree, num, size, one_value, expression, seen, expanded, has_polynomial_root, polynomial_of}
-use Rattle.expand_forms.proofs.Shared.{AreExpanded, gives_rest, gives_without, kept_after, root_ids, kids_of_last, IsExpression, children_of, plain, Forest, tree_at, without_root, forest}
-use Rattle.expand_forms.proofs.Shared.{behind_new, front_after, front_after_one, front_at, front_same, front_without, given_handed, given_other, given_rest, given_told, gives_as, handed_at}
-use Rattle.expand_forms.proofs.Shared.{owned, HasFewTerms, node_bytes, free_of, OfFull, passed_on, full_as, num_most, refused_below, given_free, value_of, IsHeld, IsNoOverflow, Polynomial}
-use Rattle.expand_forms.proofs.Shared.{lists_none, has_parts, parts_of, total}
-use Rattle.expand_forms.proofs.Expansions.{empty_sum, nothing_added, sum_same}
-use Rattle.expand_forms.proofs.NodeParts.{total_parts}
-use Rattle.expand_forms.proofs.TermReadings.{beside}
-use Rattle.expand_forms.proofs.FewTerms.{few_none}
-use Rattle.expand_forms.proofs.Lacks.{number_refused}
+use Rattle.expand_forms.proofs.Shared.{rules, ◌∙◌, inl, ap, refl, sym, subst, ◌<◌, arith, ◌≡◌, Tree, num, size, one_value, expression, seen, expanded, has_polynomial_root, polynomial_of, AreExpanded}
+use Rattle.expand_forms.proofs.Shared.{gives_rest, gives_without, kept_after, root_ids, kids_of_last, IsExpression, children_of, plain, Forest, tree_at, without_root, forest, behind_new, front_after}
+use Rattle.expand_forms.proofs.Shared.{front_after_one, front_at, front_same, front_without, given_handed, given_other, given_rest, given_told, gives_as, handed_at, owned, HasFewTerms, node_bytes}
+use Rattle.expand_forms.proofs.Shared.{free_of, OfFull, passed_on, full_as, num_most, refused_below, given_free, value_of, IsHeld, IsNoOverflow, Polynomial, lists_none, has_parts, parts_of, total}
+use Rattle.expand_forms.proofs.{Expansions.{empty_sum, nothing_added, sum_same}, NodeParts.{total_parts}, TermReadings.{beside}, FewTerms.{few_none}, Lacks.{number_refused}}
 use Rattle.tree_handles.specs.declared.fault.NumberFault.TheVariants as fault
 use Rattle.expand_forms.proofs.node.place_sum.Goals as goal
 

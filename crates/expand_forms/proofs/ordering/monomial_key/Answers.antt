@@ -1,5 +1,4 @@
-use Rattle.expand_forms.proofs.Shared.{◌∙◌, sym, plain, tree_at, forest}
-use Rattle.expand_forms.proofs.TermKeys.{no_key, number_factors}
+use Rattle.expand_forms.proofs.{Shared.{◌∙◌, sym, plain, tree_at, forest}, TermKeys.{no_key, number_factors}}
 use Rattle.expand_forms.proofs.ordering.monomial_key.Goals as goal
 
 pub returns-in-Num : goal.returns-in-Num

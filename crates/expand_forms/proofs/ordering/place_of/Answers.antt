@@ -1,9 +1,5 @@
-use Rattle.expand_forms.proofs.Shared.{rules, ◌≡◌, ◌∙◌, arith, sym, ap, Tree, count, Monomial, HasMonomial, term_cmp, children_of, nth, plain, tree_at, forest}
-use Rattle.expand_forms.proofs.Sums.{sum_below}
-use Rattle.expand_forms.proofs.TermKeys.{monomial_order}
-use Rattle.expand_forms.proofs.TermReadings.{sum_term, term_monomial}
-use Rattle.expand_forms.proofs.ordering.place_of.Given.{Over}
-use Rattle.expand_forms.proofs.ordering.place_of.Goals.{After-compare_monomials}
+use Rattle.expand_forms.proofs.{Shared.{rules, ◌≡◌, ◌∙◌, arith, sym, ap, Tree, count, Monomial, HasMonomial, term_cmp, children_of, nth, plain, tree_at, forest}, Sums.{sum_below}}
+use Rattle.expand_forms.proofs.{TermKeys.{monomial_order}, TermReadings.{sum_term, term_monomial}, ordering.place_of.Given.{Over}, ordering.place_of.Goals.{After-compare_monomials}}
 use Rattle.expand_forms.proofs.ordering.place_of.Goals as goal
 
 pub loop-low-init : goal.loop-low-init

@@ -1,6 +1,4 @@
-use Rattle.expand_forms.proofs.Shared.{arith, plain, tree_at, forest}
-use Rattle.expand_forms.proofs.TermKeys.{no_key}
-use Rattle.expand_forms.proofs.TermReadings.{first_count}
+use Rattle.expand_forms.proofs.{Shared.{arith, plain, tree_at, forest}, TermKeys.{no_key}, TermReadings.{first_count}}
 use Rattle.expand_forms.proofs.ordering.product_key.Goals as goal
 
 pub returns-then-factors-eq0 : goal.returns-then-factors-eq0

@@ -1,5 +1,4 @@
-use Rattle.expand_forms.proofs.Shared.{HasMonomial, IsNamed, Monomial, forest, plain, tree_at}
-use Rattle.expand_forms.proofs.PackedTerms.{IsPackedTo}
+use Rattle.expand_forms.proofs.{Shared.{HasMonomial, IsNamed, Monomial, forest, plain, tree_at}, PackedTerms.{IsPackedTo}}
 use Rattle.expand_forms.specs.Named.{names_of}
 use Rattle.expand_forms.proofs.packing.packed_monomial.Given as goal
 

@@ -1,5 +1,4 @@
-use Rattle.expand_forms.proofs.Shared.{refl, ◌≡◌, arith}
-use Rattle.expand_forms.proofs.PackedTerms.{shift_fits, shifted_more, shifted_all}
+use Rattle.expand_forms.proofs.{Shared.{refl, ◌≡◌, arith}, PackedTerms.{shift_fits, shifted_more, shifted_all}}
 use Rattle.expand_forms.proofs.packing.shifted.Goals as goal
 
 pub loop-place-init : goal.loop-place-init

@@ -1,5 +1,4 @@
-use Rattle.expand_forms.proofs.Shared.{ap, nat_abs, ◌≡◌, pos, arith, to_z, of_z, ints, w128}
-use Rattle.expand_forms.proofs.FactorOrders.{exponent_read}
+use Rattle.expand_forms.proofs.{Shared.{ap, nat_abs, ◌≡◌, pos, arith, to_z, of_z, ints, w128}, FactorOrders.{exponent_read}}
 use Rattle.expand_forms.proofs.packing.small_exponent.Goals as goal
 
 pub returns-then-exponent-gt255-clause-unlisted : goal.returns-then-exponent-gt255-clause-unlisted

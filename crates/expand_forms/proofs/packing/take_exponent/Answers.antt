@@ -1,7 +1,4 @@
-use Rattle.expand_forms.proofs.Shared.{drop}
-use Rattle.expand_forms.proofs.FactorOrders.{names_equal as names_cmp}
-use Rattle.expand_forms.proofs.PackedTerms.{exponent_of, taken_first}
-use Rattle.expand_forms.proofs.ValueLaws.{names_equal}
+use Rattle.expand_forms.proofs.{Shared.{drop}, FactorOrders.{names_equal as names_cmp}, PackedTerms.{exponent_of, taken_first}, ValueLaws.{names_equal}}
 use Rattle.expand_forms.proofs.packing.take_exponent.Goals as goal
 
 pub small_exponent-requires : goal.small_exponent-requires

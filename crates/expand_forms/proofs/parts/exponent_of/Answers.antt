@@ -1,5 +1,4 @@
-use Rattle.expand_forms.proofs.Shared.{ap, arith, rules, FitsSigned, nat_abs, w128, plain, tree_at, forest}
-use Rattle.expand_forms.proofs.NodeKinds.{exponent_number, exponent_bits, exponent_most}
+use Rattle.expand_forms.proofs.{Shared.{ap, arith, rules, FitsSigned, nat_abs, w128, plain, tree_at, forest}, NodeKinds.{exponent_number, exponent_bits, exponent_most}}
 use Rattle.expand_forms.proofs.parts.exponent_of.Goals as goal
 
 pub rational-requires-clause-number : goal.rational-requires-clause-number

@@ -1,10 +1,6 @@
-use Rattle.expand_forms.proofs.Shared.{◌≡◌, ◌∙◌, true, ap, refl, sym, subst, arith, IsExpanded, Tree, children_number, children_of, count, divisor_of, forest, has_polynomial_root, inverse}
-use Rattle.expand_forms.proofs.Shared.{is_divisor, is_zero_fraction, nth, one_value, plain, tree_at, value_of}
-use Rattle.expand_forms.proofs.Expansions.{one_nonzero}
-use Rattle.expand_forms.proofs.NodeAnswers.{opposite_value}
-use Rattle.expand_forms.proofs.NodeKinds.{many_children, quotient_node}
-use Rattle.expand_forms.proofs.PowersOfSums.{divisor_expanded, ready_nth}
-use Rattle.expand_forms.proofs.NodeParts.{factor_opposite, factor_other, factor_quotient, factor_sign, minus_nonzero}
+use Rattle.expand_forms.proofs.Shared.{◌≡◌, ◌∙◌, true, ap, refl, sym, subst, arith, IsExpanded, Tree, children_number, children_of, count, divisor_of, forest, has_polynomial_root, inverse, is_divisor}
+use Rattle.expand_forms.proofs.{Shared.{is_zero_fraction, nth, one_value, plain, tree_at, value_of}, Expansions.{one_nonzero}, NodeAnswers.{opposite_value}, NodeKinds.{many_children, quotient_node}}
+use Rattle.expand_forms.proofs.{PowersOfSums.{divisor_expanded, ready_nth}, NodeParts.{factor_opposite, factor_other, factor_quotient, factor_sign, minus_nonzero}}
 use Rattle.expand_forms.proofs.parts.factor_at.Goals as goal
 
 pub returns-in-Neg : goal.returns-in-Neg

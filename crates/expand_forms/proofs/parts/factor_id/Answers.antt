@@ -1,7 +1,5 @@
-use Rattle.expand_forms.proofs.Shared.{◌≡◌, ◌<◌, ◌∙◌, refl, sym, arith, arity, children_number, children_of, count, forest, kids_of, plain, tree_at}
-use Rattle.expand_forms.proofs.NodeKinds.{many_children, power_node}
-use Rattle.expand_forms.proofs.NodeParts.{power_factor, product_factor}
-use Rattle.expand_forms.proofs.Within.{inside_child}
+use Rattle.expand_forms.proofs.{Shared.{◌≡◌, ◌<◌, ◌∙◌, refl, sym, arith, arity, children_number, children_of, count, forest, kids_of, plain, tree_at}, NodeKinds.{many_children, power_node}}
+use Rattle.expand_forms.proofs.{NodeParts.{power_factor, product_factor}, Within.{inside_child}}
 use Rattle.expand_forms.proofs.parts.factor_id.Goals as goal
 
 pub child_id-requires-clause-within : goal.child_id-requires-clause-within

@@ -1,7 +1,5 @@
-use Rattle.expand_forms.proofs.Shared.{◌≡◌, ◌∙◌, ap, refl, sym, subst, arith, IsExpanded, children_number, children_of, count, exponent_of, forest, has_polynomial_root, is_exponent, plain}
-use Rattle.expand_forms.proofs.Shared.{tree_at}
-use Rattle.expand_forms.proofs.NodeKinds.{many_children, power_node, second_expanded}
-use Rattle.expand_forms.proofs.NodeParts.{power_number, product_number}
+use Rattle.expand_forms.proofs.Shared.{◌≡◌, ◌∙◌, ap, refl, sym, subst, arith, IsExpanded, children_number, children_of, count, exponent_of, forest, has_polynomial_root, is_exponent, plain, tree_at}
+use Rattle.expand_forms.proofs.{NodeKinds.{many_children, power_node, second_expanded}, NodeParts.{power_number, product_number}}
 use Rattle.expand_forms.proofs.parts.factor_number.Goals as goal
 
 pub child_id-requires-clause-within : goal.child_id-requires-clause-within

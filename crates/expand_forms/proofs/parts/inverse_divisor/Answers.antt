@@ -1,6 +1,4 @@
-use Rattle.expand_forms.proofs.Shared.{◌∙◌, ap, sym, inverse, is_zero_fraction, Tree, divisor_of, plain, tree_at, forest}
-use Rattle.expand_forms.proofs.NodeKinds.{divisor_nonzero, divisor_number}
-use Rattle.expand_forms.proofs.NodeParts.{inverse_nonzero}
+use Rattle.expand_forms.proofs.{Shared.{◌∙◌, ap, sym, inverse, is_zero_fraction, Tree, divisor_of, plain, tree_at, forest}, NodeKinds.{divisor_nonzero, divisor_number}, NodeParts.{inverse_nonzero}}
 use Rattle.expand_forms.proofs.parts.inverse_divisor.Goals as goal
 
 pub rational-requires-clause-number : goal.rational-requires-clause-number

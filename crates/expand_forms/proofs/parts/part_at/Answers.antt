@@ -1,8 +1,5 @@
-use Rattle.expand_forms.proofs.Shared.{◌<◌, sym, subst, arith, IsExpanded, arity, children_number, children_of, forest, kids_of, plain, tree_at, value_of, IsReady}
-use Rattle.expand_forms.proofs.NodeChildren.{expanded_nth}
-use Rattle.expand_forms.proofs.NodeParts.{part_next, parts_within}
-use Rattle.expand_forms.proofs.PowersOfSums.{ready_nth}
-use Rattle.expand_forms.proofs.Within.{inside_child}
+use Rattle.expand_forms.proofs.{Shared.{◌<◌, sym, subst, arith, IsExpanded, arity, children_number, children_of, forest, kids_of, plain, tree_at, value_of, IsReady}, NodeChildren.{expanded_nth}}
+use Rattle.expand_forms.proofs.{NodeParts.{part_next, parts_within}, PowersOfSums.{ready_nth}, Within.{inside_child}}
 use Rattle.expand_forms.proofs.parts.part_at.Goals as goal
 
 pub child_id-requires-clause-within : goal.child_id-requires-clause-within

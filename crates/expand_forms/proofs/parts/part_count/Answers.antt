@@ -1,5 +1,4 @@
-use Rattle.expand_forms.proofs.Shared.{◌∙◌, sym, plain, tree_at, forest}
-use Rattle.expand_forms.proofs.NodeParts.{one_part, part_number}
+use Rattle.expand_forms.proofs.{Shared.{◌∙◌, sym, plain, tree_at, forest}, NodeParts.{one_part, part_number}}
 use Rattle.expand_forms.proofs.parts.part_count.Goals as goal
 
 pub returns-in-Div : goal.returns-in-Div

@@ -1,5 +1,4 @@
-use Rattle.expand_forms.proofs.Shared.{◌<◌, ◌∙◌, ℕ, length, ap, subst, IfErr, free_of, term_bytes}
-use Rattle.expand_forms.proofs.FactorLists.{read_length}
+use Rattle.expand_forms.proofs.{Shared.{◌<◌, ◌∙◌, ℕ, length, ap, subst, IfErr, free_of, term_bytes}, FactorLists.{read_length}}
 use Rattle.expand_forms.proofs.placing.place_packed.Goals as goal
 
 pub returns-clause-room : goal.returns-clause-room

@@ -1,10 +1,6 @@
-use Rattle.expand_forms.proofs.Shared.{◌<◌, ◌+◌, ◌∙◌, length, refl, sym, ap, arith, eq-eqb, eqb-true, num, free_of, number_bytes, sum_bytes, passed_on, refusal_as, gives_as, front_end}
-use Rattle.expand_forms.proofs.Shared.{front_same}
-use Rattle.expand_forms.proofs.AddedTrees.{can_adopt, adopts, node_free}
+use Rattle.expand_forms.proofs.Shared.{◌<◌, ◌+◌, ◌∙◌, length, refl, sym, ap, arith, eq-eqb, eqb-true, num, free_of, number_bytes, sum_bytes, passed_on, refusal_as, gives_as, front_end, front_same}
+use Rattle.expand_forms.proofs.{AddedTrees.{can_adopt, adopts, node_free}, Expansions.{zero_value}, PlacedTerms.{all_count, next_lacks, sum_more, sum_none, sum_one}, TermReadings.{if_ok_map}}
 use Rattle.expand_forms.specs.Named.{names_of}
-use Rattle.expand_forms.proofs.Expansions.{zero_value}
-use Rattle.expand_forms.proofs.PlacedTerms.{all_count, next_lacks, sum_more, sum_none, sum_one}
-use Rattle.expand_forms.proofs.TermReadings.{if_ok_map}
 use Rattle.expand_forms.proofs.placing.place_sum.Goals as goal
 
 pub returns-then-is_empty-clause-ok : goal.returns-then-is_empty-clause-ok

@@ -1,6 +1,5 @@
 use Rattle.expand_forms.proofs.Shared.{◌≡◌, ◌<◌, ◌∙◌, ◌∷◌, ◌++◌, [], ℕ, suc, ap, sym, length, arith, true, false, length-append, nodes, are_polynomials, is_polynomial, root_ids, children_of, nth}
-use Rattle.expand_forms.proofs.Shared.{plain, rest_trees, tree_at, kids_of, forest, next_child, last_child}
-use Rattle.expand_forms.proofs.Nodes.{by_children, by_root, fewer_nodes, from, next_is, next_is_not, none_left}
+use Rattle.expand_forms.proofs.{Shared.{plain, rest_trees, tree_at, kids_of, forest, next_child, last_child}, Nodes.{by_children, by_root, fewer_nodes, from, next_is, next_is_not, none_left}}
 use Rattle.expand_forms.proofs.polynomial.+is_polynomial.Goals as goal
 
 pub returns-then-not-has_polynomial_root : goal.returns-then-not-has_polynomial_root

@@ -1,5 +1,4 @@
-use Rattle.expand_forms.proofs.Shared.{◌≡◌, length, nodes, are_polynomials, is_polynomial, root_ids, children_of, plain, rest_trees, tree_at, kids_of, forest}
-use Rattle.expand_forms.proofs.Nodes.{from}
+use Rattle.expand_forms.proofs.{Shared.{◌≡◌, length, nodes, are_polynomials, is_polynomial, root_ids, children_of, plain, rest_trees, tree_at, kids_of, forest}, Nodes.{from}}
 use Rattle.expand_forms.proofs.polynomial.+is_polynomial.Given as goal
 
 abbrev pub decreases-is_polynomial : goal.decreases-is_polynomial

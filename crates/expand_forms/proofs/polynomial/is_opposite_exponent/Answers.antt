@@ -1,5 +1,4 @@
-use Rattle.expand_forms.proofs.Shared.{◌∙◌, ap, sym, whole_literal, whole_value, value_of, Tree, neg, is_small}
-use Rattle.expand_forms.proofs.Numbers.{opposite_whole}
+use Rattle.expand_forms.proofs.{Shared.{◌∙◌, ap, sym, whole_literal, whole_value, value_of, Tree, neg, is_small}, Numbers.{opposite_whole}}
 use Rattle.expand_forms.proofs.polynomial.is_opposite_exponent.Goals as goal
 
 pub returns-in-Num : goal.returns-in-Num

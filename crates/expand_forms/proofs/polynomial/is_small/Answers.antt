@@ -1,5 +1,4 @@
-use Rattle.expand_forms.proofs.Shared.{◌∙◌, rules, FitsSigned, w128, to_z-of_z}
-use Rattle.expand_forms.proofs.Numbers.{small_none, small_some}
+use Rattle.expand_forms.proofs.{Shared.{◌∙◌, rules, FitsSigned, w128, to_z-of_z}, Numbers.{small_none, small_some}}
 use Rattle.expand_forms.proofs.polynomial.is_small.Goals as goal
 
 pub returns-then-is_whole : goal.returns-then-is_whole

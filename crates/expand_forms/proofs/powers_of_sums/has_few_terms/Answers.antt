@@ -1,5 +1,4 @@
-use Rattle.expand_forms.proofs.Shared.{sym, arith, children_number, forest, plain, tree_at}
-use Rattle.expand_forms.proofs.PowersOfSums.{power_kind, two_children}
+use Rattle.expand_forms.proofs.{Shared.{sym, arith, children_number, forest, plain, tree_at}, PowersOfSums.{power_kind, two_children}}
 use Rattle.expand_forms.proofs.powers_of_sums.has_few_terms.Goals as goal
 
 pub child_id-requires-clause-within : goal.child_id-requires-clause-within

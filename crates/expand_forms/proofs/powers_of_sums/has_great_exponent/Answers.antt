@@ -1,5 +1,4 @@
-use Rattle.expand_forms.proofs.Shared.{◌∙◌, ap, arith, subst, sym, IsExpanded, children_number, children_of, forest, has_polynomial_root, is_exponent, plain, tree_at}
-use Rattle.expand_forms.proofs.NodeKinds.{power_node}
+use Rattle.expand_forms.proofs.{Shared.{◌∙◌, ap, arith, subst, sym, IsExpanded, children_number, children_of, forest, has_polynomial_root, is_exponent, plain, tree_at}, NodeKinds.{power_node}}
 use Rattle.expand_forms.proofs.PowersOfSums.{exponent_expanded, power_kind, ready_nth, two_children}
 use Rattle.expand_forms.proofs.powers_of_sums.has_great_exponent.Goals as goal
 

@@ -1,5 +1,4 @@
-use Rattle.expand_forms.proofs.Shared.{arith, children_number, ◌∙◌, ap, sym, forest, is_add, plain, tree_at}
-use Rattle.expand_forms.proofs.PowersOfSums.{no_power, two_children, by_base}
+use Rattle.expand_forms.proofs.{Shared.{arith, children_number, ◌∙◌, ap, sym, forest, is_add, plain, tree_at}, PowersOfSums.{no_power, two_children, by_base}}
 use Rattle.expand_forms.proofs.powers_of_sums.is_power_of_sum.Goals as goal
 
 pub child_id-requires-clause-within : goal.child_id-requires-clause-within

@@ -1,8 +1,6 @@
-use Rattle.expand_forms.proofs.Shared.{expression, ◌∙◌, ◌≡◌, true, refl, sym, ap, arith, rules, free_of, front_same, gives, gives_as, if_map, kept_same, own_bits, represents_handed, seen}
-use Rattle.expand_forms.proofs.Shared.{tree_of, is_power_of_sum, refused_as}
-use Rattle.expand_forms.proofs.OverAnswers.{children_expanded, expanded_from, few_bytes, polynomial_root}
-use Rattle.expand_forms.proofs.PowersOfSums.{answer_expanded, answer_over, lacks, over_ready}
-use Rattle.expand_forms.proofs.powers_of_sums.raise_answer.Goals.{Then-is_power_of_sum}
+use Rattle.expand_forms.proofs.Shared.{expression, ◌∙◌, ◌≡◌, true, refl, sym, ap, arith, rules, free_of, front_same, gives, gives_as, if_map, kept_same, own_bits, represents_handed, seen, tree_of}
+use Rattle.expand_forms.proofs.{Shared.{is_power_of_sum, refused_as}, OverAnswers.{children_expanded, expanded_from, few_bytes, polynomial_root}}
+use Rattle.expand_forms.proofs.{PowersOfSums.{answer_expanded, answer_over, lacks, over_ready}, powers_of_sums.raise_answer.Goals.{Then-is_power_of_sum}}
 use Rattle.expand_forms.proofs.powers_of_sums.raise_answer.Goals as goal
 
 -- the tree is a power of a sum

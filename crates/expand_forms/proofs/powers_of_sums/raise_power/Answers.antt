@@ -1,10 +1,8 @@
 use Rattle.expand_forms.proofs.Shared.{◌≡◌, ◌∙◌, ◌<◌, ◌≤◌, ◌+◌, ℕ, true, length, ap, subst, sym, arith, rules, AreExpanded, HasNoNewName, IsOver, OfFull, OfOverflow, Tree, children_of, expanded}
-use Rattle.expand_forms.proofs.Shared.{free_of, given_handed, given_told, has_polynomial_root, most_bits, nth, own_bits, passed_on, polynomial_of, size, tree_of, MayLack, changes_as}
-use Rattle.expand_forms.proofs.Shared.{changes_front, hole_stays, keeps_after, set_child}
-use Rattle.expand_forms.proofs.OverAnswers.{few_bytes}
-use Rattle.expand_forms.proofs.PowersOfSums.{children_ready, lacks, no_result, power_bits, power_lacks, power_of, ready_nth, ready_power}
+use Rattle.expand_forms.proofs.Shared.{free_of, given_handed, given_told, has_polynomial_root, most_bits, nth, own_bits, passed_on, polynomial_of, size, tree_of, MayLack, changes_as, changes_front}
+use Rattle.expand_forms.proofs.{Shared.{hole_stays, keeps_after, set_child}, OverAnswers.{few_bytes}, PowersOfSums.{children_ready, lacks, no_result, power_bits, power_lacks, power_of, ready_nth}}
+use Rattle.expand_forms.proofs.{PowersOfSums.{ready_power}, powers_of_sums.raise_power.Goals.{After-open_child-hole}}
 use Rattle.tree_handles.proofs.Refused.{overflow_as}
-use Rattle.expand_forms.proofs.powers_of_sums.raise_power.Goals.{After-open_child-hole}
 use Rattle.expand_forms.proofs.powers_of_sums.raise_power.Goals as goal
 
 -- the tree that is raised

@@ -1,7 +1,6 @@
 use Rattle.expand_forms.proofs.Shared.{inl, ◌∙◌, refl, sym, subst, ◌<◌, ◌*◌, expression, seen, expanded, product, polynomial_of, IsExpanded, gives_without, behind_first, front_after, front_at}
 use Rattle.expand_forms.proofs.Shared.{front_same, front_without, given_other, given_told, gives_as, owned, Tree, HasFewTerms, sum_bytes, free_of, OfFull, passed_on, IsHeld, IsNoOverflow, plain}
-use Rattle.expand_forms.proofs.Shared.{tree_at, tree_of, forest}
-use Rattle.expand_forms.proofs.TermReadings.{beside}
+use Rattle.expand_forms.proofs.{Shared.{tree_at, tree_of, forest}, TermReadings.{beside}}
 use Rattle.expand_forms.proofs.products.times.Goals as goal
 
 pub place_product-requires : goal.place_product-requires

@@ -1,5 +1,4 @@
-use Rattle.expand_forms.proofs.Shared.{◌≤◌, length, vec_capacity, arith, HasExponents, passed_on, IsUnlistedBy}
-use Rattle.expand_forms.proofs.ReadTerms.{add_listed, has_monomial, lacks_room, not_like, unlisted_as}
+use Rattle.expand_forms.proofs.{Shared.{◌≤◌, length, vec_capacity, arith, HasExponents, passed_on, IsUnlistedBy}, ReadTerms.{add_listed, has_monomial, lacks_room, not_like, unlisted_as}}
 use Rattle.expand_forms.proofs.reading.add_term.Goals as goal
 
 pub packed_monomial-requires-clause-monomial : goal.packed_monomial-requires-clause-monomial

@@ -1,6 +1,4 @@
-use Rattle.expand_forms.proofs.Shared.{rules, ◌<◌, sym, ◌∙◌, subst, Trees, count, sum_kind, plain, tree_at, forest}
-use Rattle.expand_forms.proofs.Within.{inside_child, inside_itself}
-use Rattle.expand_forms.proofs.TermReadings.{sum_terms_in}
+use Rattle.expand_forms.proofs.{Shared.{rules, ◌<◌, sym, ◌∙◌, subst, Trees, count, sum_kind, plain, tree_at, forest}, Within.{inside_child, inside_itself}, TermReadings.{sum_terms_in}}
 use Rattle.expand_forms.proofs.terms.term_id.Goals as goal
 
 pub child-requires : goal.child-requires

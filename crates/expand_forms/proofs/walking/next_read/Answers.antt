@@ -1,5 +1,5 @@
-use Rattle.expand_forms.proofs.Shared.{sym, subst, BeginsWith, ap, AreAhead, Monomial, forest, is_num, is_symbol, one_value, next_is, some_next}
-use Rattle.expand_forms.proofs.FactorWalks.{ended, none_ahead, IsNameAhead, IsPowerAhead, IsPowerPassed, name_ahead, name_begins, next_ahead, power_ahead, power_begins, power_passed, some_ahead, some_behind}
+use Rattle.expand_forms.proofs.{Shared.{sym, subst, BeginsWith, ap, AreAhead, Monomial, forest, is_num, is_symbol, one_value, next_is, some_next}, FactorWalks.{ended, none_ahead, IsNameAhead}}
+use Rattle.expand_forms.proofs.FactorWalks.{IsPowerAhead, IsPowerPassed, name_ahead, name_begins, next_ahead, power_ahead, power_begins, power_passed, some_ahead, some_behind}
 use Rattle.expand_forms.proofs.walking.next_read.Goals.{In-Sym, In_default, After-unwrap-exponent}
 use Rattle.expand_forms.proofs.walking.next_read.Goals as goal
 

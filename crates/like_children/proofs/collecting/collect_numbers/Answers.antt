@@ -1,9 +1,7 @@
-use Rattle.like_children.proofs.Shared.{◌≡◌, ◌∙◌, true, ap, sym, subst, arith, rules, is_number, is_reduced, SpansRoot, SpansTree, Trees, count, size, LeavesChildren, IsJoint, children_of}
-use Rattle.like_children.proofs.Shared.{tree_of, without_root, forest, keeps_none, keeps_after, front_same, given_handed, given_told, fault_named, full_as}
-use Rattle.like_children.proofs.SoFar.{base, begun, none_so_far, one_more, next_named, next_few, all_done, parts_taken, left_many, next_out, left_more, left_front, at_hand}
-use Rattle.like_children.proofs.Folds.{begun_with, fold_more, fold_faulted, fold_done, no_numbers}
-use Rattle.like_children.proofs.Kids.{count_removed, each_removed}
-use Rattle.like_children.proofs.Many.{many_handed, many_children, child_within}
+use Rattle.like_children.proofs.Shared.{◌≡◌, ◌∙◌, true, ap, sym, subst, arith, rules, is_number, is_reduced, SpansRoot, SpansTree, Trees, count, size, LeavesChildren, IsJoint, children_of, tree_of}
+use Rattle.like_children.proofs.{Shared.{without_root, forest, keeps_none, keeps_after, front_same, given_handed, given_told, fault_named, full_as}, SoFar.{base, begun, none_so_far, one_more}}
+use Rattle.like_children.proofs.SoFar.{next_named, next_few, all_done, parts_taken, left_many, next_out, left_more, left_front, at_hand}
+use Rattle.like_children.proofs.{Folds.{begun_with, fold_more, fold_faulted, fold_done, no_numbers}, Kids.{count_removed, each_removed}, Many.{many_handed, many_children, child_within}}
 use Rattle.like_children.proofs.collecting.collect_numbers.Goals as goal
 
 pub loop-at-init : goal.loop-at-init

@@ -1,6 +1,5 @@
-use Rattle.like_children.proofs.Shared.{ℕ, List, ◌≡◌, ◌<◌, true, [], ◌∷◌, fold_values, SpansTree, SpansTrees, count, is_num, are_rationals, is_reduced, nth, children_of, tree_of}
-use Rattle.like_children.proofs.Shared.{KeepsFront, without_root, Stands, forest, KeepsRefusals, LeavesChildren, AreFolded, rational_of, rationals_of}
-use Rattle.like_children.proofs.SoFar.{IsSoFar}
+use Rattle.like_children.proofs.Shared.{ℕ, List, ◌≡◌, ◌<◌, true, [], ◌∷◌, fold_values, SpansTree, SpansTrees, count, is_num, are_rationals, is_reduced, nth, children_of, tree_of, KeepsFront}
+use Rattle.like_children.proofs.{Shared.{without_root, Stands, forest, KeepsRefusals, LeavesChildren, AreFolded, rational_of, rationals_of}, SoFar.{IsSoFar}}
 use Rattle.like_children.proofs.collecting.collect_numbers.Given as goal
 
 abbrev pub invariant-loop-at : goal.invariant-loop-at

@@ -1,6 +1,4 @@
-use Rattle.like_children.proofs.Shared.{suc, ◌∙◌, sym, subst, arith, forest}
-use Rattle.like_children.proofs.Items.{children_count, children_told, next_child, last_child}
-use Rattle.like_children.proofs.Pairs.{key_valid, key_as, one_key}
+use Rattle.like_children.proofs.{Shared.{suc, ◌∙◌, sym, subst, arith, forest}, Items.{children_count, children_told, next_child, last_child}, Pairs.{key_valid, key_as, one_key}}
 use Rattle.like_children.proofs.neighbours.is_pair.Goals as goal
 
 pub child_ids-ids-requires-clause-within : goal.child_ids-ids-requires-clause-within

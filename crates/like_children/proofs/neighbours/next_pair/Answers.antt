@@ -1,5 +1,4 @@
-use Rattle.like_children.proofs.Shared.{suc, ◌∙◌, sym, subst, arith, add-one, children_of, tree_of, forest, are_alike}
-use Rattle.like_children.proofs.Items.{children_count, next_child, last_child, children_told}
+use Rattle.like_children.proofs.{Shared.{suc, ◌∙◌, sym, subst, arith, add-one, children_of, tree_of, forest, are_alike}, Items.{children_count, next_child, last_child, children_told}}
 use Rattle.like_children.proofs.Pairs.{key_valid, key_as, one_key, no_pair_more}
 use Rattle.like_children.proofs.neighbours.next_pair.Goals as goal
 

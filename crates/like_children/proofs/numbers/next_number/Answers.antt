@@ -1,5 +1,4 @@
-use Rattle.like_children.proofs.Shared.{ap, ◌∙◌, sym, arith, add-one, is_number, is_reduced, children_of, tree_of}
-use Rattle.like_children.proofs.Items.{children_count, children_told, next_child, last_child}
+use Rattle.like_children.proofs.{Shared.{ap, ◌∙◌, sym, arith, add-one, is_number, is_reduced, children_of, tree_of}, Items.{children_count, children_told, next_child, last_child}}
 use Rattle.like_children.proofs.Before.{no_number_more}
 use Rattle.like_children.proofs.numbers.next_number.Goals as goal
 

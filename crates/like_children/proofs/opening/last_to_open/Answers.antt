@@ -1,6 +1,4 @@
-use Rattle.like_children.proofs.Shared.{sym, subst, arith, add-one, Tree, Opens, children_of, tree_of}
-use Rattle.like_children.proofs.Items.{next_child, last_child}
-use Rattle.like_children.proofs.Openings.{last_still, last_here}
+use Rattle.like_children.proofs.{Shared.{sym, subst, arith, add-one, Tree, Opens, children_of, tree_of}, Items.{next_child, last_child}, Openings.{last_still, last_here}}
 use Rattle.like_children.proofs.opening.last_to_open.Goals.{then-opens, else-opens}
 use Rattle.like_children.proofs.opening.last_to_open.Goals as goal
 

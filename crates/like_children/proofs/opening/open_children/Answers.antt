@@ -1,9 +1,6 @@
-use Rattle.like_children.proofs.Shared.{◌≡◌, ap, ◌∙◌, sym, subst, arith, rules, count, opened_from, opened_from_end, NoneOpensBetween, IsLastToOpen, nth, children_of, kids, merged_nth}
-use Rattle.like_children.proofs.Shared.{tree_of, root_tree, forest, keeps_none, keeps_after}
-use Rattle.like_children.proofs.Items.{children_told}
-use Rattle.like_children.proofs.Kids.{represents_merged}
-use Rattle.like_children.proofs.Many.{many, many_handed, many_children, place_within, child_within, child_once}
-use Rattle.like_children.proofs.Openings.{nth_before, count_before, opened_down, found, has_same, has_after, has_as, has_many}
+use Rattle.like_children.proofs.Shared.{◌≡◌, ap, ◌∙◌, sym, subst, arith, rules, count, opened_from, opened_from_end, NoneOpensBetween, IsLastToOpen, nth, children_of, kids, merged_nth, tree_of}
+use Rattle.like_children.proofs.{Shared.{root_tree, forest, keeps_none, keeps_after}, Items.{children_told}, Kids.{represents_merged}, Many.{many, many_handed, many_children, place_within}}
+use Rattle.like_children.proofs.{Many.{child_within, child_once}, Openings.{nth_before, count_before, opened_down, found, has_same, has_after, has_as, has_many}}
 use Rattle.like_children.proofs.opening.open_children.Goals as goal
 
 pub loop-at-init : goal.loop-at-init

@@ -1,5 +1,4 @@
-use Rattle.line_text.proofs.Shared.{◌≡◌, ◌∙◌, ◌+◌, ◌/◌, ◌%◌, ◌∷◌, [], ℕ, List, length, sym, ap, arith, append_assoc, length-append, Content, extended}
-use Rattle.line_text.proofs.Decimals.{one_digit, two_digits}
+use Rattle.line_text.proofs.{Shared.{◌≡◌, ◌∙◌, ◌+◌, ◌/◌, ◌%◌, ◌∷◌, [], ℕ, List, length, sym, ap, arith, append_assoc, length-append, Content, extended}, Decimals.{one_digit, two_digits}}
 use Rattle.line_text.proofs.writing.write_short.Goals as goal
 
 pub push_byte-requires : goal.push_byte-requires

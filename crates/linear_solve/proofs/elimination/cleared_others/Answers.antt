@@ -1,9 +1,7 @@
 use Rattle.std.proofs.Common.{◌≡◌, ◌<◌, ◌+◌, ◌-◌, [], ◌∷◌, ◌++◌, if◌then◌else◌, sym, ap, subst, ◌∙◌, map, length, take, Ok, arith}
 use Rattle.std.specs.Prelude.{◌==◌}
-use Rattle.linear_solve.proofs.Shared.{eq-eqb, ne_eqb, err_from_is_err_and, length-map, cleared, others, each, entries_of, misfit_of}
-use Rattle.linear_solve.proofs.Calculations.{each_more, each_stops}
-use Rattle.linear_solve.proofs.RowLists.{mapped_push, other_row, others_long}
-use Rattle.linear_solve.proofs.elimination.cleared_others.Goals.{then-place-at, else-place-at}
+use Rattle.linear_solve.proofs.{Shared.{eq-eqb, ne_eqb, err_from_is_err_and, length-map, cleared, others, each, entries_of, misfit_of}, Calculations.{each_more, each_stops}}
+use Rattle.linear_solve.proofs.{RowLists.{mapped_push, other_row, others_long}, elimination.cleared_others.Goals.{then-place-at, else-place-at}}
 use Rattle.linear_solve.proofs.elimination.cleared_others.Goals as goal
 
 pub returns-in_err-row-clause-overflow : goal.returns-in_err-row-clause-overflow

@@ -1,7 +1,5 @@
 use Rattle.std.proofs.Common.{◌<◌, ◌+◌, None, ap, ◌∙◌, map, length, arith}
-use Rattle.linear_solve.proofs.Shared.{err_from_is_err_and, length-map, cleared_pivot, entries_of, misfit_of, pivot_of}
-use Rattle.linear_solve.proofs.Calculations.{each_more, each_stops}
-use Rattle.linear_solve.proofs.RowLists.{mapped_push, read_row}
+use Rattle.linear_solve.proofs.{Shared.{err_from_is_err_and, length-map, cleared_pivot, entries_of, misfit_of, pivot_of}, Calculations.{each_more, each_stops}, RowLists.{mapped_push, read_row}}
 use Rattle.linear_solve.proofs.elimination.cleared_pivots.Goals as goal
 
 pub returns-in_err-row-clause-overflow : goal.returns-in_err-row-clause-overflow

@@ -1,8 +1,5 @@
 use Rattle.std.proofs.Common.{◌<◌, [], sym, ap, ◌∙◌, map, length, arith}
-use Rattle.linear_solve.proofs.Shared.{length-map, zero_test, is_zero_fraction, entry, entries_of}
-use Rattle.linear_solve.proofs.Entries.{nonzero_numerator}
-use Rattle.linear_solve.proofs.RowLists.{read_row}
-use Rattle.linear_solve.proofs.Steps.{first_has}
+use Rattle.linear_solve.proofs.{Shared.{length-map, zero_test, is_zero_fraction, entry, entries_of}, Entries.{nonzero_numerator}, RowLists.{read_row}, Steps.{first_has}}
 use Rattle.linear_solve.proofs.elimination.pivot_row.Goals as goal
 
 pub invert-requires : goal.invert-requires

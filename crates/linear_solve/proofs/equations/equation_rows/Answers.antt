@@ -1,9 +1,7 @@
 use Rattle.std.proofs.Common.{◌≡◌, ◌<◌, ◌+◌, length, map, get_or, sym, ap, subst, ◌∙◌, arith}
-use Rattle.linear_solve.proofs.Shared.{length-map, All-get_or, CalmChecks-append, CalmChecks, states, name_of, IsLinearIn, equation_at, equation_checks, equations_in, side_checks, entries_of, misfit_of, forest}
-use Rattle.linear_solve.proofs.EquationRows.{all_equations, broken_equation, equation_here, equations_long, next_equation}
-use Rattle.linear_solve.proofs.CheckCounts.{all_side_checks, first_checks, next_side_checks, side_checks_stop, side_checks_within}
-use Rattle.linear_solve.proofs.RowLists.{mapped_push}
-use Rattle.linear_solve.proofs.Theorem.{difference_long, no_equation}
+use Rattle.linear_solve.proofs.Shared.{length-map, All-get_or, CalmChecks-append, CalmChecks, states, name_of, IsLinearIn, equation_at, equation_checks, equations_in, side_checks, entries_of}
+use Rattle.linear_solve.proofs.{Shared.{misfit_of, forest}, EquationRows.{all_equations, broken_equation, equation_here, equations_long, next_equation}, CheckCounts.{all_side_checks, first_checks}}
+use Rattle.linear_solve.proofs.{CheckCounts.{next_side_checks, side_checks_stop, side_checks_within}, RowLists.{mapped_push}, Theorem.{difference_long, no_equation}}
 use Rattle.linear_solve.proofs.Walks.{handed_on, overflow_as, stops_after}
 use Rattle.linear_solve.proofs.equations.equation_rows.Goals as goal
 

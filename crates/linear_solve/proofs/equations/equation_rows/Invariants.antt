@@ -1,6 +1,5 @@
 use Rattle.std.proofs.Common.{◌≡◌, ℕ, Ok, length, map, take}
-use Rattle.linear_solve.proofs.Shared.{enumerate_from, CalmChecks, states, name_of, equation_row, Equation, equations_in, each, entries_of, forest}
-use Rattle.linear_solve.proofs.CheckCounts.{first_checks}
+use Rattle.linear_solve.proofs.{Shared.{enumerate_from, CalmChecks, states, name_of, equation_row, Equation, equations_in, each, entries_of, forest}, CheckCounts.{first_checks}}
 use Rattle.linear_solve.proofs.equations.equation_rows.Given as goal
 
 abbrev pub invariant-loop-at : goal.invariant-loop-at

@@ -1,7 +1,5 @@
 use Rattle.std.proofs.Common.{◌≡◌, ◌<◌, ◌++◌, ◌∷◌, [], length, take, sym, ap, ◌∙◌, append_assoc, arith}
-use Rattle.linear_solve.proofs.Shared.{take_all, take_more, zero_fraction, value_of, unit, entry, entries_of}
-use Rattle.linear_solve.proofs.RowLists.{unit_entry}
-use Rattle.linear_solve.proofs.Worths.{length-unit}
+use Rattle.linear_solve.proofs.{Shared.{take_all, take_more, zero_fraction, value_of, unit, entry, entries_of}, RowLists.{unit_entry}, Worths.{length-unit}}
 use Rattle.linear_solve.proofs.equations.push_unit.Goals as goal
 
 pub loop-at-preserved : goal.loop-at-preserved

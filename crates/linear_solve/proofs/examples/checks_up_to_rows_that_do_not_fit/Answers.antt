@@ -1,6 +1,5 @@
 use Rattle.std.proofs.Common.{refl}
-use Rattle.calc_terms.specs.Fractions.{lowest, plus, times, negative, zero_fraction, one_fraction}
-use Rattle.calc_terms.specs.Gcd.{gcd}
+use Rattle.calc_terms.specs.{Fractions.{lowest, plus, times, negative, zero_fraction, one_fraction}, Gcd.{gcd}}
 use Rattle.linear_solve.proofs.examples.checks_up_to_rows_that_do_not_fit.Goals as goal
 
 pub returns-clause-in_the_first_term : goal.returns-clause-in_the_first_term

@@ -1,7 +1,5 @@
 use Rattle.std.proofs.Common.{◌≡◌, drop}
-use Rattle.linear_solve.proofs.Shared.{nodes, name_where_linear, plain, children_of, tree_at, forest}
-use Rattle.linear_solve.proofs.LinearNodes.{asked}
-use Rattle.linear_solve.proofs.TreeLists.{listed}
+use Rattle.linear_solve.proofs.{Shared.{nodes, name_where_linear, plain, children_of, tree_at, forest}, LinearNodes.{asked}, TreeLists.{listed}}
 use Rattle.linear_solve.proofs.linear.+name_where_linear.Given as goal
 
 abbrev pub decreases-name_where_linear : goal.decreases-name_where_linear

@@ -1,6 +1,5 @@
 use Rattle.std.proofs.Common.{sym, ap, ◌∙◌, if◌then◌else◌}
-use Rattle.linear_solve.proofs.Shared.{one_fraction, zero_fraction}
-use Rattle.linear_solve.proofs.Entries.{one_value, zero_value}
+use Rattle.linear_solve.proofs.{Shared.{one_fraction, zero_fraction}, Entries.{one_value, zero_value}}
 use Rattle.linear_solve.proofs.row.one_where.Goals as goal
 
 pub returns-then-test : goal.returns-then-test

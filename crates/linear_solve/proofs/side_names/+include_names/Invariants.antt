@@ -1,10 +1,7 @@
 use Rattle.std.proofs.Common.{true}
 use Rattle.calc_terms.specs.Trees.{nodes}
-use Rattle.linear_solve.specs.Listed.{names_listed}
-use Rattle.linear_solve.specs.RisingNames.{Includes, Rises}
-use Rattle.tree_handles.specs.Expressions.{children_of, plain}
-use Rattle.tree_handles.specs.Inside.{tree_at}
-use Rattle.tree_handles.specs.Standing.{forest}
+use Rattle.linear_solve.specs.{Listed.{names_listed}, RisingNames.{Includes, Rises}}
+use Rattle.tree_handles.specs.{Expressions.{children_of, plain}, Inside.{tree_at}, Standing.{forest}}
 use Rattle.linear_solve.proofs.RisingLemmas.{first_names}
 use Rattle.linear_solve.proofs.side_names.+include_names.Given as goal
 

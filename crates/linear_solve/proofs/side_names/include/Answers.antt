@@ -1,14 +1,8 @@
-use Rattle.std.proofs.Common.{◌≡◌, ◌<◌, ◌≤◌, ℕ, List, [], ◌∷◌, Bool, true, false, sym, ◌∙◌, subst, ap, arith, length}
+use Rattle.std.proofs.{Common.{◌≡◌, ◌<◌, ◌≤◌, ℕ, List, [], ◌∷◌, Bool, true, false, sym, ◌∙◌, subst, ap, arith, length}, lemmas.Bool.{eq-eqb, eqb-true}, lemmas.List.{length-map}}
+use Rattle.std.proofs.{lemmas.List.Sums.{prefix_len-le-length}, Math.Dec.{eqb}}
 use Rattle.calc_terms.specs.Leaf.{name_of}
-use Rattle.linear_solve.specs.Listed.{names_listed}
-use Rattle.linear_solve.specs.RisingNames.{Includes, Rises, is_before}
-use Rattle.linear_solve.specs.declared.side_names.Listed.{Listed}
-use Rattle.std.proofs.lemmas.Bool.{eq-eqb, eqb-true}
-use Rattle.std.proofs.lemmas.List.{length-map}
-use Rattle.std.proofs.lemmas.List.Sums.{prefix_len-le-length}
-use Rattle.std.specs.List.{list_any, prefix_len}
-use Rattle.std.specs.Str.{bytes_eq}
-use Rattle.std.proofs.Math.Dec.{eqb}
+use Rattle.linear_solve.specs.{Listed.{names_listed}, RisingNames.{Includes, Rises, is_before}, declared.side_names.Listed.{Listed}}
+use Rattle.std.specs.{List.{list_any, prefix_len}, Str.{bytes_eq}}
 use Rattle.linear_solve.proofs.RisingLemmas.{includes_new, includes_none, includes_there, listed_any, listed_none, listed_with, rises_with}
 use Rattle.linear_solve.proofs.side_names.include.Goals as goal
 

@@ -1,6 +1,5 @@
 use Rattle.std.proofs.Common.{take, true}
-use Rattle.linear_solve.specs.Listed.{names_listed}
-use Rattle.linear_solve.specs.RisingNames.{Includes, Rises, names_at}
+use Rattle.linear_solve.specs.{Listed.{names_listed}, RisingNames.{Includes, Rises, names_at}}
 use Rattle.tree_handles.specs.Standing.{forest}
 use Rattle.linear_solve.proofs.side_names.include_all.Given as goal
 

@@ -1,7 +1,5 @@
 use Rattle.std.proofs.Common.{sym, ◌∙◌}
-use Rattle.tree_handles.specs.Expressions.{plain}
-use Rattle.tree_handles.specs.Inside.{tree_at}
-use Rattle.tree_handles.specs.Standing.{forest}
+use Rattle.tree_handles.specs.{Expressions.{plain}, Inside.{tree_at}, Standing.{forest}}
 use Rattle.linear_solve.proofs.RisingLemmas.{no_symbol}
 use Rattle.linear_solve.proofs.side_names.is_symbol.Goals as goal
 

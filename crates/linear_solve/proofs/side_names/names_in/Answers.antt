@@ -1,8 +1,5 @@
-use Rattle.std.proofs.Common.{List, subst, true, false}
-use Rattle.linear_solve.specs.Listed.{names_listed}
-use Rattle.linear_solve.specs.RisingNames.{Includes, names_at}
-use Rattle.linear_solve.specs.declared.side_names.Listed.{Listed}
-use Rattle.std.proofs.lemmas.List.Elements.{Contains-append_left}
+use Rattle.std.proofs.{Common.{List, subst, true, false}, lemmas.List.Elements.{Contains-append_left}}
+use Rattle.linear_solve.specs.{Listed.{names_listed}, RisingNames.{Includes, names_at}, declared.side_names.Listed.{Listed}}
 use Rattle.tree_handles.specs.Standing.{forest}
 use Rattle.linear_solve.proofs.RisingLemmas.{includes_both, includes_wider, names_are, names_over}
 use Rattle.linear_solve.proofs.side_names.names_in.Goals as goal

@@ -1,8 +1,7 @@
 use Rattle.std.proofs.Common.{◌<◌, ◌≤◌, refl, length, map, sym, ap, ◌∙◌, subst, arith}
-use Rattle.linear_solve.proofs.Shared.{length-map, CalmChecks-append, CalmChecks, states, name_of, count, nodes, StopsAfter, is_linear, row_checks, row_of, misfit_of, side_of, side_told, children_of, nth, plain, tree_at, forest, one_calm, trips_after}
-use Rattle.linear_solve.proofs.CheckCounts.{child_checks, child_checks_stop, child_checks_within, next_child_checks, own_check}
-use Rattle.linear_solve.proofs.TreeLists.{fewer_nodes}
-use Rattle.linear_solve.proofs.Walks.{child_linear, child_misfit, divisor_at, handed_on, next_made, none_made, overflow_as, own_made, own_misfit, stops_after}
+use Rattle.linear_solve.proofs.Shared.{length-map, CalmChecks-append, CalmChecks, states, name_of, count, nodes, StopsAfter, is_linear, row_checks, row_of, misfit_of, side_of, side_told, children_of}
+use Rattle.linear_solve.proofs.{Shared.{nth, plain, tree_at, forest, one_calm, trips_after}, CheckCounts.{child_checks, child_checks_stop, child_checks_within, next_child_checks, own_check}}
+use Rattle.linear_solve.proofs.{TreeLists.{fewer_nodes}, Walks.{child_linear, child_misfit, divisor_at, handed_on, next_made, none_made, overflow_as, own_made, own_misfit, stops_after}}
 use Rattle.linear_solve.specs.declared.fault.SolveFault.TheVariants as fault
 use Rattle.linear_solve.proofs.sides.+side_row.Goals as goal
 

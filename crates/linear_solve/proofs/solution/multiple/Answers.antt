@@ -1,6 +1,5 @@
 use Rattle.std.proofs.Common.{sym, ap, ◌∙◌, if◌then◌else◌}
-use Rattle.linear_solve.proofs.Shared.{eq-eqb, negative, zero_fraction, entry, entries_of}
-use Rattle.linear_solve.proofs.Entries.{zero_value}
+use Rattle.linear_solve.proofs.{Shared.{eq-eqb, negative, zero_fraction, entry, entries_of}, Entries.{zero_value}}
 use Rattle.linear_solve.proofs.solution.multiple.Goals as goal
 
 pub returns-then-at-own : goal.returns-then-at-own

@@ -1,7 +1,6 @@
 use Rattle.std.proofs.Common.{◌≡◌, ◌+◌, Ok, Err, IfOk, IfErr, length, map, sym, refl, subst, arith}
-use Rattle.linear_solve.proofs.Shared.{length-map, CalmChecks-append, CalmChecks, states, name_of, equation_checks, equations_in, name_checks, solving_checks, OfOverflow, answer_told, rows_at_first, entries_of, misfit_of, forest}
-use Rattle.linear_solve.proofs.Results.{if_err_as, on_ok_as, rows_err, rows_solve}
-use Rattle.linear_solve.proofs.Walks.{handed_on, of_overflow, overflow_as, stops_after, stops_as}
+use Rattle.linear_solve.proofs.Shared.{length-map, CalmChecks-append, CalmChecks, states, name_of, equation_checks, equations_in, name_checks, solving_checks, OfOverflow, answer_told, rows_at_first}
+use Rattle.linear_solve.proofs.{Shared.{entries_of, misfit_of, forest}, Results.{if_err_as, on_ok_as, rows_err, rows_solve}, Walks.{handed_on, of_overflow, overflow_as, stops_after, stops_as}}
 use Rattle.linear_solve.proofs.CheckCounts.{equation_checks_all, names_behind, rows_stop, rows_within}
 use Rattle.linear_solve.proofs.solving.calculate.Goals as goal
 

@@ -1,7 +1,5 @@
 use Rattle.std.proofs.Common.{length, map, ◌∙◌, ◌+◌}
-use Rattle.linear_solve.proofs.Shared.{length-map, states, name_of, equations_in, nodes_of_sides, solving_checks, forest}
-use Rattle.linear_solve.proofs.EquationRows.{equations_long}
-use Rattle.linear_solve.proofs.Results.{if_never, if_solved, trips_tell}
+use Rattle.linear_solve.proofs.{Shared.{length-map, states, name_of, equations_in, nodes_of_sides, solving_checks, forest}, EquationRows.{equations_long}, Results.{if_never, if_solved, trips_tell}}
 use Rattle.linear_solve.proofs.Theorem.{forms_are_later, forms_are_many, multipliers_are_many, never_solved, one_from, solved_where}
 use Rattle.linear_solve.proofs.solving.solve.Goals as goal
 

@@ -1,8 +1,6 @@
 use Rattle.std.proofs.Common.{map, sym, ap, ◌∙◌, subst}
-use Rattle.linear_solve.proofs.Shared.{CalmChecks, StopsAfter, states, name_checks, answer_told, rows_told, entries_of, misfit_of}
-use Rattle.linear_solve.proofs.Results.{answer_err, rows_ok, settled_err}
-use Rattle.linear_solve.proofs.Walks.{handed_on, overflow_as}
-use Rattle.linear_solve.proofs.CheckCounts.{name_checks_all}
+use Rattle.linear_solve.proofs.{Shared.{CalmChecks, StopsAfter, states, name_checks, answer_told, rows_told, entries_of, misfit_of}, Results.{answer_err, rows_ok, settled_err}}
+use Rattle.linear_solve.proofs.{Walks.{handed_on, overflow_as}, CheckCounts.{name_checks_all}}
 use Rattle.linear_solve.specs.declared.fault.SolveFault.TheVariants as fault
 use Rattle.linear_solve.proofs.solving.solve_rows.Goals as goal
 

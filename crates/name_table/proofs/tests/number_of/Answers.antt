@@ -1,7 +1,5 @@
 use Rattle.std.proofs.Common.{ap, ◌∙◌, inl}
-use Rattle.name_table.proofs.Shared.{holds, forest, given_root, last_held}
-use Rattle.name_table.proofs.Entries.{held_entries}
-use Rattle.name_table.proofs.Tested.{given_alone, held_again, held_beside}
+use Rattle.name_table.proofs.{Shared.{holds, forest, given_root, last_held}, Entries.{held_entries}, Tested.{given_alone, held_again, held_beside}}
 use Rattle.name_table.proofs.tests.number_of.Goals as goal
 
 pub fill-requires-clause-last : goal.fill-requires-clause-last

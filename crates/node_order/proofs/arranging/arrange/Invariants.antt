@@ -1,5 +1,4 @@
-use Rattle.node_order.proofs.Shared.{◌≡◌, length, take, IsPermutation, picked_behind, kids, root_tree, put, Stands, forest, KeepsRefusals}
-use Rattle.node_order.proofs.Inverses.{AreInverse}
+use Rattle.node_order.proofs.{Shared.{◌≡◌, length, take, IsPermutation, picked_behind, kids, root_tree, put, Stands, forest, KeepsRefusals}, Inverses.{AreInverse}}
 use Rattle.node_order.proofs.arranging.arrange.Given as goal
 
 abbrev pub invariant-loop-at : goal.invariant-loop-at

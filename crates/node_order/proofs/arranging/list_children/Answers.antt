@@ -1,7 +1,5 @@
-use Rattle.node_order.proofs.Shared.{◌≡◌, ◌<◌, length, sym, ap, ◌∙◌, arith, inl, enumerate_source, enumerate_count, ext_get_or, length-set, root_ids, root_id, rest_trees, tree_nth}
-use Rattle.node_order.proofs.Shared.{kids_of, forest, arity-rest_trees, root_ids-nth, length-root_ids}
-use Rattle.node_order.proofs.Listing.{IsTurn, turn, all_came, listed_more}
-use Rattle.node_order.proofs.arranging.list_children.Goals.{In-Some}
+use Rattle.node_order.proofs.Shared.{◌≡◌, ◌<◌, length, sym, ap, ◌∙◌, arith, inl, enumerate_source, enumerate_count, ext_get_or, length-set, root_ids, root_id, rest_trees, tree_nth, kids_of, forest}
+use Rattle.node_order.proofs.{Shared.{arity-rest_trees, root_ids-nth, length-root_ids}, Listing.{IsTurn, turn, all_came, listed_more}, arranging.list_children.Goals.{In-Some}}
 use Rattle.node_order.proofs.arranging.list_children.Goals as goal
 
 pub loop-at-init-derived : goal.loop-at-init-derived

@@ -1,5 +1,4 @@
-use Rattle.node_order.proofs.Shared.{length, tree_cmp, Tree, Shows, forest}
-use Rattle.node_order.proofs.Pairs.{IsOpen}
+use Rattle.node_order.proofs.{Shared.{length, tree_cmp, Tree, Shows, forest}, Pairs.{IsOpen}}
 use Rattle.node_order.proofs.comparing.compare_fronts.Given as goal
 
 abbrev pub invariant-loop-left : goal.invariant-loop-left

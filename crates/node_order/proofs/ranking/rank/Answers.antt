@@ -1,6 +1,4 @@
-use Rattle.node_order.proofs.Shared.{rules, place_cmp, ranked_tree, forest}
-use Rattle.node_order.proofs.RankLaws.{sorted_by_calls}
-use Rattle.node_order.proofs.Ties.{place_total}
+use Rattle.node_order.proofs.{Shared.{rules, place_cmp, ranked_tree, forest}, RankLaws.{sorted_by_calls}, Ties.{place_total}}
 use Rattle.node_order.proofs.ranking.rank.Goals as goal
 
 pub returns-clause-rising : goal.returns-clause-rising

@@ -1,5 +1,4 @@
-use Rattle.node_order.proofs.Shared.{ap, arith, arity}
-use Rattle.node_order.proofs.SortLaws.{handle_kids, handle_live}
+use Rattle.node_order.proofs.{Shared.{ap, arith, arity}, SortLaws.{handle_kids, handle_live}}
 use Rattle.node_order.proofs.sorting.children_from.Goals as goal
 
 pub children-requires-clause-live : goal.children-requires-clause-live

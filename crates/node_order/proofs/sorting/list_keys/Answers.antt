@@ -1,9 +1,6 @@
-use Rattle.node_order.proofs.Shared.{◌≡◌, ◌<◌, ◌+◌, ℕ, length, sym, ap, ◌∙◌, subst, arith, inl, enumerate_source, enumerate_count, length-set, IsKey, key_tree, root_ids, plains}
-use Rattle.node_order.proofs.Shared.{plain, nth, rest_trees, kids_of, tree_at, forest, arity-rest_trees, count-plains, IsSeenChild, seen_child, length-root_ids}
-use Rattle.node_order.proofs.Listing.{IsTurn, turn, all_came, later_child, listed_more}
-use Rattle.node_order.proofs.SortLaws.{child_plain}
-use Rattle.node_order.proofs.sorting.list_keys.Goals.{In-Some, In-None}
-use Rattle.node_order.proofs.sorting.list_keys.Given.{Over}
+use Rattle.node_order.proofs.Shared.{◌≡◌, ◌<◌, ◌+◌, ℕ, length, sym, ap, ◌∙◌, subst, arith, inl, enumerate_source, enumerate_count, length-set, IsKey, key_tree, root_ids, plains, plain, nth}
+use Rattle.node_order.proofs.Shared.{rest_trees, kids_of, tree_at, forest, arity-rest_trees, count-plains, IsSeenChild, seen_child, length-root_ids}
+use Rattle.node_order.proofs.{Listing.{IsTurn, turn, all_came, later_child, listed_more}, SortLaws.{child_plain}, sorting.list_keys.Goals.{In-Some, In-None}, sorting.list_keys.Given.{Over}}
 use Rattle.node_order.proofs.sorting.list_keys.Goals as goal
 
 pub loop-at-init-derived : goal.loop-at-init-derived

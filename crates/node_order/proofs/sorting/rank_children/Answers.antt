@@ -1,6 +1,4 @@
-use Rattle.node_order.proofs.Shared.{◌≡◌, ◌+◌, List, ℕ, length, subst, arith, IsPermutation, ranked_tree, plains, nth, kids_of, forest}
-use Rattle.node_order.proofs.Places.{inside_range}
-use Rattle.node_order.proofs.SortLaws.{ranked_is}
+use Rattle.node_order.proofs.{Shared.{◌≡◌, ◌+◌, List, ℕ, length, subst, arith, IsPermutation, ranked_tree, plains, nth, kids_of, forest}, Places.{inside_range}, SortLaws.{ranked_is}}
 use Rattle.node_order.proofs.Ties.{places_same}
 use Rattle.node_order.proofs.sorting.rank_children.Goals as goal
 

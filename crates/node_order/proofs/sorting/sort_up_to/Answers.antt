@@ -1,6 +1,5 @@
-use Rattle.node_order.proofs.Shared.{◌+◌, ◌<◌, ◌≤◌, ℕ, sym, ap, subst, arith, replicate, length-take-le, length-replicate, IsSorted, count, place_cmp, plains, nth, IsWhole}
-use Rattle.node_order.proofs.Shared.{IsExpression, Forest, kids, arity, IsOnce, root_tree, forest, all-kids, expression_root}
-use Rattle.node_order.proofs.SortLaws.{sorted_children, handle_kids}
+use Rattle.node_order.proofs.Shared.{◌+◌, ◌<◌, ◌≤◌, ℕ, sym, ap, subst, arith, replicate, length-take-le, length-replicate, IsSorted, count, place_cmp, plains, nth, IsWhole, IsExpression, Forest, kids}
+use Rattle.node_order.proofs.{Shared.{arity, IsOnce, root_tree, forest, all-kids, expression_root}, SortLaws.{sorted_children, handle_kids}}
 use Rattle.node_order.proofs.sorting.sort_up_to.Goals as goal
 
 pub rank_children-requires-clause-parent : goal.rank_children-requires-clause-parent

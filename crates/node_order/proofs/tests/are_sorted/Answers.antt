@@ -1,6 +1,4 @@
-use Rattle.node_order.proofs.Shared.{sym, subst, IsExpression, forest, expression_root}
-use Rattle.node_order.proofs.SortLaws.{handle_live}
-use Rattle.node_order.proofs.Tested.{sum_sorted}
+use Rattle.node_order.proofs.{Shared.{sym, subst, IsExpression, forest, expression_root}, SortLaws.{handle_live}, Tested.{sum_sorted}}
 use Rattle.node_order.proofs.tests.are_sorted.Goals as goal
 
 pub children-many-requires-clause-live : goal.children-many-requires-clause-live

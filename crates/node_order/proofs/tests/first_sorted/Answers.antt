@@ -1,5 +1,4 @@
-use Rattle.node_order.proofs.Shared.{ap, ◌∙◌, has_root, given_handed, given_root, root-put}
-use Rattle.node_order.proofs.SortLaws.{handle_live}
+use Rattle.node_order.proofs.{Shared.{ap, ◌∙◌, has_root, given_handed, given_root, root-put}, SortLaws.{handle_live}}
 use Rattle.node_order.proofs.tests.first_sorted.Goals as goal
 
 pub sort_children-requires-clause-handed : goal.sort_children-requires-clause-handed

@@ -1,5 +1,4 @@
-use Rattle.node_order.proofs.Shared.{refl, ap, root_payload, given_root, given_handed, given_other, last_tree, root_held}
-use Rattle.node_order.proofs.Tested.{sum_takes, sum_apart}
+use Rattle.node_order.proofs.{Shared.{refl, ap, root_payload, given_root, given_handed, given_other, last_tree, root_held}, Tested.{sum_takes, sum_apart}}
 use Rattle.node_order.proofs.tests.sum_of_many.Goals as goal
 
 pub loop-number-init : goal.loop-number-init

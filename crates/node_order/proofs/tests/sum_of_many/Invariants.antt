@@ -1,5 +1,4 @@
-use Rattle.node_order.proofs.Shared.{Stands, forest}
-use Rattle.node_order.proofs.Tested.{IsSum}
+use Rattle.node_order.proofs.{Shared.{Stands, forest}, Tested.{IsSum}}
 use Rattle.node_order.proofs.tests.sum_of_many.Given as goal
 
 abbrev pub invariant-loop-number : goal.invariant-loop-number

@@ -1,6 +1,5 @@
-use Rattle.node_pool.proofs.Shared.{rules, List, [], arith, ap, length, subst, sym, ℕ, ◌+◌, ◌-◌, ◌≤◌, ◌∙◌, ◌∷◌, ◌≡◌, Header, Node, first_of, owed_behind, since}
-use Rattle.node_pool.proofs.{Shared.{size_of, size_of_header, unheld, used, without_ids}, Marks.{released, released_rest}, Sizes.size_from, Unheld.{unheld_few, unheld_more, unheld_none}}
-use Rattle.node_pool.proofs.Walk.{since_end}
+use Rattle.node_pool.proofs.Shared.{rules, List, [], arith, ap, length, subst, sym, ℕ, ◌+◌, ◌-◌, ◌≤◌, ◌∙◌, ◌∷◌, ◌≡◌, Header, Node, first_of, owed_behind, since, size_of, size_of_header, unheld, used}
+use Rattle.node_pool.proofs.{Shared.{without_ids}, Sizes.size_from, Marks.{released, released_rest}, Unheld.{unheld_few, unheld_more, unheld_none}, Walk.{since_end}}
 use Rattle.node_pool.proofs.identifiers.release_trees.Goals as goal
 
 pub overflow_add-gone : goal.overflow_add-gone

@@ -1,5 +1,4 @@
-use Rattle.number_forms.proofs.Shared.{refl, gives_as, tree_of, without-swap}
-use Rattle.number_forms.proofs.RisingPairs.{falling_pair, rising_pair}
+use Rattle.number_forms.proofs.{Shared.{refl, gives_as, tree_of, without-swap}, RisingPairs.{falling_pair, rising_pair}}
 use Rattle.number_forms.proofs.adding.add_terms.Goals as goal
 
 pub returns-in_ok-node_over_two-in-Less-clause-ok : goal.returns-in_ok-node_over_two-in-Less-clause-ok

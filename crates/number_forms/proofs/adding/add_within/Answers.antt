@@ -1,12 +1,8 @@
-use Rattle.number_forms.proofs.Shared.{◌≡◌, ℕ, inl, sym, ap, ◌∙◌, subst, arith, ◌+◌, ◌*◌, ◌^◌, ◌<◌, length, is_number, value, Same-trans, Same-append, Same-eq, lists_at, lists_listed}
-use Rattle.number_forms.proofs.Shared.{other_plain, gives_without, gives_rest, kept_after, overflow_as, tree_of, IsHanded, plain, without_root, forest, behind_first, behind_later, behind_new}
-use Rattle.number_forms.proofs.Shared.{front_same, front_at, front_without, front_after_one, given_handed, given_told, given_rest, given_other, gives_as, handed_beside, handed_at, owned}
-use Rattle.number_forms.proofs.Shared.{tree-without, SumOverflows, OfOverflow, passed_on, sum_need, Spans, Surd, size, free_of, LacksRoom, joining_need, replaced_free, both_replaced_free}
-use Rattle.number_forms.proofs.Shared.{expression}
-use Rattle.number_forms.proofs.Denominators.{shares_eq}
-use Rattle.number_forms.proofs.Over.{over_as, shares_append}
-use Rattle.number_forms.proofs.Overflows.{sum_overflows_as}
-use Rattle.number_forms.proofs.Rooms.{full_as, few_for_sum, number_spans, sum_lacks, sum_lacks_two, sum_spans_same}
+use Rattle.number_forms.proofs.Shared.{◌≡◌, ℕ, inl, sym, ap, ◌∙◌, subst, arith, ◌+◌, ◌*◌, ◌^◌, ◌<◌, length, is_number, value, Same-trans, Same-append, Same-eq, lists_at, lists_listed, other_plain}
+use Rattle.number_forms.proofs.Shared.{gives_without, gives_rest, kept_after, overflow_as, tree_of, IsHanded, plain, without_root, forest, behind_first, behind_later, behind_new, front_same, front_at}
+use Rattle.number_forms.proofs.Shared.{front_without, front_after_one, given_handed, given_told, given_rest, given_other, gives_as, handed_beside, handed_at, owned, tree-without, SumOverflows}
+use Rattle.number_forms.proofs.{Shared.{OfOverflow, passed_on, sum_need, Spans, Surd, size, free_of, LacksRoom, joining_need, replaced_free, both_replaced_free, expression}, Denominators.{shares_eq}}
+use Rattle.number_forms.proofs.{Over.{over_as, shares_append}, Overflows.{sum_overflows_as}, Rooms.{full_as, few_for_sum, number_spans, sum_lacks, sum_lacks_two, sum_spans_same}}
 use Rattle.tree_handles.specs.declared.fault.NumberFault.TheVariants as fault
 use Rattle.number_forms.proofs.adding.add_within.Goals as goal
 

@@ -1,8 +1,6 @@
-use Rattle.number_forms.proofs.Shared.{◌≡◌, ℕ, ◌≤◌, ◌∷◌, Some, length, sym, ap, ◌∙◌, arith, add-one, rules, ◌+◌, slice_get, is_number, value, classes, Tree, size, Same-refl, lists_kept}
-use Rattle.number_forms.proofs.Shared.{lists_listed, other_plain, other_read, other_expression, gives_rest, tree_of, term_of, given_other, given_handed, given_told, plain_root, SumOverflows}
-use Rattle.number_forms.proofs.Shared.{OfOverflow, passed_on, overflow_as, spans_append, free_of, LacksRoom, joining_need}
-use Rattle.number_forms.proofs.Loops.{joined_none, joined_more, joined_all, from_all}
-use Rattle.number_forms.proofs.Worth.{terms_from, from_next}
+use Rattle.number_forms.proofs.Shared.{◌≡◌, ℕ, ◌≤◌, ◌∷◌, Some, length, sym, ap, ◌∙◌, arith, add-one, rules, ◌+◌, slice_get, is_number, value, classes, Tree, size, Same-refl, lists_kept, lists_listed}
+use Rattle.number_forms.proofs.Shared.{other_plain, other_read, other_expression, gives_rest, tree_of, term_of, given_other, given_handed, given_told, plain_root, SumOverflows, OfOverflow, passed_on}
+use Rattle.number_forms.proofs.{Shared.{overflow_as, spans_append, free_of, LacksRoom, joining_need}, Loops.{joined_none, joined_more, joined_all, from_all}, Worth.{terms_from, from_next}}
 use Rattle.number_forms.proofs.Rooms.{full_as, spans_from, term_lacks}
 use Rattle.number_forms.proofs.adding.join_terms.Goals as goal
 

@@ -1,5 +1,4 @@
-use Rattle.number_forms.proofs.Shared.{arith}
-use Rattle.number_forms.proofs.RisingPairs.{rising_terms}
+use Rattle.number_forms.proofs.{Shared.{arith}, RisingPairs.{rising_terms}}
 use Rattle.number_forms.proofs.adding.order_of.Goals as goal
 
 pub returns-then-radicand : goal.returns-then-radicand

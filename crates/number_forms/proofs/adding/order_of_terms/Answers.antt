@@ -1,5 +1,4 @@
-use Rattle.number_forms.proofs.Shared.{◌≡◌, ◌∙◌, sym, classes, tree_of}
-use Rattle.number_forms.proofs.RisingPairs.{one_term, ranked}
+use Rattle.number_forms.proofs.{Shared.{◌≡◌, ◌∙◌, sym, classes, tree_of}, RisingPairs.{one_term, ranked}}
 use Rattle.number_forms.proofs.adding.order_of_terms.Goals as goal
 
 pub returns : goal.returns

@@ -1,5 +1,4 @@
-use Rattle.number_forms.proofs.Shared.{sym, ap, ◌∙◌, root_kind, tree_of, behind_first, front_same, front_end, front_without, represents_handed, gives, expression, seen}
-use Rattle.number_forms.proofs.ByKind.{sum_of_number}
+use Rattle.number_forms.proofs.{Shared.{sym, ap, ◌∙◌, root_kind, tree_of, behind_first, front_same, front_end, front_without, represents_handed, gives, expression, seen}, ByKind.{sum_of_number}}
 use Rattle.number_forms.proofs.ReducedNumbers.{no_add}
 use Rattle.number_forms.proofs.adding.sum_over.Goals as goal
 

@@ -1,8 +1,5 @@
 use Rattle.number_forms.proofs.Shared.{sym, ◌∙◌, refl, ◌<◌, arith, tree_of, behind_first, front_same, front_at, front_without, front_after, owned, free_of, refused_below, released_free}
-use Rattle.number_forms.proofs.Kept.{zero_value}
-use Rattle.number_forms.proofs.Shaped.{no_term_sum_of, one_term_sum_of}
-use Rattle.number_forms.proofs.TermTrees.{if_given, nonzero_term}
-use Rattle.number_forms.proofs.Rooms.{refusal_as}
+use Rattle.number_forms.proofs.{Kept.{zero_value}, Shaped.{no_term_sum_of, one_term_sum_of}, TermTrees.{if_given, nonzero_term}, Rooms.{refusal_as}}
 use Rattle.number_forms.proofs.adding.sum_over_term.Goals as goal
 
 pub returns-then-is_zero-clause-room : goal.returns-then-is_zero-clause-room

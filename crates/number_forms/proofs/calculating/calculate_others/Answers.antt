@@ -1,9 +1,8 @@
 use Rattle.number_forms.proofs.Shared.{◌≡◌, ◌≤◌, ◌+◌, ◌*◌, ◌∙◌, List, [], ◌∷◌, length, inl, sym, ap, subst, arith, rules, IfErr, IsHanded, IsNumberOver, KeepsFront, behind_first, behind_later}
-use Rattle.number_forms.proofs.Shared.{both_released_free, eqb-sym, forest, free_of, front_after, front_at, front_same, front_without, gives_as, handed_at, handed_beside, kept_after, owned}
-use Rattle.number_forms.proofs.Shared.{passed_on, tree_of, value, without-swap, without_root, LacksJointRoom, both, number_tree, Joint}
-use Rattle.number_forms.proofs.ListedTerms.{number_over}
-use Rattle.surd_terms.specs.declared.term.Term.{Term}
+use Rattle.number_forms.proofs.Shared.{both_released_free, eqb-sym, forest, free_of, front_after, front_at, front_same, front_without, gives_as, handed_at, handed_beside, kept_after, owned, passed_on}
+use Rattle.number_forms.proofs.{Shared.{tree_of, value, without-swap, without_root, LacksJointRoom, both, number_tree, Joint}, ListedTerms.{number_over}}
 use Rattle.number_forms.proofs.calculating.calculate_others.Goals.{After-release, After-release-then-has_room}
+use Rattle.surd_terms.specs.declared.term.Term.{Term}
 use Rattle.tree_handles.specs.declared.fault.NumberFault.TheVariants as fault
 use Rattle.number_forms.proofs.calculating.calculate_others.Goals as goal
 

@@ -1,8 +1,5 @@
 use Rattle.number_forms.proofs.Shared.{Ok, ap, ◌∙◌, ◌<◌, arith, num, root_size, tree_of, given_told, gives_as, num_most, value_of, free_of, both_released_free, refused_below, passed_on}
-use Rattle.number_forms.proofs.Shared.{LacksJointRoom, operation}
-use Rattle.number_forms.proofs.RationalCalls.{plain_answer, joint_rational, at_rationals, rational_over}
-use Rattle.number_forms.proofs.RationalBits.{joint_parts}
-use Rattle.number_forms.proofs.Rooms.{few_for_joint}
+use Rattle.number_forms.proofs.{Shared.{LacksJointRoom, operation}, RationalCalls.{plain_answer, joint_rational, at_rationals, rational_over}, RationalBits.{joint_parts}, Rooms.{few_for_joint}}
 use Rattle.tree_handles.specs.declared.fault.NumberFault.TheVariants as fault
 use Rattle.number_forms.proofs.calculating.calculate_rationals.Goals as goal
 

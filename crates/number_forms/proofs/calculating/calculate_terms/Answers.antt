@@ -1,5 +1,4 @@
-use Rattle.number_forms.proofs.Shared.{refl, subst, sym, ◌∙◌, IfErr, tree_of, gives_as, without-swap, LacksJointRoom, Joint}
-use Rattle.number_forms.proofs.Kept.{with_neutral, neutral_with}
+use Rattle.number_forms.proofs.{Shared.{refl, subst, sym, ◌∙◌, IfErr, tree_of, gives_as, without-swap, LacksJointRoom, Joint}, Kept.{with_neutral, neutral_with}}
 use Rattle.number_forms.proofs.calculating.calculate_terms.Goals as goal
 
 pub returns-then-is_neutral-clause-ok : goal.returns-then-is_neutral-clause-ok

@@ -1,10 +1,6 @@
 use Rattle.number_forms.proofs.Shared.{◌≡◌, ◌≢◌, ◌≤◌, ℕ, refl, sym, ◌∙◌, arith, ◌+◌, value, classes, tree_of, behind_first, front_same, front_at, front_without, owned, given_told, OfOverflow}
-use Rattle.number_forms.proofs.Shared.{passed_on, overflow_as, inverse_need, size, free_of, LacksRoom}
-use Rattle.number_forms.proofs.InverseBits.{inverse_no_larger}
-use Rattle.number_forms.proofs.WithinBits.{inverse_within}
-use Rattle.number_forms.proofs.Placings.{rational_classes}
-use Rattle.number_forms.proofs.InverseSteps.{none_to_make, too_wide}
-use Rattle.number_forms.proofs.Rooms.{full_as, inverse_lacks, inverse_spans}
+use Rattle.number_forms.proofs.{Shared.{passed_on, overflow_as, inverse_need, size, free_of, LacksRoom}, InverseBits.{inverse_no_larger}, WithinBits.{inverse_within}, Placings.{rational_classes}}
+use Rattle.number_forms.proofs.{InverseSteps.{none_to_make, too_wide}, Rooms.{full_as, inverse_lacks, inverse_spans}}
 use Rattle.number_forms.proofs.inverting.invert_number.Goals as goal
 
 pub returns-in_err-invert_one-clause-room : goal.returns-in_err-invert_one-clause-room

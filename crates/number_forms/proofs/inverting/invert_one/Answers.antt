@@ -1,8 +1,7 @@
-use Rattle.number_forms.proofs.Shared.{◌≡◌, sym, ap, ◌∙◌, arith, [], ◌∷◌, ◌≤◌, ◌+◌, refl, value, Tree, more, none, size, inverse_trees, LacksInverse, OfFull, num_least, building}
-use Rattle.number_forms.proofs.Shared.{OnlyLacksLongForm, inverse_of, tree_of, term_of, behind_first, front_same, front_at, front_without, front_after, gives_as, owned, InverseOverflows}
-use Rattle.number_forms.proofs.Shared.{inverting_calculations, OfOverflow, passed_on, first_misfit, calculation_of, Term, free_of, released_free, term_tree}
-use Rattle.number_forms.proofs.InverseSteps.{only_term, inverse_term, tree_of_one, fits_as, unfit, has_inverse, room_for, lacks_inverse}
-use Rattle.number_forms.proofs.Placings.{number_alone, rational_radicand, rational_term, refused, given_tree}
+use Rattle.number_forms.proofs.Shared.{◌≡◌, sym, ap, ◌∙◌, arith, [], ◌∷◌, ◌≤◌, ◌+◌, refl, value, Tree, more, none, size, inverse_trees, LacksInverse, OfFull, num_least, building, OnlyLacksLongForm}
+use Rattle.number_forms.proofs.Shared.{inverse_of, tree_of, term_of, behind_first, front_same, front_at, front_without, front_after, gives_as, owned, InverseOverflows, inverting_calculations}
+use Rattle.number_forms.proofs.{Shared.{OfOverflow, passed_on, first_misfit, calculation_of, Term, free_of, released_free, term_tree}, InverseSteps.{only_term, inverse_term, tree_of_one, fits_as}}
+use Rattle.number_forms.proofs.{InverseSteps.{unfit, has_inverse, room_for, lacks_inverse}, Placings.{number_alone, rational_radicand, rational_term, refused, given_tree}}
 use Rattle.number_forms.proofs.inverting.invert_one.Goals.{After-nth_term}
 use Rattle.tree_handles.specs.declared.fault.NumberFault.TheVariants as fault
 use Rattle.number_forms.proofs.inverting.invert_one.Goals as goal

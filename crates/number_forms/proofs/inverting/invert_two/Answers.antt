@@ -1,9 +1,7 @@
 use Rattle.number_forms.proofs.Shared.{◌≡◌, ◌≤◌, ◌+◌, [], ◌∷◌, refl, sym, ap, ◌∙◌, arith, value, Tree, more, none, size, Term, free_of, inverse_trees, LacksInverse, OfFull, sum_of_terms}
 use Rattle.number_forms.proofs.Shared.{first_of_inverse, second_of_inverse, released_free, InverseOverflows, inverting_calculations, OfOverflow, passed_on, first_misfit, calculation_of, tree_of}
-use Rattle.number_forms.proofs.Shared.{term_of, behind_first, front_same, front_at, front_without, front_after, gives_as, owned}
-use Rattle.number_forms.proofs.InverseSteps.{both_terms, apart_terms, inverse_number, two_rise, tree_of_two, fits_as, unfit, has_inverse, room_for, lacks_inverse}
-use Rattle.number_forms.proofs.Placings.{refused, given_tree}
-use Rattle.number_forms.proofs.inverting.invert_two.Goals.{After-nth_term-second}
+use Rattle.number_forms.proofs.{Shared.{term_of, behind_first, front_same, front_at, front_without, front_after, gives_as, owned}, InverseSteps.{both_terms, apart_terms, inverse_number, two_rise}}
+use Rattle.number_forms.proofs.{InverseSteps.{tree_of_two, fits_as, unfit, has_inverse, room_for, lacks_inverse}, Placings.{refused, given_tree}, inverting.invert_two.Goals.{After-nth_term-second}}
 use Rattle.tree_handles.specs.declared.fault.NumberFault.TheVariants as fault
 use Rattle.number_forms.proofs.inverting.invert_two.Goals as goal
 

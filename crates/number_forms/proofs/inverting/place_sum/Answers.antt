@@ -1,12 +1,8 @@
-use Rattle.number_forms.proofs.Shared.{◌≡◌, ℕ, ◌+◌, ◌≤◌, [], ◌∷◌, Err, ap, ◌∙◌, arith, Tree, add, more, none, size, term_of, tree_of, behind_new, front_same, given_root, given_told, free_of}
-use Rattle.number_forms.proofs.Shared.{Full, term_tree, sum_of_terms, building, node_sizes, nodes_sizes, given_free, passed_on, other_plain, front_after, front_after_two}
-use Rattle.number_forms.proofs.InverseSteps.{placed_two}
-use Rattle.surd_terms.specs.declared.term.Term.{Term}
-use Rattle.number_forms.proofs.Placings.{refused, lacking, lacking_on, built, placed_before, told_tree}
-use Rattle.number_forms.proofs.Pairs.{first_handed, pair_rest}
-use Rattle.number_forms.proofs.Rooms.{refusal_as}
-use Rattle.number_forms.proofs.TermTrees.{if_given}
+use Rattle.number_forms.proofs.Shared.{◌≡◌, ℕ, ◌+◌, ◌≤◌, [], ◌∷◌, Err, ap, ◌∙◌, arith, Tree, add, more, none, size, term_of, tree_of, behind_new, front_same, given_root, given_told, free_of, Full}
+use Rattle.number_forms.proofs.{Shared.{term_tree, sum_of_terms, building, node_sizes, nodes_sizes, given_free, passed_on, other_plain, front_after, front_after_two}, InverseSteps.{placed_two}}
+use Rattle.number_forms.proofs.{Placings.{refused, lacking, lacking_on, built, placed_before, told_tree}, Pairs.{first_handed, pair_rest}, Rooms.{refusal_as}, TermTrees.{if_given}}
 use Rattle.number_forms.proofs.inverting.place_sum.Goals.{In_ok-first, In_ok-second}
+use Rattle.surd_terms.specs.declared.term.Term.{Term}
 use Rattle.number_forms.proofs.inverting.place_sum.Goals as goal
 
 pub node_over_two-requires-clause-first : goal.node_over_two-requires-clause-first

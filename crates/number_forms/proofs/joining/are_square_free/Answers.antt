@@ -1,5 +1,4 @@
-use Rattle.number_forms.proofs.Shared.{◌≡◌, ◌<◌, ◌-◌, subst, ltb-true, arith, rules, count, plain, children_of, tree_at, forest}
-use Rattle.number_forms.proofs.SquareFreeSums.{all_below}
+use Rattle.number_forms.proofs.{Shared.{◌≡◌, ◌<◌, ◌-◌, subst, ltb-true, arith, rules, count, plain, children_of, tree_at, forest}, SquareFreeSums.{all_below}}
 use Rattle.number_forms.proofs.joining.are_square_free.Goals as goal
 
 pub radicand_at-requires : goal.radicand_at-requires

@@ -1,7 +1,6 @@
 use Rattle.number_forms.proofs.Shared.{rules, ◌≡◌, ◌<◌, ◌≤◌, true, refl, sym, ap, subst, arith, Tree, count, is_add, term_of, Full, free_of, passed_on, Forest, Gives, children_of, without_root}
 use Rattle.number_forms.proofs.Shared.{lists_behind, given_rest, given_root, given_told, gives_as, gives_rest, other_plain, behind_first, behind_new, front_same, front_after, front_after_two}
-use Rattle.number_forms.proofs.Exchanged.{exchanged_in}
-use Rattle.number_forms.proofs.LastSums.{sum_add}
+use Rattle.number_forms.proofs.{Exchanged.{exchanged_in}, LastSums.{sum_add}}
 use Rattle.number_forms.proofs.joining.exchange.Goals as goal
 
 pub returns-in_err-new-clause-room : goal.returns-in_err-new-clause-room

@@ -1,7 +1,6 @@
 use Rattle.number_forms.proofs.Shared.{rules, ◌≡◌, ◌<◌, ◌≤◌, true, refl, sym, ap, subst, arith, Tree, count, is_add, term_of, Full, free_of, passed_on, Forest, Gives, children_of, without_root}
 use Rattle.number_forms.proofs.Shared.{lists_behind, given_rest, given_root, given_told, gives_as, gives_rest, other_plain, behind_first, behind_new, front_same, front_after, front_after_two}
-use Rattle.number_forms.proofs.LastSums.{sum_add}
-use Rattle.number_forms.proofs.SumChanges.{inserted_in}
+use Rattle.number_forms.proofs.{LastSums.{sum_add}, SumChanges.{inserted_in}}
 use Rattle.number_forms.proofs.joining.insert.Goals as goal
 
 pub returns-in_err-child-clause-room : goal.returns-in_err-child-clause-room

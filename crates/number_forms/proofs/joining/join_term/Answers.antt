@@ -1,7 +1,5 @@
 use Rattle.number_forms.proofs.Shared.{sym, subst, refl, rules, ◌<◌, Tree, add, IsApart, removed, lists_at, children_of, tree_of, term_of, given_handed, given_told, gives_as, JoinOverflows}
-use Rattle.number_forms.proofs.Shared.{OfOverflow, passed_on, free_of, Full, OfFull, expression, seen}
-use Rattle.number_forms.proofs.LastSums.{sum_add}
-use Rattle.number_forms.proofs.SumChanges.{read_sum, sum_value, cancelled, made_one, matched, apart_rest}
+use Rattle.number_forms.proofs.{Shared.{OfOverflow, passed_on, free_of, Full, OfFull, expression, seen}, LastSums.{sum_add}, SumChanges.{read_sum, sum_value, cancelled, made_one, matched, apart_rest}}
 use Rattle.tree_handles.specs.declared.fault.NumberFault.TheVariants as fault
 use Rattle.number_forms.proofs.joining.join_term.Goals as goal
 

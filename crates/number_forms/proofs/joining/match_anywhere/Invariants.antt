@@ -1,5 +1,4 @@
-use Rattle.number_forms.proofs.Shared.{◌≡◌, ℕ, ◌<◌, length, false, are_alike, term_of, nth, plain, children_of, tree_at, forest}
-use Rattle.number_forms.proofs.Children.{AreLeft}
+use Rattle.number_forms.proofs.{Shared.{◌≡◌, ℕ, ◌<◌, length, false, are_alike, term_of, nth, plain, children_of, tree_at, forest}, Children.{AreLeft}}
 use Rattle.calc_algebra.specs.Numbers.{term_of as term_of_tree}
 use Rattle.number_forms.proofs.joining.match_anywhere.Given as goal
 

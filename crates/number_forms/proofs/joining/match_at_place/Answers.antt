@@ -1,7 +1,5 @@
-use Rattle.number_forms.proofs.Shared.{◌≡◌, ℕ, ◌<◌, ap, ◌∙◌, subst, arith, count, IsPlace, term_of, nth, plain, children_of, tree_at, forest, JoinOverflows, passed_on}
-use Rattle.number_forms.proofs.SumChanges.{term_of_sum}
-use Rattle.number_forms.proofs.SquareFreeSums.{read_apart, read_joined, read_parts, apart_at_place}
-use Rattle.number_forms.proofs.Overflows.{join_overflow}
+use Rattle.number_forms.proofs.{Shared.{◌≡◌, ℕ, ◌<◌, ap, ◌∙◌, subst, arith, count, IsPlace, term_of, nth, plain, children_of, tree_at, forest, JoinOverflows, passed_on}, SumChanges.{term_of_sum}}
+use Rattle.number_forms.proofs.{SquareFreeSums.{read_apart, read_joined, read_parts, apart_at_place}, Overflows.{join_overflow}}
 use Rattle.calc_algebra.specs.Numbers.{term_of as term_of_tree}
 use Rattle.surd_terms.specs.declared.sums.Joined.TheVariants as joined
 use Rattle.number_forms.proofs.joining.match_at_place.Goals as goal

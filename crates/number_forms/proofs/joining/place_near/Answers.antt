@@ -1,5 +1,4 @@
-use Rattle.number_forms.proofs.Shared.{rules, ◌≡◌, ◌<◌, sym, ◌∙◌, arith, count, plain, children_of, tree_at, forest}
-use Rattle.number_forms.proofs.SquareFreeSums.{place_there}
+use Rattle.number_forms.proofs.{Shared.{rules, ◌≡◌, ◌<◌, sym, ◌∙◌, arith, count, plain, children_of, tree_at, forest}, SquareFreeSums.{place_there}}
 use Rattle.number_forms.proofs.joining.place_near.Goals as goal
 
 pub radicand_at-requires : goal.radicand_at-requires

@@ -1,5 +1,4 @@
-use Rattle.number_forms.proofs.Shared.{◌+◌, ◌-◌, ◌/◌, ◌<◌, subst, arith, plain, tree_at, forest}
-use Rattle.number_forms.proofs.SquareFreeSums.{below_up_to}
+use Rattle.number_forms.proofs.{Shared.{◌+◌, ◌-◌, ◌/◌, ◌<◌, subst, arith, plain, tree_at, forest}, SquareFreeSums.{below_up_to}}
 use Rattle.number_forms.proofs.joining.place_of.Goals as goal
 
 pub loop-low-preserved-then-radicand_at-radicand : goal.loop-low-preserved-then-radicand_at-radicand

@@ -1,6 +1,4 @@
-use Rattle.number_forms.proofs.Shared.{term_of, nth, plain, children_of, tree_at, forest}
-use Rattle.number_forms.proofs.SquareFreeSums.{read_radicand}
-use Rattle.number_forms.proofs.SumChanges.{term_of_sum}
+use Rattle.number_forms.proofs.{Shared.{term_of, nth, plain, children_of, tree_at, forest}, SquareFreeSums.{read_radicand}, SumChanges.{term_of_sum}}
 use Rattle.number_forms.proofs.joining.radicand_at.Goals as goal
 
 pub term_at-requires-clause-term : goal.term_at-requires-clause-term

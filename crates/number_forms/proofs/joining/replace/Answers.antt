@@ -1,6 +1,5 @@
 use Rattle.number_forms.proofs.Shared.{rules, ◌≡◌, ◌<◌, ◌∷◌, OnOk, refl, sym, ap, ◌∙◌, subst, value, terms_of, Surd, Tree, count, IsSumOf, IsApart, removed, lists_at, term_of, children_of, nth}
-use Rattle.number_forms.proofs.Shared.{Forest, tree_of, Gives, without_root, forest, given_handed, given_told, given_rest, gives_as, expression, seen}
-use Rattle.number_forms.proofs.LastSums.{sum_add}
+use Rattle.number_forms.proofs.{Shared.{Forest, tree_of, Gives, without_root, forest, given_handed, given_told, given_rest, gives_as, expression, seen}, LastSums.{sum_add}}
 use Rattle.number_forms.proofs.SumChanges.{read_sum, read_place, removed_is_sum}
 use Rattle.calc_algebra.specs.Numbers.{term_of as term_of_tree}
 use Rattle.number_forms.proofs.joining.replace.Goals as goal

@@ -1,14 +1,8 @@
 use Rattle.number_forms.proofs.Shared.{◌≡◌, ℕ, ◌≤◌, ◌∷◌, Some, length, map, sym, ap, ◌∙◌, arith, add-one, rules, ◌+◌, ◌-◌, inl, inr, slice_get, is_number, value, classes, term_times, Tree, size}
 use Rattle.number_forms.proofs.Shared.{Same-refl, other_plain, other_read, other_expression, gives_rest, lists_at, lists_kept, behind_first, front_after_one, tree_of, term_of, given_handed}
-use Rattle.number_forms.proofs.Shared.{given_other, given_told, plain_root, RowOverflows, OfOverflow, passed_on, overflow_as, spans_append, spans_row, free_of, LacksRoom, joining_need}
-use Rattle.number_forms.proofs.Shared.{expression}
-use Rattle.number_forms.proofs.Denominators.{parts_extracted}
-use Rattle.number_forms.proofs.Loops.{joined_none, joined_more, joined_all, from_all}
-use Rattle.number_forms.proofs.Worth.{terms_from, products_next, same_first, get_from, from_from}
-use Rattle.number_forms.proofs.SumChanges.{read_sum}
-use Rattle.number_forms.proofs.Rows.{product_join_overflows}
-use Rattle.number_forms.proofs.Rooms.{full_as, spans_from, term_lacks}
-use Rattle.number_forms.proofs.multiplying.join_products.Goals.{After-listed_term-other}
+use Rattle.number_forms.proofs.Shared.{given_other, given_told, plain_root, RowOverflows, OfOverflow, passed_on, overflow_as, spans_append, spans_row, free_of, LacksRoom, joining_need, expression}
+use Rattle.number_forms.proofs.{Denominators.{parts_extracted}, Loops.{joined_none, joined_more, joined_all, from_all}, Worth.{terms_from, products_next, same_first, get_from, from_from}}
+use Rattle.number_forms.proofs.{SumChanges.{read_sum}, Rows.{product_join_overflows}, Rooms.{full_as, spans_from, term_lacks}, multiplying.join_products.Goals.{After-listed_term-other}}
 use Rattle.number_forms.proofs.multiplying.join_products.Given.{Over}
 use Rattle.tree_handles.specs.declared.fault.NumberFault.TheVariants as fault
 use Rattle.number_forms.proofs.multiplying.join_products.Goals as goal

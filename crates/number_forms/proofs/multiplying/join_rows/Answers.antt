@@ -1,9 +1,7 @@
-use Rattle.number_forms.proofs.Shared.{◌≡◌, ℕ, ◌≤◌, ◌++◌, Some, length, map, sym, ap, ◌∙◌, arith, add-one, subst, rules, ◌+◌, slice_get, is_number, value, classes, surd_times, term_times, Surd}
-use Rattle.number_forms.proofs.Shared.{Tree, size, SharesDenominators, IsSumOf, lists_kept, other_plain, other_read, other_expression, gives_rest, tree_of, Gives, term_of, without_root, forest}
-use Rattle.number_forms.proofs.Shared.{given_other, given_rest, handed_at, given_handed, given_told, plain_root, Same, RowOverflows, ProductOverflows, OfOverflow, passed_on, overflow_as}
-use Rattle.number_forms.proofs.Shared.{spans_append, spans_times, Spans, free_of, LacksRoom, joining_need}
-use Rattle.number_forms.proofs.Loops.{IsJoined, joined_none, joined_part, joined_all, from_all}
-use Rattle.number_forms.proofs.Worth.{terms_from, rows_next}
+use Rattle.number_forms.proofs.Shared.{◌≡◌, ℕ, ◌≤◌, ◌++◌, Some, length, map, sym, ap, ◌∙◌, arith, add-one, subst, rules, ◌+◌, slice_get, is_number, value, classes, surd_times, term_times, Surd, Tree}
+use Rattle.number_forms.proofs.Shared.{size, SharesDenominators, IsSumOf, lists_kept, other_plain, other_read, other_expression, gives_rest, tree_of, Gives, term_of, without_root, forest, given_other}
+use Rattle.number_forms.proofs.Shared.{given_rest, handed_at, given_handed, given_told, plain_root, Same, RowOverflows, ProductOverflows, OfOverflow, passed_on, overflow_as, spans_append, spans_times}
+use Rattle.number_forms.proofs.{Shared.{Spans, free_of, LacksRoom, joining_need}, Loops.{IsJoined, joined_none, joined_part, joined_all, from_all}, Worth.{terms_from, rows_next}}
 use Rattle.number_forms.proofs.Rooms.{full_as, spans_from, spans_nth, partial_spanned, row_lacks}
 use Rattle.number_forms.proofs.multiplying.join_rows.Goals as goal
 

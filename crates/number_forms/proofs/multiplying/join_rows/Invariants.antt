@@ -1,6 +1,4 @@
-use Rattle.number_forms.proofs.Shared.{◌++◌, value, surd_times, Lists, tree_of, forest}
-use Rattle.number_forms.proofs.Loops.{IsJoined}
-use Rattle.number_forms.proofs.Worth.{terms_from}
+use Rattle.number_forms.proofs.{Shared.{◌++◌, value, surd_times, Lists, tree_of, forest}, Loops.{IsJoined}, Worth.{terms_from}}
 use Rattle.number_forms.proofs.multiplying.join_rows.Given as goal
 
 abbrev pub invariant-loop-at : goal.invariant-loop-at

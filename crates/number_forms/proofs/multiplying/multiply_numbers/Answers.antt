@@ -1,8 +1,5 @@
-use Rattle.number_forms.proofs.Shared.{◌≡◌, ◌&&◌, refl, IfErr, and_parts, by_test, is_num, refused_as, tree_of, OfOverflow}
-use Rattle.number_forms.proofs.Over.{if_number, if_no_larger, of_over}
-use Rattle.number_forms.proofs.RationalBits.{product_not_refused}
-use Rattle.number_forms.proofs.WithinBits.{numbers_within}
-use Rattle.number_forms.proofs.Rooms.{answer_spans, product_spans}
+use Rattle.number_forms.proofs.{Shared.{◌≡◌, ◌&&◌, refl, IfErr, and_parts, by_test, is_num, refused_as, tree_of, OfOverflow}, Over.{if_number, if_no_larger, of_over}}
+use Rattle.number_forms.proofs.{RationalBits.{product_not_refused}, WithinBits.{numbers_within}, Rooms.{answer_spans, product_spans}}
 use Rattle.number_forms.proofs.multiplying.multiply_numbers.Goals as goal
 
 pub returns-clause-ok : goal.returns-clause-ok

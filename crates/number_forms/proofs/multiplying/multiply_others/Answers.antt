@@ -1,6 +1,5 @@
 use Rattle.number_forms.proofs.Shared.{inl, ◌+◌, gives_without, behind_first, behind_later, front_same, front_at, front_without, front_after, given_other, handed_beside, handed_at, owned}
-use Rattle.number_forms.proofs.Shared.{product_need, size, free_of, LacksRoom, passed_on, tree_of}
-use Rattle.number_forms.proofs.Rooms.{full_as, product_lacks}
+use Rattle.number_forms.proofs.{Shared.{product_need, size, free_of, LacksRoom, passed_on, tree_of}, Rooms.{full_as, product_lacks}}
 use Rattle.number_forms.proofs.multiplying.multiply_others.Goals as goal
 
 pub returns-in_err-product-clause-room : goal.returns-in_err-product-clause-room

@@ -1,10 +1,7 @@
 use Rattle.number_forms.proofs.Shared.{◌≡◌, ℕ, ◌++◌, refl, sym, ap, ◌∙◌, subst, arith, ◌*◌, ◌^◌, ◌<◌, length, is_number, value, surd_times, Same-trans, Same-eq, IsSum, lists_at, lists_none}
-use Rattle.number_forms.proofs.Shared.{lists_listed, root_ids, kids_of_last, expression_root, Tree, other_plain, gives_rest, kept_after, overflow_as, tree_of, IsHanded, IsExpression}
-use Rattle.number_forms.proofs.Shared.{without_root, forest, behind_new, front_same, front_after_one, given_told, given_other, given_rest, gives_as, handed_at, ProductOverflows, OfOverflow}
-use Rattle.number_forms.proofs.Shared.{passed_on, Spans, free_of, LacksRoom, joining_need, refused_below, given_free}
-use Rattle.number_forms.proofs.Denominators.{shares_eq}
-use Rattle.number_forms.proofs.Over.{over_as}
-use Rattle.number_forms.proofs.Rooms.{full_as, few_for_joining, number_spans}
+use Rattle.number_forms.proofs.Shared.{lists_listed, root_ids, kids_of_last, expression_root, Tree, other_plain, gives_rest, kept_after, overflow_as, tree_of, IsHanded, IsExpression, without_root}
+use Rattle.number_forms.proofs.Shared.{forest, behind_new, front_same, front_after_one, given_told, given_other, given_rest, gives_as, handed_at, ProductOverflows, OfOverflow, passed_on, Spans}
+use Rattle.number_forms.proofs.{Shared.{free_of, LacksRoom, joining_need, refused_below, given_free}, Denominators.{shares_eq}, Over.{over_as}, Rooms.{full_as, few_for_joining, number_spans}}
 use Rattle.tree_handles.specs.declared.fault.NumberFault.TheVariants as fault
 use Rattle.number_forms.proofs.multiplying.product_within.Goals as goal
 

@@ -1,8 +1,5 @@
-use Rattle.number_forms.proofs.Shared.{◌<◌, ◌*◌, List, length, take, refl, subst, arith, length-take-le, take_all, Trees, forest, free_of, front_after, front_same, gives_as, kept_after}
-use Rattle.number_forms.proofs.Shared.{kept_same, passed_on, Adds, trees_of}
-use Rattle.number_forms.proofs.ListedTerms.{terms_size, trees_more}
-use Rattle.number_forms.proofs.Placings.{given_tree}
-use Rattle.number_forms.proofs.Planted.{adds_free, adds_more, adds_none}
+use Rattle.number_forms.proofs.Shared.{◌<◌, ◌*◌, List, length, take, refl, subst, arith, length-take-le, take_all, Trees, forest, free_of, front_after, front_same, gives_as, kept_after, kept_same}
+use Rattle.number_forms.proofs.{Shared.{passed_on, Adds, trees_of}, ListedTerms.{terms_size, trees_more}, Placings.{given_tree}, Planted.{adds_free, adds_more, adds_none}}
 use Rattle.surd_terms.specs.declared.term.Term.{Term}
 use Rattle.number_forms.proofs.placing.place_all.Goals as goal
 

@@ -1,10 +1,6 @@
-use Rattle.number_forms.proofs.Shared.{◌≡◌, ℕ, pos, Err, ◌+◌, ◌∙◌, refl, arith, ◌≤◌, [], ◌∷◌, whole_fraction, value_of, num, root, mult, more, none, root_size, Rat, behind_new, front_same}
-use Rattle.number_forms.proofs.Shared.{given_root, given_told, free_of, Full, building, passed_on, other_plain, front_after, front_after_two}
-use Rattle.number_forms.proofs.Placings.{free_before, refused, taken, lacking, lacking_on}
-use Rattle.number_forms.proofs.Pairs.{first_handed, pair_rest}
-use Rattle.number_forms.proofs.Rooms.{refusal_as}
-use Rattle.number_forms.proofs.TermTrees.{if_given}
-use Rattle.number_forms.proofs.placing.place_multiple.Goals.{In_ok-rational, In_ok-root}
+use Rattle.number_forms.proofs.Shared.{◌≡◌, ℕ, pos, Err, ◌+◌, ◌∙◌, refl, arith, ◌≤◌, [], ◌∷◌, whole_fraction, value_of, num, root, mult, more, none, root_size, Rat, behind_new, front_same, given_root}
+use Rattle.number_forms.proofs.{Shared.{given_told, free_of, Full, building, passed_on, other_plain, front_after, front_after_two}, Placings.{free_before, refused, taken, lacking, lacking_on}}
+use Rattle.number_forms.proofs.{Pairs.{first_handed, pair_rest}, Rooms.{refusal_as}, TermTrees.{if_given}, placing.place_multiple.Goals.{In_ok-rational, In_ok-root}}
 use Rattle.number_forms.proofs.placing.place_multiple.Goals as goal
 
 pub node_over_two-requires-clause-first : goal.node_over_two-requires-clause-first

@@ -1,7 +1,6 @@
 use Rattle.number_forms.proofs.Shared.{◌≡◌, ◌≢◌, ◌↔◌, ℕ, subst, ◌≤◌, sym, ap, ◌∙◌, arith, rules, to_z, of_z, FitsSigned, ℤ, pos, IsOk, IfErr, Err, w128, to_z-of_z, one_fraction, whole_fraction}
-use Rattle.number_forms.proofs.Shared.{value_of, Tree, num, root, mult, more, none, size, term_tree, root_size, free_of, building, term_of}
-use Rattle.number_forms.proofs.Placings.{number_lacks, rational_term, root_term, multiple_term, told_tree}
-use Rattle.number_forms.proofs.TermTrees.{rational_tree, root_tree, multiple_tree, if_gives, is_one_value, not_one_num, not_one_den}
+use Rattle.number_forms.proofs.{Shared.{value_of, Tree, num, root, mult, more, none, size, term_tree, root_size, free_of, building, term_of}, Placings.{number_lacks, rational_term, root_term}}
+use Rattle.number_forms.proofs.{Placings.{multiple_term, told_tree}, TermTrees.{rational_tree, root_tree, multiple_tree, if_gives, is_one_value, not_one_num, not_one_den}}
 use Rattle.number_forms.proofs.placing.place_term.Goals.{After-radicand-then-den-eq1, After-radicand-else-num-eq1, else-num-eq1-via-then-num-eq1+else-den-eq1, else-num-eq1-via-else-num-eq1}
 use Rattle.number_forms.proofs.placing.place_term.Goals as goal
 

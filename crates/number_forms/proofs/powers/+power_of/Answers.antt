@@ -1,11 +1,8 @@
 use Rattle.number_forms.proofs.Shared.{rules, ap, ◌∙◌, subst, sym, ◌/◌, is_number, value, surd_times, Tree, other_plain, kept_after, overflow_as, refused_as, IsNumberOver, tree_of, plain, Forest}
-use Rattle.number_forms.proofs.Shared.{root_tree, behind_new, front_same, front_at, front_after_one, given_handed, given_told, given_rest, given_other, gives_as, handed_at, Same-refl}
-use Rattle.number_forms.proofs.Shared.{PowerOverflows, ProductOverflows, OfOverflow, passed_on, SpansTree, free_of, LacksRoom, raising_need, given_free}
-use Rattle.number_forms.proofs.Over.{even_power, odd_power, power_itself, of_over, of_power}
-use Rattle.number_forms.proofs.TermTrees.{if_given}
-use Rattle.number_forms.proofs.Overflows.{power_overflows_more, square_overflows, last_overflows}
-use Rattle.number_forms.proofs.PowerSteps.{half_twice, half_below, half_odd_within}
-use Rattle.number_forms.proofs.Rooms.{full_as, refusal_as, product_spans, power_spans, step_lacks}
+use Rattle.number_forms.proofs.Shared.{root_tree, behind_new, front_same, front_at, front_after_one, given_handed, given_told, given_rest, given_other, gives_as, handed_at, Same-refl, PowerOverflows}
+use Rattle.number_forms.proofs.Shared.{ProductOverflows, OfOverflow, passed_on, SpansTree, free_of, LacksRoom, raising_need, given_free}
+use Rattle.number_forms.proofs.{Over.{even_power, odd_power, power_itself, of_over, of_power}, TermTrees.{if_given}, Overflows.{power_overflows_more, square_overflows, last_overflows}}
+use Rattle.number_forms.proofs.{PowerSteps.{half_twice, half_below, half_odd_within}, Rooms.{full_as, refusal_as, product_spans, power_spans, step_lacks}}
 use Rattle.number_forms.proofs.powers.+power_of.Goals as goal
 
 pub returns-in_err-half-clause-room : goal.returns-in_err-half-clause-room

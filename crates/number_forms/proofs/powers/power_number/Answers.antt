@@ -1,11 +1,8 @@
 use Rattle.number_forms.proofs.Shared.{◌≡◌, inl, refl, sym, ap, ◌∙◌, rules, FitsSigned, ◌+◌, subst, ℕ, ◌*◌, ◌≤◌, arith, to_z, of_z, ℤ, nat_abs, w128, to_z-of_z, value, surd_power, size, Tree}
 use Rattle.number_forms.proofs.Shared.{Same-refl, gives_without, tree_of, behind_first, front_same, front_at, front_without, front_after, front_end, given_other, gives_as, owned, given_told}
 use Rattle.number_forms.proofs.Shared.{power_need, SpansTree, free_of, LacksRoom, passed_on, overflow_as, last_tree, plain, Forest, IsNoLargerThanPower, OfOverflow, IsNumberOf, IsPowerOver}
-use Rattle.number_forms.proofs.Rooms.{answer_spans, full_as, power_lacks, power_spans}
-use Rattle.number_forms.proofs.Over.{of_power, power_itself}
-use Rattle.number_forms.proofs.RationalBits.{at_least_one, power_no_larger, if_power_no_larger, power_not_refused}
-use Rattle.number_forms.proofs.PowersWithin.{power_within}
-use Rattle.number_forms.proofs.TermTrees.{if_given}
+use Rattle.number_forms.proofs.{Rooms.{answer_spans, full_as, power_lacks, power_spans}, Over.{of_power, power_itself}, RationalBits.{at_least_one, power_no_larger, if_power_no_larger}}
+use Rattle.number_forms.proofs.{RationalBits.{power_not_refused}, PowersWithin.{power_within}, TermTrees.{if_given}}
 use Rattle.number_forms.proofs.powers.power_number.Goals as goal
 
 pub returns-then-is_rational-clause-room : goal.returns-then-is_rational-clause-room

@@ -1,9 +1,7 @@
 use Rattle.number_forms.proofs.Shared.{sym, ap, ◌∙◌, subst, rules, FitsSigned, ◌+◌, ◌<◌, arith, ℤ, nat_abs, w128, to_z-of_z, pow_op, fraction_power, operation_fits, Fraction, whole_fraction}
-use Rattle.number_forms.proofs.Shared.{calculated, value_of, num, root_size, size, whole_numerator, IsPlainAnswer, tree_of, behind_first, front_same, front_at, front_without, front_after}
-use Rattle.number_forms.proofs.Shared.{given_told, gives_as, power_need, num_most, free_of, LacksRoom, refused_below, passed_on, released_free}
-use Rattle.number_forms.proofs.RationalCalls.{plain_answer, rational_power_over, rational_power, num_same}
-use Rattle.number_forms.proofs.RationalBits.{power_parts}
-use Rattle.number_forms.proofs.Rooms.{few_for_power}
+use Rattle.number_forms.proofs.Shared.{calculated, value_of, num, root_size, size, whole_numerator, IsPlainAnswer, tree_of, behind_first, front_same, front_at, front_without, front_after, given_told}
+use Rattle.number_forms.proofs.{Shared.{gives_as, power_need, num_most, free_of, LacksRoom, refused_below, passed_on, released_free}, RationalCalls.{plain_answer, rational_power_over, rational_power}}
+use Rattle.number_forms.proofs.{RationalCalls.{num_same}, RationalBits.{power_parts}, Rooms.{few_for_power}}
 use Rattle.tree_handles.specs.declared.fault.NumberFault.TheVariants as fault
 use Rattle.number_forms.proofs.powers.power_rational.Goals as goal
 

@@ -1,13 +1,9 @@
 use Rattle.number_forms.proofs.Shared.{◌≡◌, ◌≤◌, ◌+◌, ◌*◌, List, length, rules, ◌/◌, ap, ◌∙◌, subst, sym, ℕ, arith, refl, is_number, value, surd_times, Tree, Same-refl, IsNumberOver, IsPowerOver}
-use Rattle.number_forms.proofs.Shared.{PowerOverflows, ProductOverflows, other_plain, passed_on, overflow_as, refused_as, OfOverflow, tree_of, behind_new, front_same, front_after_one}
-use Rattle.number_forms.proofs.Shared.{given_handed, given_told, given_rest, given_other, gives_as, SpansTree, free_of, LacksRoom, raising_need, given_free, number_tree}
-use Rattle.number_forms.proofs.Over.{even_power, odd_power, power_itself, of_over}
-use Rattle.number_forms.proofs.Overflows.{square_overflows, last_overflows}
-use Rattle.number_forms.proofs.PowerSteps.{half_one, three_odd, half_twice, half_odd_within}
-use Rattle.number_forms.proofs.TermTrees.{if_given}
-use Rattle.number_forms.proofs.Rooms.{full_as, refusal_as, product_spans, step_lacks, few_for_raising}
+use Rattle.number_forms.proofs.Shared.{PowerOverflows, ProductOverflows, other_plain, passed_on, overflow_as, refused_as, OfOverflow, tree_of, behind_new, front_same, front_after_one, given_handed}
+use Rattle.number_forms.proofs.Shared.{given_told, given_rest, given_other, gives_as, SpansTree, free_of, LacksRoom, raising_need, given_free, number_tree}
+use Rattle.number_forms.proofs.{Over.{even_power, odd_power, power_itself, of_over}, Overflows.{square_overflows, last_overflows}, PowerSteps.{half_one, three_odd, half_twice, half_odd_within}}
+use Rattle.number_forms.proofs.{TermTrees.{if_given}, Rooms.{full_as, refusal_as, product_spans, step_lacks, few_for_raising}, powers.square_or_cube.Goals.{After-square_of}}
 use Rattle.surd_terms.specs.declared.term.Term.{Term}
-use Rattle.number_forms.proofs.powers.square_or_cube.Goals.{After-square_of}
 use Rattle.tree_handles.specs.declared.fault.NumberFault.TheVariants as fault
 use Rattle.number_forms.proofs.powers.square_or_cube.Goals as goal
 

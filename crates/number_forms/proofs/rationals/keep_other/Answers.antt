@@ -1,5 +1,4 @@
-use Rattle.number_forms.proofs.Shared.{inl, behind_first, behind_later, front_same, front_at, front_end, front_without, given_told, handed_at, handed_beside, owned}
-use Rattle.number_forms.proofs.Kept.{kept_last}
+use Rattle.number_forms.proofs.{Shared.{inl, behind_first, behind_later, front_same, front_at, front_end, front_without, given_told, handed_at, handed_beside, owned}, Kept.{kept_last}}
 use Rattle.number_forms.proofs.rationals.keep_other.Goals as goal
 
 pub release-requires-clause-releasable : goal.release-requires-clause-releasable

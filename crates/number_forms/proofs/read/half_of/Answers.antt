@@ -1,5 +1,4 @@
-use Rattle.number_forms.proofs.Shared.{◌≡◌, ℕ, ℤ, pos, sym, ap, ◌∙◌, rules, to_z, of_z, FitsSigned, w128, eq-eqb, to_z-of_z, ratio_parts}
-use Rattle.number_forms.proofs.CodeTests.{unequal}
+use Rattle.number_forms.proofs.{Shared.{◌≡◌, ℕ, ℤ, pos, sym, ap, ◌∙◌, rules, to_z, of_z, FitsSigned, w128, eq-eqb, to_z-of_z, ratio_parts}, CodeTests.{unequal}}
 use Rattle.number_forms.proofs.read.half_of.Goals as goal
 
 two_bits : (z : ℤ) → FitsSigned w128 z → of_z w128 z ≡ 2 → z ≡ pos 2

@@ -1,7 +1,5 @@
 use Rattle.number_forms.proofs.Shared.{◌≡◌, ℕ, length, refl, sym, ap, ◌∙◌, arith, length_push, is_term, are_terms, count, trees_from, plain, children_of, tree_at, forest}
-use Rattle.number_forms.proofs.Children.{IsNextChild, left_more, next_child, none_left}
-use Rattle.number_forms.proofs.Rising.{terms_next, no_term, terms_end}
-use Rattle.number_forms.proofs.recognize.are_terms.Goals.{In-Some}
+use Rattle.number_forms.proofs.{Children.{IsNextChild, left_more, next_child, none_left}, Rising.{terms_next, no_term, terms_end}, recognize.are_terms.Goals.{In-Some}}
 use Rattle.number_forms.proofs.recognize.are_terms.Goals as goal
 
 next : (c : In-Some) → IsNextChild (length c.loop-child.yielded) c.args.id c.in-Some.child c.args.pool.now

@@ -1,5 +1,4 @@
-use Rattle.number_forms.proofs.Shared.{◌≡◌, length, are_terms, trees_from, plain, children_of, tree_at, forest}
-use Rattle.number_forms.proofs.Children.{AreLeft}
+use Rattle.number_forms.proofs.{Shared.{◌≡◌, length, are_terms, trees_from, plain, children_of, tree_at, forest}, Children.{AreLeft}}
 use Rattle.number_forms.proofs.recognize.are_terms.Given as goal
 
 abbrev pub invariant-loop-child : goal.invariant-loop-child

@@ -1,10 +1,7 @@
 use Rattle.number_forms.proofs.Shared.{◌≡◌, ℕ, ◌+◌, ◌++◌, ◌∷◌, [], ◌&&◌, length, not, nat_lt, refl, sym, ap, ◌∙◌, arith, length_push, is_below_all, is_term, terms_of, are_alike, Term, trees_from}
-use Rattle.number_forms.proofs.Shared.{term_of, plain, children_of, tree_at, forest}
-use Rattle.number_forms.proofs.ByKind.{children_number}
-use Rattle.number_forms.proofs.Children.{IsNextChild, left_more, next_child, none_left}
-use Rattle.number_forms.proofs.Rising.{below_next, not_below, below_end, nth_term}
+use Rattle.number_forms.proofs.{Shared.{term_of, plain, children_of, tree_at, forest}, ByKind.{children_number}, Children.{IsNextChild, left_more, next_child, none_left}}
+use Rattle.number_forms.proofs.{Rising.{below_next, not_below, below_end, nth_term}, recognize.is_below_rest.Goals.{In-Some}}
 use Rattle.calc_algebra.specs.Numbers.{term_of as term_of_tree}
-use Rattle.number_forms.proofs.recognize.is_below_rest.Goals.{In-Some}
 use Rattle.number_forms.proofs.recognize.is_below_rest.Goals as goal
 
 next : (c : In-Some) → IsNextChild (c.args.from + length c.loop-child.yielded) c.args.id c.in-Some.child c.args.pool.now

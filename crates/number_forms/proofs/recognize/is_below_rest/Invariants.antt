@@ -1,5 +1,4 @@
-use Rattle.number_forms.proofs.Shared.{◌≡◌, ◌+◌, length, is_below_all, terms_of, trees_from, term_of, plain, children_of, tree_at, forest}
-use Rattle.number_forms.proofs.Children.{AreLeft}
+use Rattle.number_forms.proofs.{Shared.{◌≡◌, ◌+◌, length, is_below_all, terms_of, trees_from, term_of, plain, children_of, tree_at, forest}, Children.{AreLeft}}
 use Rattle.number_forms.proofs.recognize.is_below_rest.Given as goal
 
 abbrev pub invariant-loop-child : goal.invariant-loop-child

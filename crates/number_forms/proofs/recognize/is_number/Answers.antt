@@ -1,5 +1,4 @@
-use Rattle.number_forms.proofs.Shared.{◌∙◌}
-use Rattle.number_forms.proofs.Recognized.{other_by_kind}
+use Rattle.number_forms.proofs.{Shared.{◌∙◌}, Recognized.{other_by_kind}}
 use Rattle.number_forms.proofs.recognize.is_number.Goals as goal
 
 pub returns-in_default : goal.returns-in_default

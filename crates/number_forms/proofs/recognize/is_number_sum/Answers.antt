@@ -1,5 +1,4 @@
-use Rattle.number_forms.proofs.Shared.{◌≡◌, sym, ◌∙◌, arith, count, plain, children_of, tree_at, forest}
-use Rattle.number_forms.proofs.Recognized.{short_sum, sum_rises}
+use Rattle.number_forms.proofs.{Shared.{◌≡◌, sym, ◌∙◌, arith, count, plain, children_of, tree_at, forest}, Recognized.{short_sum, sum_rises}}
 use Rattle.number_forms.proofs.recognize.is_number_sum.Goals as goal
 
 pub returns-then-children-lt2 : goal.returns-then-children-lt2

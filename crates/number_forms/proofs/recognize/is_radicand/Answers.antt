@@ -1,5 +1,4 @@
-use Rattle.number_forms.proofs.Shared.{rules, FitsSigned, ap, ◌∙◌, nat_abs, w128, to_z-of_z, value_of}
-use Rattle.number_forms.proofs.Recognized.{small_whole, clean_whole}
+use Rattle.number_forms.proofs.{Shared.{rules, FitsSigned, ap, ◌∙◌, nat_abs, w128, to_z-of_z, value_of}, Recognized.{small_whole, clean_whole}}
 use Rattle.number_forms.proofs.recognize.is_radicand.Goals as goal
 
 pub returns-then-n-lt2 : goal.returns-then-n-lt2

@@ -1,5 +1,4 @@
-use Rattle.number_forms.proofs.Shared.{sym, ◌∙◌}
-use Rattle.number_forms.proofs.ByKind.{product_by_children}
+use Rattle.number_forms.proofs.{Shared.{sym, ◌∙◌}, ByKind.{product_by_children}}
 use Rattle.number_forms.proofs.shape.shape_of_product.Goals as goal
 
 pub returns-in-Some-root_at : goal.returns-in-Some-root_at

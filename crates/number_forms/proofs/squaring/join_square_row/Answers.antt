@@ -1,14 +1,9 @@
-use Rattle.number_forms.proofs.Shared.{◌≡◌, [], ◌∷◌, ◌++◌, map, inl, inr, refl, sym, ap, ◌∙◌, subst, rules, ◌+◌, is_number, value, Term, Surd, term_times, Same-refl, spans_append, IsSpanned}
-use Rattle.number_forms.proofs.Shared.{Spans, Tree, size, free_of, terms_from, RowOverflows, SquareRowOverflows, LacksRoom, joining_need, twice, square_row, IsSumOf, lists_kept, kept_after}
-use Rattle.number_forms.proofs.Shared.{overflow_as, other_plain, gives_rest, passed_on, term_of, OfOverflow, tree_of, Gives, without_root, forest, behind_first, front_after_one, given_handed}
-use Rattle.number_forms.proofs.Shared.{given_rest, given_told, gives_as, handed_at}
-use Rattle.number_forms.proofs.Loops.{IsJoined, joined_none, joined_more, joined_part, joined_all}
-use Rattle.number_forms.proofs.Rooms.{full_as, spans_from, partial_spanned, term_lacks, row_lacks}
-use Rattle.number_forms.proofs.Rows.{nothing_more, joined_extracted}
-use Rattle.number_forms.proofs.Squares.{spans_square_row}
-use Rattle.number_forms.proofs.Twice.{twice_refused}
-use Rattle.number_forms.proofs.squaring.join_square_row.Goals.{In_ok-join_term}
-use Rattle.number_forms.proofs.squaring.join_square_row.Given.{Over}
+use Rattle.number_forms.proofs.Shared.{◌≡◌, [], ◌∷◌, ◌++◌, map, inl, inr, refl, sym, ap, ◌∙◌, subst, rules, ◌+◌, is_number, value, Term, Surd, term_times, Same-refl, spans_append, IsSpanned, Spans}
+use Rattle.number_forms.proofs.Shared.{Tree, size, free_of, terms_from, RowOverflows, SquareRowOverflows, LacksRoom, joining_need, twice, square_row, IsSumOf, lists_kept, kept_after, overflow_as}
+use Rattle.number_forms.proofs.Shared.{other_plain, gives_rest, passed_on, term_of, OfOverflow, tree_of, Gives, without_root, forest, behind_first, front_after_one, given_handed, given_rest}
+use Rattle.number_forms.proofs.{Shared.{given_told, gives_as, handed_at}, Loops.{IsJoined, joined_none, joined_more, joined_part, joined_all}}
+use Rattle.number_forms.proofs.{Rooms.{full_as, spans_from, partial_spanned, term_lacks, row_lacks}, Rows.{nothing_more, joined_extracted}, Squares.{spans_square_row}, Twice.{twice_refused}}
+use Rattle.number_forms.proofs.{squaring.join_square_row.Goals.{In_ok-join_term}, squaring.join_square_row.Given.{Over}}
 use Rattle.tree_handles.specs.declared.fault.NumberFault.TheVariants as fault
 use Rattle.number_forms.proofs.squaring.join_square_row.Goals as goal
 

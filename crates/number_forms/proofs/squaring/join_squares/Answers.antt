@@ -1,13 +1,9 @@
 use Rattle.number_forms.proofs.Shared.{◌≡◌, ℕ, ◌≤◌, ◌++◌, Some, length, sym, ap, ◌∙◌, arith, add-one, subst, rules, ◌+◌, slice_get, is_number, value, classes, Same, Surd, SharesDenominators}
 use Rattle.number_forms.proofs.Shared.{spans_append, Spans, Tree, size, free_of, SquareRowOverflows, SquareOverflows, LacksRoom, joining_need, square_row, square_terms, IsSumOf, lists_kept}
 use Rattle.number_forms.proofs.Shared.{other_plain, other_read, other_expression, gives_rest, passed_on, overflow_as, term_of, OfOverflow, tree_of, Gives, without_root, forest, given_other}
-use Rattle.number_forms.proofs.Shared.{given_rest, handed_at, given_handed, given_told, plain_root}
-use Rattle.number_forms.proofs.Loops.{joined_none, joined_part, joined_all, from_all}
-use Rattle.number_forms.proofs.Rooms.{full_as, spans_from, spans_nth, partial_spanned, row_lacks}
-use Rattle.number_forms.proofs.Squares.{spans_square}
-use Rattle.number_forms.proofs.Worth.{terms_from, from_next}
-use Rattle.number_forms.proofs.squaring.join_squares.Goals.{After-listed_term-term}
-use Rattle.number_forms.proofs.squaring.join_squares.Given.{Over}
+use Rattle.number_forms.proofs.{Shared.{given_rest, handed_at, given_handed, given_told, plain_root}, Loops.{joined_none, joined_part, joined_all, from_all}}
+use Rattle.number_forms.proofs.{Rooms.{full_as, spans_from, spans_nth, partial_spanned, row_lacks}, Squares.{spans_square}, Worth.{terms_from, from_next}}
+use Rattle.number_forms.proofs.{squaring.join_squares.Goals.{After-listed_term-term}, squaring.join_squares.Given.{Over}}
 use Rattle.number_forms.proofs.squaring.join_squares.Goals as goal
 
 -- the Number as it stands now

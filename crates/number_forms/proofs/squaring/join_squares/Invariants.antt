@@ -1,6 +1,4 @@
-use Rattle.number_forms.proofs.Shared.{◌++◌, value, Lists, square_terms, tree_of, forest}
-use Rattle.number_forms.proofs.Loops.{IsJoined}
-use Rattle.number_forms.proofs.Worth.{terms_from}
+use Rattle.number_forms.proofs.{Shared.{◌++◌, value, Lists, square_terms, tree_of, forest}, Loops.{IsJoined}, Worth.{terms_from}}
 use Rattle.number_forms.proofs.squaring.join_squares.Given as goal
 
 abbrev pub invariant-loop-at : goal.invariant-loop-at

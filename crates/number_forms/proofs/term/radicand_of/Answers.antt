@@ -1,5 +1,4 @@
-use Rattle.number_forms.proofs.Shared.{◌≡◌, sym, ap, ◌∙◌, rules, subst, FitsSigned, nat_abs, w128, to_z-of_z, IsClean, natural_of, value_of, ratio_parts}
-use Rattle.number_forms.proofs.TermTrees.{natural_abs}
+use Rattle.number_forms.proofs.{Shared.{◌≡◌, sym, ap, ◌∙◌, rules, subst, FitsSigned, nat_abs, w128, to_z-of_z, IsClean, natural_of, value_of, ratio_parts}, TermTrees.{natural_abs}}
 use Rattle.number_forms.proofs.term.radicand_of.Goals.{After-unsigned_abs}
 use Rattle.number_forms.proofs.term.radicand_of.Goals as goal
 

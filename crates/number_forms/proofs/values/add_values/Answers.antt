@@ -1,6 +1,4 @@
-use Rattle.number_forms.proofs.Shared.{◌++◌, List, ap, sym, rules, Same-append, Same-eq, Same-refl, Same-trans, tree_of, value}
-use Rattle.number_forms.proofs.Denominators.{shares_eq}
-use Rattle.number_forms.proofs.ListedTerms.{terms_as}
+use Rattle.number_forms.proofs.{Shared.{◌++◌, List, ap, sym, rules, Same-append, Same-eq, Same-refl, Same-trans, tree_of, value}, Denominators.{shares_eq}, ListedTerms.{terms_as}}
 use Rattle.number_forms.proofs.Over.{shares_append}
 use Rattle.number_forms.specs.Values.{surd_of}
 use Rattle.surd_terms.specs.declared.term.Term.{Term}

@@ -1,5 +1,4 @@
-use Rattle.number_forms.proofs.Shared.{◌∙◌, ap, subst, sym, rules, Same-refl, Surd, surd_times, tree_of, value, AreTermsOf, number_tree}
-use Rattle.number_forms.proofs.ListedTerms.{number_over, number_value}
+use Rattle.number_forms.proofs.{Shared.{◌∙◌, ap, subst, sym, rules, Same-refl, Surd, surd_times, tree_of, value, AreTermsOf, number_tree}, ListedTerms.{number_over, number_value}}
 use Rattle.number_forms.proofs.Over.{odd_power, power_itself}
 use Rattle.number_forms.specs.Values.{surd_of}
 use Rattle.number_forms.proofs.values.cube_values.Goals as goal

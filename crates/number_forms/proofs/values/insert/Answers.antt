@@ -1,5 +1,4 @@
-use Rattle.number_forms.proofs.Shared.{lit<, ◌∙◌, sym, subst, arith, eqb-false, AreTermsOf}
-use Rattle.number_forms.proofs.ListedTerms.{count_trees, inserted_terms}
+use Rattle.number_forms.proofs.{Shared.{lit<, ◌∙◌, sym, subst, arith, eqb-false, AreTermsOf}, ListedTerms.{count_trees, inserted_terms}}
 use Rattle.number_forms.proofs.values.insert.Goals as goal
 
 pub insert-requires : goal.insert-requires

@@ -1,5 +1,4 @@
-use Rattle.number_forms.proofs.Shared.{term_of, term_times}
-use Rattle.number_forms.proofs.ListedTerms.{extracted_terms}
+use Rattle.number_forms.proofs.{Shared.{term_of, term_times}, ListedTerms.{extracted_terms}}
 use Rattle.number_forms.specs.Values.{surd_of}
 use Rattle.number_forms.proofs.values.join_product.Goals as goal
 

@@ -1,6 +1,4 @@
-use Rattle.number_forms.proofs.Shared.{ℕ, ◌∷◌, ◌∙◌, ap, map, sym, arith, add-one, rules, term_of, term_times, tree_of, value}
-use Rattle.number_forms.proofs.Loops.{from_all}
-use Rattle.number_forms.proofs.ValueLoops.{with_none, with_step}
+use Rattle.number_forms.proofs.{Shared.{ℕ, ◌∷◌, ◌∙◌, ap, map, sym, arith, add-one, rules, term_of, term_times, tree_of, value}, Loops.{from_all}, ValueLoops.{with_none, with_step}}
 use Rattle.number_forms.proofs.Worth.{products_next, terms_from}
 use Rattle.number_forms.proofs.values.join_products.Goals as goal
 

@@ -1,6 +1,4 @@
-use Rattle.number_forms.proofs.Shared.{◌++◌, map, value, term_of, term_times, tree_of}
-use Rattle.number_forms.proofs.ValueLoops.{AreTermsWith}
-use Rattle.number_forms.proofs.Worth.{terms_from}
+use Rattle.number_forms.proofs.{Shared.{◌++◌, map, value, term_of, term_times, tree_of}, ValueLoops.{AreTermsWith}, Worth.{terms_from}}
 use Rattle.number_forms.specs.Values.{surd_of}
 use Rattle.number_forms.proofs.values.join_products.Given as goal
 

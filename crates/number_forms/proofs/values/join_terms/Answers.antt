@@ -1,7 +1,4 @@
-use Rattle.number_forms.proofs.Shared.{ℕ, ◌∷◌, ◌∙◌, ap, sym, arith, add-one, rules, term_of, tree_of, value}
-use Rattle.number_forms.proofs.Loops.{from_all}
-use Rattle.number_forms.proofs.ValueLoops.{with_none, with_step}
-use Rattle.number_forms.proofs.Worth.{from_next, terms_from}
+use Rattle.number_forms.proofs.{Shared.{ℕ, ◌∷◌, ◌∙◌, ap, sym, arith, add-one, rules, term_of, tree_of, value}, Loops.{from_all}, ValueLoops.{with_none, with_step}, Worth.{from_next, terms_from}}
 use Rattle.number_forms.proofs.values.join_terms.Goals as goal
 
 pub loop-at-preserved : goal.loop-at-preserved

@@ -1,6 +1,4 @@
-use Rattle.number_forms.proofs.Shared.{◌++◌, value, tree_of}
-use Rattle.number_forms.proofs.ValueLoops.{AreTermsWith}
-use Rattle.number_forms.proofs.Worth.{terms_from}
+use Rattle.number_forms.proofs.{Shared.{◌++◌, value, tree_of}, ValueLoops.{AreTermsWith}, Worth.{terms_from}}
 use Rattle.number_forms.specs.Values.{surd_of}
 use Rattle.number_forms.proofs.values.join_terms.Given as goal
 

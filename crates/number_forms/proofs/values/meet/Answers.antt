@@ -1,8 +1,6 @@
-use Rattle.number_forms.proofs.Shared.{◌≡◌, ◌∙◌, ap, sym, subst, get_or, List, refl, term_of, AreTermsOf, IfTerm, Joins, Joined}
-use Rattle.number_forms.proofs.ListedTerms.{cancelled_terms, met_terms, refill_set, same_default}
-use Rattle.surd_terms.specs.Sums.{IsSum}
-use Rattle.surd_terms.specs.declared.term.Term.{Term}
+use Rattle.number_forms.proofs.{Shared.{◌≡◌, ◌∙◌, ap, sym, subst, get_or, List, refl, term_of, AreTermsOf, IfTerm, Joins, Joined}, ListedTerms.{cancelled_terms, met_terms, refill_set, same_default}}
 use Rattle.number_forms.proofs.values.meet.Goals.{After-join}
+use Rattle.surd_terms.specs.{Sums.{IsSum}, declared.term.Term.{Term}}
 use Rattle.number_forms.proofs.values.meet.Goals as goal
 
 -- the term at the place

@@ -1,5 +1,4 @@
-use Rattle.number_forms.proofs.Shared.{ap, map, arith, rules, Surd, surd_times, term_of, term_times, tree_of, value}
-use Rattle.number_forms.proofs.ValueLoops.{left_next, left_none, with_none, with_part}
+use Rattle.number_forms.proofs.{Shared.{ap, map, arith, rules, Surd, surd_times, term_of, term_times, tree_of, value}, ValueLoops.{left_next, left_none, with_none, with_part}}
 use Rattle.number_forms.proofs.values.multiply_terms.Goals as goal
 
 pub loop-term-preserved : goal.loop-term-preserved

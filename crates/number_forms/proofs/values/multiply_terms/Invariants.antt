@@ -1,5 +1,4 @@
-use Rattle.number_forms.proofs.Shared.{drop, surd_times, value, tree_of}
-use Rattle.number_forms.proofs.ValueLoops.{AreTermsWith}
+use Rattle.number_forms.proofs.{Shared.{drop, surd_times, value, tree_of}, ValueLoops.{AreTermsWith}}
 use Rattle.number_forms.specs.Values.{surd_of}
 use Rattle.number_forms.proofs.values.multiply_terms.Given as goal
 

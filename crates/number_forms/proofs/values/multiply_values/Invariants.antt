@@ -1,6 +1,4 @@
-use Rattle.number_forms.proofs.Shared.{surd_times, value, tree_of}
-use Rattle.number_forms.proofs.ValueLoops.{AreTermsWith}
-use Rattle.number_forms.proofs.Worth.{terms_from}
+use Rattle.number_forms.proofs.{Shared.{surd_times, value, tree_of}, ValueLoops.{AreTermsWith}, Worth.{terms_from}}
 use Rattle.number_forms.proofs.values.multiply_values.Given as goal
 
 abbrev pub invariant-loop-at : goal.invariant-loop-at

@@ -1,5 +1,4 @@
-use Rattle.number_forms.proofs.Shared.{refl, arith}
-use Rattle.number_forms.proofs.ListedTerms.{place_here, place_end}
+use Rattle.number_forms.proofs.{Shared.{refl, arith}, ListedTerms.{place_here, place_end}}
 use Rattle.number_forms.proofs.values.place_in.Goals as goal
 
 pub returns-then-radicand : goal.returns-then-radicand

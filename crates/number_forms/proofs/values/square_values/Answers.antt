@@ -1,6 +1,4 @@
-use Rattle.number_forms.proofs.Shared.{refl, Same-refl, tree_of, value}
-use Rattle.number_forms.proofs.ListedTerms.{number_over}
-use Rattle.number_forms.proofs.Over.{even_power, power_itself}
+use Rattle.number_forms.proofs.{Shared.{refl, Same-refl, tree_of, value}, ListedTerms.{number_over}, Over.{even_power, power_itself}}
 use Rattle.number_forms.proofs.values.square_values.Goals as goal
 
 pub returns : goal.returns

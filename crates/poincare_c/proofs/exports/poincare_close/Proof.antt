@@ -1,6 +1,5 @@
 -- The slot is lent for the call of `Slot::close`, and comes back.
-use Rattle.std.proofs.Common.{ℕ, [], ◌∷◌, ◌++◌, refl, w32}
-use Rattle.std.proofs.raw_atomic.Walks.{proved}
+use Rattle.std.proofs.{Common.{ℕ, [], ◌∷◌, ◌++◌, refl, w32}, raw_atomic.Walks.{proved}}
 use base.Fraction.{full_share}
 use base.Logic.{id⊢}
 use base.Fml.{ftrue, fsep, flft, flent, fex}
@@ -30,10 +29,7 @@ use denote.Triple.Clauses.{lasts}
 use denote.Triple.Spec.{triple_of}
 use denote.Triple.Table.{framed}
 use denote.Triple.Walked.{Stays, walk_of, stay_dropped, Goes-dropped, ends_at}
-use Rattle.poincare_c.specs.Owned.{holds_session}
-use Rattle.poincare_c.specs.Slots.{Closes}
-use Rattle.poincare_c.specs.declared.slot.Slot.{Slot}
-use Rattle.poincare_c.specs.contracts.slot.Slot.{the_row}
+use Rattle.poincare_c.specs.{Owned.{holds_session}, Slots.{Closes}, declared.slot.Slot.{Slot}, contracts.slot.Slot.{the_row}}
 use Rattle.poincare_c.specs.contracts.slot.Slot.close as g
 use Rattle.poincare_c.proofs.slot.Slot.close.Met.{met}
 use Rattle.poincare_c.specs.contracts.exports.poincare_close as f

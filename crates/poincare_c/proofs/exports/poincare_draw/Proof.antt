@@ -1,6 +1,5 @@
 -- The slot is lent for the call of `Slot::draw`, and comes back.
-use Rattle.std.proofs.Common.{ℕ, List, [], ◌∷◌, ◌++◌, refl, w32}
-use Rattle.std.proofs.raw_atomic.Walks.{proved}
+use Rattle.std.proofs.{Common.{ℕ, List, [], ◌∷◌, ◌++◌, refl, w32}, raw_atomic.Walks.{proved}}
 use base.Fraction.{full_share}
 use base.Logic.{id⊢}
 use base.Fml.{ftrue, fsep, flft, flent, fex}
@@ -32,10 +31,7 @@ use denote.Triple.Clauses.{lasts}
 use denote.Triple.Spec.{triple_of}
 use denote.Triple.Table.{framed}
 use denote.Triple.Walked.{Stays, walk_of, stay_dropped, gave_slice, Goes-gave_slice, gave_ref, Goes-dropped, Goes-gave_ref, ends_at}
-use Rattle.poincare_c.specs.Owned.{holds_session}
-use Rattle.poincare_c.specs.Slots.{Draws}
-use Rattle.poincare_c.specs.declared.slot.Slot.{Slot}
-use Rattle.poincare_c.specs.contracts.slot.Slot.{the_row}
+use Rattle.poincare_c.specs.{Owned.{holds_session}, Slots.{Draws}, declared.slot.Slot.{Slot}, contracts.slot.Slot.{the_row}}
 use Rattle.poincare_c.specs.contracts.slot.Slot.draw as g
 use Rattle.poincare_c.proofs.slot.Slot.draw.Met.{met}
 use Rattle.poincare_c.specs.contracts.exports.poincare_draw as f

@@ -1,6 +1,5 @@
 -- The slot is lent for the call of `Slot::line_within`, and comes back.
-use Rattle.std.proofs.Common.{ℕ, [], ◌∷◌, ◌++◌, refl, w32, w64}
-use Rattle.std.proofs.raw_atomic.Walks.{proved}
+use Rattle.std.proofs.{Common.{ℕ, [], ◌∷◌, ◌++◌, refl, w32, w64}, raw_atomic.Walks.{proved}}
 use base.Fraction.{full_share}
 use base.Logic.{id⊢}
 use base.Fml.{ftrue, fsep, flft, flent, fex}
@@ -31,10 +30,7 @@ use denote.Triple.Clauses.{lasts}
 use denote.Triple.Spec.{triple_of}
 use denote.Triple.Table.{framed}
 use denote.Triple.Walked.{Stays, walk_of, stay_dropped, Goes-dropped, ends_at}
-use Rattle.poincare_c.specs.Owned.{holds_session}
-use Rattle.poincare_c.specs.Slots.{AnswersWithinIn}
-use Rattle.poincare_c.specs.declared.slot.Slot.{Slot}
-use Rattle.poincare_c.specs.contracts.slot.Slot.{the_row}
+use Rattle.poincare_c.specs.{Owned.{holds_session}, Slots.{AnswersWithinIn}, declared.slot.Slot.{Slot}, contracts.slot.Slot.{the_row}}
 use Rattle.poincare_c.specs.contracts.slot.Slot.line_within as g
 use Rattle.poincare_c.proofs.slot.Slot.line_within.Met.{met}
 use Rattle.poincare_c.specs.contracts.exports.poincare_line_within as f

@@ -1,6 +1,5 @@
 -- The slot is lent for the call of `Slot::open`, and comes back.
-use Rattle.std.proofs.Common.{ℕ, [], ◌∷◌, ◌++◌, refl, w32}
-use Rattle.std.proofs.raw_atomic.Walks.{proved}
+use Rattle.std.proofs.{Common.{ℕ, [], ◌∷◌, ◌++◌, refl, w32}, raw_atomic.Walks.{proved}}
 use base.Fraction.{full_share}
 use base.Logic.{id⊢}
 use base.Fml.{ftrue, fsep, flft, flent, fex}
@@ -32,10 +31,7 @@ use denote.Triple.Table.{framed}
 use denote.Triple.Walked.{Stays, walk_of, stay_dropped, Goes-dropped, ends_at}
 use Rattle.std_heap.specs.contracts.Global as HP
 use Rattle.std_heap.proofs.Handle.{heap_val, heap_Tells}
-use Rattle.poincare_c.specs.Owned.{holds_session}
-use Rattle.poincare_c.specs.Slots.{Opens}
-use Rattle.poincare_c.specs.declared.slot.Slot.{Slot}
-use Rattle.poincare_c.specs.contracts.slot.Slot.{the_row}
+use Rattle.poincare_c.specs.{Owned.{holds_session}, Slots.{Opens}, declared.slot.Slot.{Slot}, contracts.slot.Slot.{the_row}}
 use Rattle.poincare_c.specs.contracts.slot.Slot.open as g
 use Rattle.poincare_c.proofs.slot.Slot.open.Met.{met}
 use Rattle.poincare_c.specs.contracts.exports.poincare_open as f

@@ -1,6 +1,5 @@
 -- A closed slot is written to the room.
-use Rattle.std.proofs.Common.{List, [], ◌∷◌, ◌++◌, refl}
-use Rattle.std.proofs.raw_atomic.Walks.{proved}
+use Rattle.std.proofs.{Common.{List, [], ◌∷◌, ◌++◌, refl}, raw_atomic.Walks.{proved}}
 use base.Fraction.{full_share}
 use base.Logic.{id⊢}
 use base.Fml.{ftrue, fsep, fex}
@@ -25,10 +24,7 @@ use denote.Triple.Entry.{on_entry}
 use denote.Triple.Spec.{triple_of}
 use denote.Triple.Table.{framed}
 use denote.Triple.Walked.{Stays, walk_of, stay_dropped, Goes-dropped, ends_at}
-use Rattle.poincare_c.specs.Owned.{holds_session}
-use Rattle.poincare_c.specs.Slots.{IsNew}
-use Rattle.poincare_c.specs.declared.slot.Slot.{Slot}
-use Rattle.poincare_c.specs.contracts.slot.Slot.{the_row, the_type}
+use Rattle.poincare_c.specs.{Owned.{holds_session}, Slots.{IsNew}, declared.slot.Slot.{Slot}, contracts.slot.Slot.{the_row, the_type}}
 use Rattle.poincare_c.proofs.slot.Slot.TheLaws.{mir as slot_mir, the_loose}
 use Rattle.poincare_c.specs.contracts.slot.Slot.new as g
 use Rattle.poincare_c.proofs.slot.Slot.new.Met.{met}

@@ -1,6 +1,5 @@
 -- The slot is lent for the call of `StopperSlot::close`, and comes back.
-use Rattle.std.proofs.Common.{ℕ, [], ◌∷◌, ◌++◌, refl, w32}
-use Rattle.std.proofs.raw_atomic.Walks.{proved}
+use Rattle.std.proofs.{Common.{ℕ, [], ◌∷◌, ◌++◌, refl, w32}, raw_atomic.Walks.{proved}}
 use base.Fraction.{full_share}
 use base.Logic.{id⊢}
 use base.Fml.{ftrue, fsep, flft, flent, fex}
@@ -30,10 +29,7 @@ use denote.Triple.Clauses.{lasts}
 use denote.Triple.Spec.{triple_of}
 use denote.Triple.Table.{framed}
 use denote.Triple.Walked.{Stays, walk_of, stay_dropped, Goes-dropped, ends_at}
-use Rattle.poincare_c.specs.Owned.{holds_stopper}
-use Rattle.poincare_c.specs.Slots.{ClosesStopper}
-use Rattle.poincare_c.specs.declared.stopper_slot.StopperSlot.{StopperSlot}
-use Rattle.poincare_c.specs.contracts.stopper_slot.StopperSlot.{the_row}
+use Rattle.poincare_c.specs.{Owned.{holds_stopper}, Slots.{ClosesStopper}, declared.stopper_slot.StopperSlot.{StopperSlot}, contracts.stopper_slot.StopperSlot.{the_row}}
 use Rattle.poincare_c.specs.contracts.stopper_slot.StopperSlot.close as g
 use Rattle.poincare_c.proofs.stopper_slot.StopperSlot.close.Met.{met}
 use Rattle.poincare_c.specs.contracts.exports.poincare_stopper_close as f

@@ -1,6 +1,5 @@
 -- A closed slot is written to the room.
-use Rattle.std.proofs.Common.{List, [], ◌∷◌, ◌++◌, refl}
-use Rattle.std.proofs.raw_atomic.Walks.{proved}
+use Rattle.std.proofs.{Common.{List, [], ◌∷◌, ◌++◌, refl}, raw_atomic.Walks.{proved}}
 use base.Fraction.{full_share}
 use base.Logic.{id⊢}
 use base.Fml.{ftrue, fsep, fex}
@@ -25,10 +24,7 @@ use denote.Triple.Entry.{on_entry}
 use denote.Triple.Spec.{triple_of}
 use denote.Triple.Table.{framed}
 use denote.Triple.Walked.{Stays, walk_of, stay_dropped, Goes-dropped, ends_at}
-use Rattle.poincare_c.specs.Owned.{holds_stopper}
-use Rattle.poincare_c.specs.Slots.{IsNewStopper}
-use Rattle.poincare_c.specs.declared.stopper_slot.StopperSlot.{StopperSlot}
-use Rattle.poincare_c.specs.contracts.stopper_slot.StopperSlot.{the_row, the_type}
+use Rattle.poincare_c.specs.{Owned.{holds_stopper}, Slots.{IsNewStopper}, declared.stopper_slot.StopperSlot.{StopperSlot}, contracts.stopper_slot.StopperSlot.{the_row, the_type}}
 use Rattle.poincare_c.proofs.stopper_slot.StopperSlot.TheLaws.{mir as slot_mir, the_loose}
 use Rattle.poincare_c.specs.contracts.stopper_slot.StopperSlot.new as g
 use Rattle.poincare_c.proofs.stopper_slot.StopperSlot.new.Met.{met}

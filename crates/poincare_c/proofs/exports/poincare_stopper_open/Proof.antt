@@ -1,6 +1,5 @@
 -- Both slots are lent for the call of `StopperSlot::open`, and come back.
-use Rattle.std.proofs.Common.{ℕ, [], ◌∷◌, ◌++◌, refl, w32}
-use Rattle.std.proofs.raw_atomic.Walks.{proved}
+use Rattle.std.proofs.{Common.{ℕ, [], ◌∷◌, ◌++◌, refl, w32}, raw_atomic.Walks.{proved}}
 use base.Fraction.{full_share}
 use base.Logic.{id⊢}
 use base.Fml.{ftrue, fsep, flft, flent, fex}
@@ -30,12 +29,8 @@ use denote.Triple.Clauses.{lasts}
 use denote.Triple.Spec.{triple_of}
 use denote.Triple.Table.{framed}
 use denote.Triple.Walked.{Stays, walk_of, stay_dropped, Goes-dropped, ends_at}
-use Rattle.poincare_c.specs.Owned.{holds_both, holds_session, holds_stopper}
-use Rattle.poincare_c.specs.Slots.{OpensStopper}
-use Rattle.poincare_c.specs.declared.slot.Slot.{Slot}
-use Rattle.poincare_c.specs.declared.stopper_slot.StopperSlot.{StopperSlot}
-use Rattle.poincare_c.specs.contracts.slot.Slot.{the_row as session_row}
-use Rattle.poincare_c.specs.contracts.stopper_slot.StopperSlot.{the_row as stopper_row}
+use Rattle.poincare_c.specs.{Owned.{holds_both, holds_session, holds_stopper}, Slots.{OpensStopper}, declared.slot.Slot.{Slot}, declared.stopper_slot.StopperSlot.{StopperSlot}}
+use Rattle.poincare_c.specs.{contracts.slot.Slot.{the_row as session_row}, contracts.stopper_slot.StopperSlot.{the_row as stopper_row}}
 use Rattle.poincare_c.specs.contracts.stopper_slot.StopperSlot.open as g
 use Rattle.poincare_c.proofs.stopper_slot.StopperSlot.open.Met.{met}
 use Rattle.poincare_c.specs.contracts.exports.poincare_stopper_open as f

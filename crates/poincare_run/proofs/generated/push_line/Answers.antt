@@ -1,6 +1,5 @@
 use Rattle.std.proofs.Common.{◌∙◌, ◌<◌, ◌++◌, length, take, get_or, arith, sym, ap, append_assoc}
-use Rattle.poincare_run.proofs.Shared.{take_more, digits_for, with_digits}
-use Rattle.poincare_run.proofs.GeneratedLemmas.{with_digits-more}
+use Rattle.poincare_run.proofs.{Shared.{take_more, digits_for, with_digits}, GeneratedLemmas.{with_digits-more}}
 use Rattle.poincare_run.proofs.generated.push_line.Goals as goal
 
 pub loop-byte-preserved : goal.loop-byte-preserved

@@ -1,6 +1,5 @@
 use Rattle.std.proofs.Common.{◌≡◌, ◌∙◌, ◌+◌, ◌%◌, ◌++◌, ◌∷◌, [], arith, sym, ap, append_assoc}
-use Rattle.poincare_run.proofs.Shared.{first_lines, first_number, next_seed, pattern, second_number, seed, with_digits}
-use Rattle.poincare_run.proofs.GeneratedLemmas.{seed-zero, seed-more, first_lines-zero, first_lines-more}
+use Rattle.poincare_run.proofs.{Shared.{first_lines, first_number, next_seed, pattern, second_number, seed, with_digits}, GeneratedLemmas.{seed-zero, seed-more, first_lines-zero, first_lines-more}}
 use Rattle.poincare_run.proofs.generated.session_from.Goals as goal
 
 pub loop-k-init : goal.loop-k-init

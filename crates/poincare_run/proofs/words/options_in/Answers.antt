@@ -1,8 +1,5 @@
-use Rattle.std.proofs.Common.{◌∙◌, eqb-true, length, map, string_bytes, sym}
-use Rattle.std.proofs.lemmas.List.{length-map}
-use Rattle.poincare_run.proofs.Shared.{app_of, list_any-map}
-use Rattle.poincare_run.proofs.ClapLemmas.{is_separator}
-use Rattle.poincare_run.proofs.CommandLineLemmas.{given_matched, none_named, none_refused, none_separated}
+use Rattle.std.proofs.{Common.{◌∙◌, eqb-true, length, map, string_bytes, sym}, lemmas.List.{length-map}}
+use Rattle.poincare_run.proofs.{Shared.{app_of, list_any-map}, ClapLemmas.{is_separator}, CommandLineLemmas.{given_matched, none_named, none_refused, none_separated}}
 use Rattle.poincare_run.proofs.words.options_in.Goals as goal
 
 pub returns-then-is_empty-clause-value : goal.returns-then-is_empty-clause-value

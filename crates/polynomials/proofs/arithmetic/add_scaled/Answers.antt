@@ -1,10 +1,8 @@
 use Rattle.std.proofs.Common.{◌≡◌, ◌++◌, ap, sym, ◌∙◌, subst, arith}
 use Rattle.calc_terms.specs.Rat.{value_of}
 use Rattle.std.specs.Prelude.{OnOk}
-use Rattle.polynomials.specs.Polynomials.{HasExponents, HaveExponents, Polynomial, Summand, row, scaled}
-use Rattle.polynomials.specs.Terms.{AreTermsOf, polynomial_of, summand_of}
-use Rattle.polynomials.proofs.Exponents.{one_exponents}
-use Rattle.polynomials.proofs.Scaled.{have_packed, have_scaled, row_constant}
+use Rattle.polynomials.specs.{Polynomials.{HasExponents, HaveExponents, Polynomial, Summand, row, scaled}, Terms.{AreTermsOf, polynomial_of, summand_of}}
+use Rattle.polynomials.proofs.{Exponents.{one_exponents}, Scaled.{have_packed, have_scaled, row_constant}}
 use Rattle.polynomials.proofs.arithmetic.add_scaled.Goals as goal
 use Rattle.polynomials.proofs.arithmetic.add_scaled.Goals.{After-constant}
 

@@ -1,12 +1,8 @@
 use Rattle.std.proofs.Common.{◌≡◌, ℕ, ◌+◌, ◌-◌, ◌*◌, ◌/◌, ◌≤◌, get_or, ap, ◌∙◌, sym, subst, arith}
 use Rattle.calc_terms.specs.Ratio.{whole}
-use Rattle.polynomials.specs.Binomials.{choices, summand_power}
-use Rattle.polynomials.specs.Polynomials.{HasExponents, Summand}
-use Rattle.polynomials.specs.Terms.{summand_of}
-use Rattle.polynomials.proofs.BinomialTheorem.{choices_next, mixed}
-use Rattle.polynomials.proofs.Exponents.{exponents_times, one_exponents}
-use Rattle.polynomials.proofs.PowerLists.{all_mixed, count_fits, count_told, factors_within, listed_exponents, mixed_exponents, mixed_is, mixed_terms}
-use Rattle.polynomials.proofs.binomials.binomial_power.Goals.{After-index-in-loop-k}
+use Rattle.polynomials.specs.{Binomials.{choices, summand_power}, Polynomials.{HasExponents, Summand}, Terms.{summand_of}}
+use Rattle.polynomials.proofs.{BinomialTheorem.{choices_next, mixed}, Exponents.{exponents_times, one_exponents}, PowerLists.{all_mixed, count_fits, count_told, factors_within, listed_exponents}}
+use Rattle.polynomials.proofs.{PowerLists.{mixed_exponents, mixed_is, mixed_terms}, binomials.binomial_power.Goals.{After-index-in-loop-k}}
 use Rattle.polynomials.proofs.binomials.binomial_power.Goals as goal
 
 -- the two powers

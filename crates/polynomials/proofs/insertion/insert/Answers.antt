@@ -1,12 +1,7 @@
-use Rattle.std.proofs.Common.{◌≡◌, ◌<◌, ◌≤◌, ℕ, List, length, take, drop, get_or, sym, ap, ◌∙◌, subst, arith, take-append-drop}
-use Rattle.std.proofs.lemmas.List.{take_all}
-use Rattle.std.proofs.lemmas.Result.{on_ok_weaker}
-use Rattle.polynomials.specs.declared.term.Term.{Term}
-use Rattle.polynomials.specs.Rows.{AreBelow, StartsFrom}
-use Rattle.polynomials.specs.Terms.{IsBelowAll, IsNormal}
-use Rattle.polynomials.proofs.Causes.{like_anyway, pushed_length}
-use Rattle.polynomials.proofs.Insertions.{exchange_exponents, exchange_others, exchange_terms, first_dropped, insert_exponents, insert_others, insert_terms, inserted, push_exponents, push_others, push_terms}
-use Rattle.polynomials.proofs.Normal.{behind_other, normal_end, stands_at}
+use Rattle.std.proofs.{Common.{◌≡◌, ◌<◌, ◌≤◌, ℕ, List, length, take, drop, get_or, sym, ap, ◌∙◌, subst, arith, take-append-drop}, lemmas.List.{take_all}, lemmas.Result.{on_ok_weaker}}
+use Rattle.polynomials.specs.{declared.term.Term.{Term}, Rows.{AreBelow, StartsFrom}, Terms.{IsBelowAll, IsNormal}}
+use Rattle.polynomials.proofs.{Causes.{like_anyway, pushed_length}, Insertions.{exchange_exponents, exchange_others, exchange_terms, first_dropped, insert_exponents, insert_others, insert_terms}}
+use Rattle.polynomials.proofs.{Insertions.{inserted, push_exponents, push_others, push_terms}, Normal.{behind_other, normal_end, stands_at}}
 use Rattle.polynomials.proofs.insertion.insert.Goals as goal
 use Rattle.polynomials.proofs.insertion.insert.Goals.{After-len}
 

@@ -1,11 +1,7 @@
-use Rattle.std.proofs.Common.{◌≤◌, List, length, length-append, ap, sym, subst, arith}
+use Rattle.std.proofs.{Common.{◌≤◌, List, length, length-append, ap, sym, subst, arith}, lemmas.Result.{on_ok_weaker}}
 use Rattle.std.specs.Prelude.{vec_capacity}
-use Rattle.std.proofs.lemmas.Result.{on_ok_weaker}
-use Rattle.polynomials.specs.declared.term.Term.{Term}
-use Rattle.polynomials.specs.Polynomials.{HaveExponents}
-use Rattle.polynomials.specs.Terms.{polynomial_of}
-use Rattle.polynomials.proofs.Causes.{caused_more, passed_on}
-use Rattle.polynomials.proofs.MergeLoops.{have_at, merged_more}
+use Rattle.polynomials.specs.{declared.term.Term.{Term}, Polynomials.{HaveExponents}, Terms.{polynomial_of}}
+use Rattle.polynomials.proofs.{Causes.{caused_more, passed_on}, MergeLoops.{have_at, merged_more}}
 use Rattle.polynomials.proofs.merging.add_multiple.Goals as goal
 
 pub times-requires : goal.times-requires

@@ -1,10 +1,6 @@
-use Rattle.std.proofs.Common.{◌≡◌, ◌-◌, ◌<◌, List, ◌∷◌, ◌++◌, sym, subst, length, take, drop, rules, arith, take_all}
-use Rattle.std.proofs.lemmas.List.{length-drop}
-use Rattle.polynomials.specs.declared.term.Term.{Term}
-use Rattle.polynomials.specs.Polynomials.{HaveExponents}
-use Rattle.polynomials.specs.Terms.{AreTermsOf, IsNormal, polynomial_of, summand_of}
-use Rattle.polynomials.proofs.Merges.{exchanged_below, exchanged_exponents, exchanged_terms, put_below, put_exponents, put_terms}
-use Rattle.polynomials.proofs.Normal.{behind_none, behind_other, first_and_rest, normal_end}
+use Rattle.std.proofs.{Common.{◌≡◌, ◌-◌, ◌<◌, List, ◌∷◌, ◌++◌, sym, subst, length, take, drop, rules, arith, take_all}, lemmas.List.{length-drop}}
+use Rattle.polynomials.specs.{declared.term.Term.{Term}, Polynomials.{HaveExponents}, Terms.{AreTermsOf, IsNormal, polynomial_of, summand_of}}
+use Rattle.polynomials.proofs.{Merges.{exchanged_below, exchanged_exponents, exchanged_terms, put_below, put_exponents, put_terms}, Normal.{behind_none, behind_other, first_and_rest, normal_end}}
 use Rattle.polynomials.proofs.merging.put.Goals as goal
 
 pub returns-then-is_empty-clause-terms : goal.returns-then-is_empty-clause-terms

@@ -1,6 +1,5 @@
 use Rattle.std.proofs.Common.{ℕ, ◌+◌, ◌^◌, ◌<◌}
-use Rattle.polynomials.specs.Packed.{monomial_of}
-use Rattle.polynomials.specs.Polynomials.{HasExponents}
+use Rattle.polynomials.specs.{Packed.{monomial_of}, Polynomials.{HasExponents}}
 use Rattle.polynomials.proofs.Exponents.{IsPackedSum, packed_sum}
 use Rattle.polynomials.proofs.term.packed_product.Goals as goal
 

@@ -1,10 +1,8 @@
 use Rattle.std.proofs.Common.{inl}
-use Rattle.tree_handles.specs.Handed.{IsHanded}
-use Rattle.tree_handles.specs.Standing.{forest}
+use Rattle.tree_handles.specs.{Handed.{IsHanded}, Standing.{forest}}
 use Rattle.tree_handles.proofs.Roots.{root_held}
 use Rattle.pool_checkpoints.specs.Marks.{IsBelow}
-use Rattle.pool_checkpoints.proofs.RollingBack.{all_below, still_below}
-use Rattle.pool_checkpoints.proofs.Tested.{handed_again}
+use Rattle.pool_checkpoints.proofs.{RollingBack.{all_below, still_below}, Tested.{handed_again}}
 use Rattle.pool_checkpoints.proofs.tests.a_tree_above_a_mark_goes.Goals as goal
 
 pub roll_back-requires-clause-below : goal.roll_back-requires-clause-below

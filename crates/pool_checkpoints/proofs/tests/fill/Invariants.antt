@@ -1,6 +1,5 @@
 use Rattle.std.proofs.Common.{[]}
-use Rattle.tree_handles.specs.Handed.{KeepsFront}
-use Rattle.tree_handles.specs.Standing.{Stands, forest}
+use Rattle.tree_handles.specs.{Handed.{KeepsFront}, Standing.{Stands, forest}}
 use Rattle.pool_checkpoints.proofs.tests.fill.Given as goal
 
 abbrev pub invariant-loop-built : goal.invariant-loop-built

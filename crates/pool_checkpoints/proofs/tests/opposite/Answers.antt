@@ -1,5 +1,4 @@
-use Rattle.tree_handles.proofs.Fronts.{behind_new, front_after_one, front_same}
-use Rattle.tree_handles.proofs.Given.{given_handed, given_rest, gives_as}
+use Rattle.tree_handles.proofs.{Fronts.{behind_new, front_after_one, front_same}, Given.{given_handed, given_rest, gives_as}}
 use Rattle.pool_checkpoints.proofs.tests.opposite.Goals as goal
 
 pub node_over-requires-clause-handed : goal.node_over-requires-clause-handed

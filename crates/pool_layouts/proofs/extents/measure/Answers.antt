@@ -1,5 +1,4 @@
-use Rattle.pool_layouts.proofs.Shared.{rules, ◌∙◌, ◌-◌, ap, refl, sym, subst, arith, length-set, holds, payload_in, forest, Visit, IsOver, extent_of}
-use Rattle.pool_layouts.proofs.Measuring.{measure_start, measuring}
+use Rattle.pool_layouts.proofs.{Shared.{rules, ◌∙◌, ◌-◌, ap, refl, sym, subst, arith, length-set, holds, payload_in, forest, Visit, IsOver, extent_of}, Measuring.{measure_start, measuring}}
 use Rattle.pool_layouts.proofs.extents.measure.Goals as goal
 
 pub loop-at-init : goal.loop-at-init

@@ -1,5 +1,4 @@
-use Rattle.pool_layouts.proofs.Shared.{◌∙◌, ◌∷◌, [], length, replicate, sym, ap, arith, length-append, length-replicate, Content, extended}
-use Rattle.pool_layouts.proofs.Inks.{extended_none, extended_twice, replicate_more}
+use Rattle.pool_layouts.proofs.{Shared.{◌∙◌, ◌∷◌, [], length, replicate, sym, ap, arith, length-append, length-replicate, Content, extended}, Inks.{extended_none, extended_twice, replicate_more}}
 use Rattle.pool_layouts.proofs.ink.repeat.Goals as goal
 
 pub loop-init : goal.loop-init

@@ -1,7 +1,6 @@
 use Rattle.std.specs.Prelude.{ℕ, length, ◌∷◌, []}
 use Rattle.std.proofs.Common.{sym, ap, subst, arith, length-append}
-use Rattle.pool_layouts.proofs.Shared.{spare_of, IsExpression, bytes_in, tree_at, forest, given_handed, expression_root, Draft, Measures, IsLayout}
-use Rattle.pool_layouts.proofs.Given.{given_layout, given_room}
+use Rattle.pool_layouts.proofs.{Shared.{spare_of, IsExpression, bytes_in, tree_at, forest, given_handed, expression_root, Draft, Measures, IsLayout}, Given.{given_layout, given_room}}
 use Rattle.pool_layouts.proofs.tests.draw.Goals as goal
 
 pub layout_of-requires-clause-expression : goal.layout_of-requires-clause-expression

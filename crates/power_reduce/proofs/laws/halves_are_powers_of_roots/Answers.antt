@@ -1,5 +1,4 @@
-use Rattle.power_reduce.proofs.Cases.{root_once}
-use Rattle.power_reduce.proofs.Exponents.{by_half}
+use Rattle.power_reduce.proofs.{Cases.{root_once}, Exponents.{by_half}}
 use Rattle.power_reduce.proofs.laws.halves_are_powers_of_roots.Goals as goal
 
 pub returns-clause-rewritten : goal.returns-clause-rewritten

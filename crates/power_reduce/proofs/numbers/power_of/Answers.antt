@@ -1,7 +1,6 @@
 use Rattle.std.proofs.Common.{◌≡◌, pos, ◌<ℤ◌, refl, sym, ap, ◌∙◌, subst, arith, true, false}
-use Rattle.power_reduce.proofs.Shared.{PlainValue, value_of, one_value, ratio_parts, IsPlainOverflow}
-use Rattle.power_reduce.proofs.RationalPowers.{not_above, below, zero_bits, no_zero_bits, opposite, powered_above, powered_below, powered_zero, not_zero, fitting_power, unfit_power, fitting_power_of, unfit_power_of, if_err}
-use Rattle.power_reduce.proofs.numbers.power_of.Goals.{Else-n-gt0}
+use Rattle.power_reduce.proofs.{Shared.{PlainValue, value_of, one_value, ratio_parts, IsPlainOverflow}, RationalPowers.{not_above, below, zero_bits, no_zero_bits, opposite, powered_above}}
+use Rattle.power_reduce.proofs.{RationalPowers.{powered_below, powered_zero, not_zero, fitting_power, unfit_power, fitting_power_of, unfit_power_of, if_err}, numbers.power_of.Goals.{Else-n-gt0}}
 use Rattle.power_reduce.proofs.numbers.power_of.Goals as goal
 use Rattle.std.proofs.lemmas.Bool.{false≢true}
 

@@ -1,5 +1,4 @@
-use Rattle.power_reduce.proofs.Shared.{tree_of, behind_first, front_same, front_end, front_without, gives, represents_handed}
-use Rattle.power_reduce.proofs.Cases.{kept_power_answer}
+use Rattle.power_reduce.proofs.{Shared.{tree_of, behind_first, front_same, front_end, front_without, gives, represents_handed}, Cases.{kept_power_answer}}
 use Rattle.power_reduce.proofs.step.kept_power.Goals as goal
 
 pub returns-clause-step : goal.returns-clause-step

@@ -1,6 +1,5 @@
 use Rattle.std.proofs.Common.{arith}
-use Rattle.power_reduce.proofs.Shared.{tree_of, passed_on, exponent_in}
-use Rattle.power_reduce.proofs.Cases.{broken_other, again}
+use Rattle.power_reduce.proofs.{Shared.{tree_of, passed_on, exponent_in}, Cases.{broken_other, again}}
 use Rattle.power_reduce.proofs.step.other_power.Goals as goal
 
 pub kept_power-requires-clause-exponent : goal.kept_power-requires-clause-exponent

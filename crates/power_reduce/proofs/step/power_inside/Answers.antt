@@ -1,7 +1,5 @@
 use Rattle.std.proofs.Common.{sym, ap, ◌∙◌}
-use Rattle.power_reduce.proofs.Shared.{root_kind, product_kind, tree_of, base_in, exponent_in}
-use Rattle.power_reduce.proofs.Rooms.{no_refusal}
-use Rattle.power_reduce.proofs.Cases.{power_kind, inside_other, other_kept}
+use Rattle.power_reduce.proofs.{Shared.{root_kind, product_kind, tree_of, base_in, exponent_in}, Rooms.{no_refusal}, Cases.{power_kind, inside_other, other_kept}}
 use Rattle.power_reduce.proofs.step.power_inside.Goals as goal
 
 pub kind-requires-clause-live : goal.kind-requires-clause-live

@@ -1,6 +1,5 @@
 use Rattle.std.proofs.Common.{sym, ◌∙◌}
-use Rattle.power_reduce.proofs.Shared.{tree_of, base_in, exponent_in}
-use Rattle.power_reduce.proofs.Cases.{inside_other, sealed_kept, again}
+use Rattle.power_reduce.proofs.{Shared.{tree_of, base_in, exponent_in}, Cases.{inside_other, sealed_kept, again}}
 use Rattle.power_reduce.proofs.step.power_of_power.Goals as goal
 
 pub kept_power-requires-clause-exponent : goal.kept_power-requires-clause-exponent

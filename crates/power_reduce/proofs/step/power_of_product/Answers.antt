@@ -1,7 +1,5 @@
 use Rattle.std.proofs.Common.{arith, sym, ap, ◌∙◌}
-use Rattle.power_reduce.proofs.Shared.{is_number, is_reduced, tree_of, passed_on, base_in, exponent_in}
-use Rattle.power_reduce.proofs.Cases.{inside_other, number_kept, again}
-use Rattle.power_reduce.proofs.Exponents.{inside_whole}
+use Rattle.power_reduce.proofs.{Shared.{is_number, is_reduced, tree_of, passed_on, base_in, exponent_in}, Cases.{inside_other, number_kept, again}, Exponents.{inside_whole}}
 use Rattle.power_reduce.proofs.step.power_of_product.Goals as goal
 
 pub is_reduced_number-requires-clause-reduced : goal.is_reduced_number-requires-clause-reduced

@@ -1,14 +1,8 @@
 use Rattle.std.proofs.Common.{◌≡◌, ℤ, Bool, true, false, sym, ap, ◌∙◌, subst, ◌<◌, ◌^◌, arith}
 use Rattle.std.specs.Prelude.{nat_abs, IfOk}
-use Rattle.power_reduce.proofs.Shared.{counted, SpansTree, is_number, IsNumberPower, IfDone, counts_one, whole_fraction, is_whole_num, Tree, num, told, tree_of, gives_as, given_told, base_in, exponent_in, refused_as}
-use Rattle.power_reduce.proofs.Counted.{if_step_counts}
-use Rattle.power_reduce.proofs.Exponents.{whole_no_half}
-use Rattle.power_reduce.proofs.HeldPowers.{if_step_held, no_undef}
-use Rattle.power_reduce.proofs.WithinBits.{within_bits}
-use Rattle.power_reduce.proofs.Written.{whole_numbers}
-use Rattle.power_reduce.proofs.Spanned.{if_step_spans}
-use Rattle.power_reduce.proofs.Whole.{whole_is}
-use Rattle.power_reduce.proofs.Cases.{HasUndef, undef_base, undef_exponent, undef_kept, undef_answer, defined_rationals}
+use Rattle.power_reduce.proofs.Shared.{counted, SpansTree, is_number, IsNumberPower, IfDone, counts_one, whole_fraction, is_whole_num, Tree, num, told, tree_of, gives_as, given_told, base_in}
+use Rattle.power_reduce.proofs.{Shared.{exponent_in, refused_as}, Counted.{if_step_counts}, Exponents.{whole_no_half}, HeldPowers.{if_step_held, no_undef}, WithinBits.{within_bits}}
+use Rattle.power_reduce.proofs.{Written.{whole_numbers}, Spanned.{if_step_spans}, Whole.{whole_is}, Cases.{HasUndef, undef_base, undef_exponent, undef_kept, undef_answer, defined_rationals}}
 use Rattle.power_reduce.proofs.step.power_step.Goals.{Joined-then-is_undefined, then-is_undefined-via-then-is_undefined, then-is_undefined-via-else-is_undefined+then-is_undefined-2}
 use Rattle.power_reduce.proofs.step.power_step.Goals as goal
 

@@ -1,8 +1,7 @@
 use Rattle.std.proofs.Common.{arith, sym, ap, ◌∙◌, subst}
 use Rattle.std.specs.Prelude.{IfOk}
-use Rattle.power_reduce.proofs.Shared.{IsNumberPower, told, IfDone, root_kind, tree_of, base_in, exponent_in, passed_on, full_as, is_whole_num}
-use Rattle.power_reduce.proofs.Cases.{no_num_kind, number_kept, no_rational, rational_number, step_fault}
-use Rattle.power_reduce.proofs.Whole.{whole_is}
+use Rattle.power_reduce.proofs.{Shared.{IsNumberPower, told, IfDone, root_kind, tree_of, base_in, exponent_in, passed_on, full_as, is_whole_num}, Cases.{no_num_kind, number_kept, no_rational}}
+use Rattle.power_reduce.proofs.{Cases.{rational_number, step_fault}, Whole.{whole_is}}
 use Rattle.power_reduce.proofs.step.whole_power.Goals as goal
 
 pub kind-requires-clause-live : goal.kind-requires-clause-live

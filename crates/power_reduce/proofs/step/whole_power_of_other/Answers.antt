@@ -1,13 +1,9 @@
 use Rattle.std.proofs.Common.{arith, ◌≡◌, true, false, refl, sym, ap, ◌∙◌, subst}
-use Rattle.power_reduce.proofs.Shared.{IsNumberPower, whole_fraction, is_number, is_reduced, is_whole_num, Tree, num, is_root, one_value, tree_of, gives_as, base_in, exponent_in, is_even_whole, passed_on, refused_as, told}
-use Rattle.power_reduce.proofs.Cases.{number_kept, zero_kept, one_kept, other_power, whole_goes_inside, no_number, even_bits, odd_bits, even_whole, odd_root_kept, again}
-use Rattle.power_reduce.proofs.NumberPowers.{zero_answer, one_answer}
-use Rattle.power_reduce.proofs.Powers.{one_room}
-use Rattle.power_reduce.proofs.Rooms.{number_lacks}
-use Rattle.power_reduce.proofs.Spanned.{base_spans}
-use Rattle.power_reduce.proofs.RationalPowers.{zero_bits, no_zero_bits}
-use Rattle.power_reduce.proofs.Whole.{one_bits, no_one_bits, whole_is}
-use Rattle.power_reduce.proofs.step.whole_power_of_other.Goals.{else-n-eq0-2-via-then-n-eq0-2+else-is_root, else-n-eq0-2-via-else-n-eq0-2}
+use Rattle.power_reduce.proofs.Shared.{IsNumberPower, whole_fraction, is_number, is_reduced, is_whole_num, Tree, num, is_root, one_value, tree_of, gives_as, base_in, exponent_in, is_even_whole}
+use Rattle.power_reduce.proofs.{Shared.{passed_on, refused_as, told}, Cases.{number_kept, zero_kept, one_kept, other_power, whole_goes_inside, no_number, even_bits, odd_bits, even_whole}}
+use Rattle.power_reduce.proofs.{Cases.{odd_root_kept, again}, NumberPowers.{zero_answer, one_answer}, Powers.{one_room}, Rooms.{number_lacks}, Spanned.{base_spans}}
+use Rattle.power_reduce.proofs.{RationalPowers.{zero_bits, no_zero_bits}, Whole.{one_bits, no_one_bits, whole_is}, step.whole_power_of_other.Goals.{else-n-eq0-2-via-then-n-eq0-2+else-is_root}}
+use Rattle.power_reduce.proofs.step.whole_power_of_other.Goals.{else-n-eq0-2-via-else-n-eq0-2}
 use Rattle.power_reduce.proofs.step.whole_power_of_other.Goals as goal
 
 pub is_reduced_number-requires-clause-reduced : goal.is_reduced_number-requires-clause-reduced

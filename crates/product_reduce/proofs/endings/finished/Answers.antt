@@ -1,9 +1,9 @@
 use Rattle.std.proofs.Common.{ℕ, ◌≡◌, ◌≤◌, ◌^◌, length, ◌∙◌, ap, sym, subst, inl, arith, rules}
-use Rattle.product_reduce.proofs.Shared.{is_number, is_reduced, product_tree, counted, SpansTree, Tree, mult, count, size, put_room, result_lacks, refused_as, replaced_free, tree_of, tree-without, product_counts, if_map, eqb-sym, plain, has_root, root_tree, without_root, behind_first, behind_later, behind_new, front_same, front_at, front_end, front_after_one, front_after_two, front_without, forest, given_apart, given_handed, given_other, given_same, given_told, owned, ends_as, factors_in}
-use Rattle.product_reduce.proofs.GatheredParts.{spans_product}
-use Rattle.product_reduce.proofs.Misfits.{put_misfit}
-use Rattle.product_reduce.proofs.Products.{factors_are}
-use Rattle.product_reduce.proofs.Readied.{readied_here, alone_handed, alone_given, none_behind, part_reduced, part_given, put_given}
+use Rattle.product_reduce.proofs.Shared.{is_number, is_reduced, product_tree, counted, SpansTree, Tree, mult, count, size, put_room, result_lacks, refused_as, replaced_free, tree_of, tree-without}
+use Rattle.product_reduce.proofs.Shared.{product_counts, if_map, eqb-sym, plain, has_root, root_tree, without_root, behind_first, behind_later, behind_new, front_same, front_at, front_end}
+use Rattle.product_reduce.proofs.Shared.{front_after_one, front_after_two, front_without, forest, given_apart, given_handed, given_other, given_same, given_told, owned, ends_as, factors_in}
+use Rattle.product_reduce.proofs.{GatheredParts.{spans_product}, Misfits.{put_misfit}, Products.{factors_are}, Readied.{readied_here, alone_handed, alone_given, none_behind, part_reduced, part_given}}
+use Rattle.product_reduce.proofs.Readied.{put_given}
 use Rattle.product_reduce.proofs.endings.finished.Goals as goal
 
 pub release-requires-clause-releasable : goal.release-requires-clause-releasable

@@ -1,5 +1,4 @@
-use Rattle.product_reduce.proofs.HeldFactors.{factors_wider, factors_append}
-use Rattle.product_reduce.proofs.HeldPairs.{trees_as_factors, product_as_factors, neighbours_held}
+use Rattle.product_reduce.proofs.{HeldFactors.{factors_wider, factors_append}, HeldPairs.{trees_as_factors, product_as_factors, neighbours_held}}
 use Rattle.product_reduce.proofs.laws.what_holds_factors.Goals as goal
 
 pub returns : goal.returns

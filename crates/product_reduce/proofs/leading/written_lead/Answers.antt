@@ -1,5 +1,4 @@
-use Rattle.product_reduce.proofs.Shared.{forest, factors_in}
-use Rattle.product_reduce.proofs.Leads.{lead_none}
+use Rattle.product_reduce.proofs.{Shared.{forest, factors_in}, Leads.{lead_none}}
 use Rattle.product_reduce.proofs.leading.written_lead.Goals as goal
 
 pub returns-in_default : goal.returns-in_default

@@ -1,12 +1,8 @@
 use Rattle.std.proofs.Common.{arith, ◌≡◌, ◌∙◌, Err, sym, refl, subst, true, false}
-use Rattle.product_reduce.proofs.Shared.{PlainValue, IsPlainAnswer, AnswersRationals, tree_of, forest, gives_as, given_told, IsFinished, factors_in}
-use Rattle.product_reduce.proofs.Finished.{undef_finished, rationals_defined}
-use Rattle.product_reduce.proofs.JoinedCounts.{product_counted}
-use Rattle.product_reduce.proofs.GatheredParts.{spans_factors}
-use Rattle.product_reduce.proofs.Parted.{AreOpened, AreParted, opens, parted, reduced_now, rationals_opened, numbers_overflow, numbers_fit, numbers_room, stop_given, spreading_given, spreading_fits, parted_room, finished_bounds}
-use Rattle.product_reduce.proofs.Rejoined.{again_map, done_map, rejoin_given, spans_joined, step_answered, step_refused}
-use Rattle.product_reduce.proofs.Stepped.{mult_words}
-use Rattle.product_reduce.proofs.steps.product_step.Goals.{After-open_products, In_ok-coefficient}
+use Rattle.product_reduce.proofs.{Shared.{PlainValue, IsPlainAnswer, AnswersRationals, tree_of, forest, gives_as, given_told, IsFinished, factors_in}, Finished.{undef_finished, rationals_defined}}
+use Rattle.product_reduce.proofs.{JoinedCounts.{product_counted}, GatheredParts.{spans_factors}, Parted.{AreOpened, AreParted, opens, parted, reduced_now, rationals_opened, numbers_overflow}}
+use Rattle.product_reduce.proofs.{Parted.{numbers_fit, numbers_room, stop_given, spreading_given, spreading_fits, parted_room, finished_bounds}, Rejoined.{again_map, done_map, rejoin_given}}
+use Rattle.product_reduce.proofs.{Rejoined.{spans_joined, step_answered, step_refused}, Stepped.{mult_words}, steps.product_step.Goals.{After-open_products, In_ok-coefficient}}
 use Rattle.product_reduce.proofs.steps.product_step.Goals as goal
 
 opened_now : (c : After-open_products) → AreOpened c.args.product c.args.pool.now c.open_products.new.pool

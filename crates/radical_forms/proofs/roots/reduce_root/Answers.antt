@@ -1,21 +1,13 @@
 use Rattle.std.proofs.Common.{◌≡◌, ◌*◌, [], ◌∷◌, false, refl, sym, ap, ◌∙◌, subst, arith, ◌↔◌}
 use Rattle.calc_algebra.specs.Numbers.{natural_of}
 use Rattle.calc_room.specs.Spans.{SpansTree}
-use Rattle.calc_terms.specs.Rat.{value_of}
-use Rattle.calc_terms.specs.Trees.{Tree, num, root, is_num, is_undef, root_kind, size}
-use Rattle.tree_handles.proofs.Lasts.{expression_root, last_tree}
-use Rattle.tree_handles.proofs.Room.{least_size}
-use Rattle.tree_handles.specs.Expressions.{plain}
-use Rattle.tree_handles.specs.Forest.{Forest}
-use Rattle.tree_handles.proofs.Fronts.{behind_first, front_same, front_end, front_without}
+use Rattle.calc_terms.specs.{Rat.{value_of}, Trees.{Tree, num, root, is_num, is_undef, root_kind, size}}
+use Rattle.tree_handles.proofs.{Lasts.{expression_root, last_tree}, Room.{least_size}, Fronts.{behind_first, front_same, front_end, front_without}}
 use Rattle.tree_handles.proofs.Given.{gives, gives_as, given_told, represents_handed}
-use Rattle.tree_handles.specs.Handed.{tree_of}
-use Rattle.radical_forms.specs.RootAnswers.{argument_of}
-use Rattle.radical_forms.proofs.Handed.{root_is, has_child, argument_at, undef_by_kind, no_num_by_kind, no_undef_by_kind}
-use Rattle.radical_forms.proofs.RootLaws.{no_argument_answer, other_answer, no_other_wide, answer_as}
-use Rattle.radical_forms.proofs.Spanned.{spans_answer, spans_root_of}
-use Rattle.radical_forms.proofs.RootBits.{no_wide, not_refused, other_rational}
-use Rattle.radical_forms.specs.Refusals.{HasWideRoot, IsOverflow}
+use Rattle.tree_handles.specs.{Expressions.{plain}, Forest.{Forest}, Handed.{tree_of}}
+use Rattle.radical_forms.specs.{RootAnswers.{argument_of}, Refusals.{HasWideRoot, IsOverflow}}
+use Rattle.radical_forms.proofs.{Handed.{root_is, has_child, argument_at, undef_by_kind, no_num_by_kind, no_undef_by_kind}, RootLaws.{no_argument_answer, other_answer, no_other_wide, answer_as}}
+use Rattle.radical_forms.proofs.{Spanned.{spans_answer, spans_root_of}, RootBits.{no_wide, not_refused, other_rational}}
 use Rattle.radical_forms.proofs.roots.reduce_root.Goals as goal
 use Rattle.radical_forms.proofs.roots.reduce_root.Goals.{After-rational-q, After-kind}
 

@@ -1,7 +1,5 @@
-use Rattle.rational128.proofs.Shared.{◌≡◌, ◌<◌, ◌^◌, ◌*◌, ◌/◌, ◌+ℤ◌, ◌*ℤ◌, pos, subst, sym, ap, ◌∙◌, nat_abs, IsGcd, over, value_of}
-use Rattle.rational128.proofs.LowestTerms.{HasParts, same_parts}
-use Rattle.rational128.proofs.Signed.{told, IsFittingProduct, fitting_product, quotient_told}
-use Rattle.rational128.proofs.Sums.{Operands, Reduces, reduces, shared_positive, unfit_first, unfit_second, unfit_sum}
+use Rattle.rational128.proofs.{Shared.{◌≡◌, ◌<◌, ◌^◌, ◌*◌, ◌/◌, ◌+ℤ◌, ◌*ℤ◌, pos, subst, sym, ap, ◌∙◌, nat_abs, IsGcd, over, value_of}, LowestTerms.{HasParts, same_parts}}
+use Rattle.rational128.proofs.{Signed.{told, IsFittingProduct, fitting_product, quotient_told}, Sums.{Operands, Reduces, reduces, shared_positive, unfit_first, unfit_second, unfit_sum}}
 use Rattle.rational128.proofs.addition.common_sum.Goals as goal
 use Rattle.rational128.proofs.addition.common_sum.Goals.{After-gcd-shared, After-gcd-divisor, In_ok-den}
 

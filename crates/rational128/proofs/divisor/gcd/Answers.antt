@@ -1,5 +1,4 @@
-use Rattle.rational128.proofs.Shared.{arith, w128}
-use Rattle.rational128.proofs.Divisors.{splits_twos, IsGcd-from_odd, IsGcd-one}
+use Rattle.rational128.proofs.{Shared.{arith, w128}, Divisors.{splits_twos, IsGcd-from_odd, IsGcd-one}}
 use Rattle.rational128.proofs.divisor.gcd.Goals as goal
 
 pub returns-then-a-eq1 : goal.returns-then-a-eq1

@@ -1,5 +1,4 @@
-use Rattle.rational128.proofs.Shared.{arith, w64}
-use Rattle.rational128.proofs.Divisors.{splits_twos, IsGcd-from_odd}
+use Rattle.rational128.proofs.{Shared.{arith, w64}, Divisors.{splits_twos, IsGcd-from_odd}}
 use Rattle.rational128.proofs.divisor.gcd_64.Goals as goal
 
 pub odd_gcd_64-requires-clause-a_is_odd : goal.odd_gcd_64-requires-clause-a_is_odd

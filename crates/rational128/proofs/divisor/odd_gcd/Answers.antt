@@ -1,5 +1,4 @@
-use Rattle.rational128.proofs.Shared.{arith, w128}
-use Rattle.rational128.proofs.Divisors.{turns, IsGcd-same, IsGcd-ordered}
+use Rattle.rational128.proofs.{Shared.{arith, w128}, Divisors.{turns, IsGcd-same, IsGcd-ordered}}
 use Rattle.rational128.proofs.divisor.odd_gcd.Goals as goal
 
 pub overflow_shr-y : goal.overflow_shr-y

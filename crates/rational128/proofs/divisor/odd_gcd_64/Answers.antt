@@ -1,5 +1,4 @@
-use Rattle.rational128.proofs.Shared.{arith, w64}
-use Rattle.rational128.proofs.Divisors.{turns, IsGcd-same}
+use Rattle.rational128.proofs.{Shared.{arith, w64}, Divisors.{turns, IsGcd-same}}
 use Rattle.rational128.proofs.divisor.odd_gcd_64.Goals as goal
 
 pub overflow_shr-y : goal.overflow_shr-y

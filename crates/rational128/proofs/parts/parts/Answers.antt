@@ -1,5 +1,4 @@
-use Rattle.rational128.proofs.Shared.{sym, ap, ◌∙◌, rules, nat_abs, FitsSigned, w128, to_z-of_z}
-use Rattle.rational128.proofs.LowestTerms.{ratio_parts}
+use Rattle.rational128.proofs.{Shared.{sym, ap, ◌∙◌, rules, nat_abs, FitsSigned, w128, to_z-of_z}, LowestTerms.{ratio_parts}}
 use Rattle.rational128.proofs.parts.parts.Goals as goal
 
 pub returns-clause-num : goal.returns-clause-num

@@ -1,5 +1,4 @@
-use Rattle.rational128.proofs.Shared.{ap, arith, rules, nat_abs, FitsSigned, w128, to_z-of_z, to_z_pos}
-use Rattle.rational128.proofs.LowestTerms.{is_lowest_from, made_parts}
+use Rattle.rational128.proofs.{Shared.{ap, arith, rules, nat_abs, FitsSigned, w128, to_z-of_z, to_z_pos}, LowestTerms.{is_lowest_from, made_parts}}
 use Rattle.rational128.proofs.parts.rational.Goals as goal
 
 pub lowest-requires-clause-in_lowest_terms : goal.lowest-requires-clause-in_lowest_terms

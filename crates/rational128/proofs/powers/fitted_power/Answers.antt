@@ -1,8 +1,5 @@
-use Rattle.rational128.proofs.Shared.{◌≡◌, ◌<◌, ◌^◌, refl, ap, sym, ◌∙◌, subst, to_z, of_z, nat_abs, w128, int_pow, value_of}
-use Rattle.rational128.proofs.LowestTerms.{same_parts}
-use Rattle.rational128.proofs.Signed.{told}
-use Rattle.rational128.proofs.Products.{unfit_num, unfit_den, parts_fit}
-use Rattle.rational128.proofs.FractionPowers.{IsPower, power_parts, int_pow-abs}
+use Rattle.rational128.proofs.{Shared.{◌≡◌, ◌<◌, ◌^◌, refl, ap, sym, ◌∙◌, subst, to_z, of_z, nat_abs, w128, int_pow, value_of}, LowestTerms.{same_parts}, Signed.{told}}
+use Rattle.rational128.proofs.{Products.{unfit_num, unfit_den, parts_fit}, FractionPowers.{IsPower, power_parts, int_pow-abs}}
 use Rattle.rational128.proofs.powers.fitted_power.Goals as goal
 use Rattle.rational128.proofs.powers.fitted_power.Goals.{In_ok-num, In_ok-den}
 

@@ -1,5 +1,4 @@
-use Rattle.rational128.proofs.Shared.{◌≡◌, ℕ, ◌*◌, ◌/◌, ◌<◌, ◌^◌, refl, subst, ◌∙◌, SomeIff}
-use Rattle.rational128.proofs.PowerLaws.{IsPowering, starts, turn, unfit_product, unfit_square, last_product}
+use Rattle.rational128.proofs.{Shared.{◌≡◌, ℕ, ◌*◌, ◌/◌, ◌<◌, ◌^◌, refl, subst, ◌∙◌, SomeIff}, PowerLaws.{IsPowering, starts, turn, unfit_product, unfit_square, last_product}}
 use Rattle.rational128.proofs.powers.power_by_squares.Goals as goal
 use Rattle.rational128.proofs.powers.power_by_squares.Goals.{Joined-left-eq1, then-left-eq1+in_ok-power, else-left-eq1}
 

@@ -1,5 +1,4 @@
-use Rattle.rational128.proofs.Shared.{arith, sym}
-use Rattle.rational128.proofs.PowerLaws.{small_base, large_exponent}
+use Rattle.rational128.proofs.{Shared.{arith, sym}, PowerLaws.{small_base, large_exponent}}
 use Rattle.rational128.proofs.powers.whole_power.Goals as goal
 
 pub returns-then-base-le1 : goal.returns-then-base-le1

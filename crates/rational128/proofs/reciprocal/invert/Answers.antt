@@ -1,7 +1,5 @@
-use Rattle.rational128.proofs.Shared.{◌≡◌, ℤ, pos, ◌<ℤ◌, ◌≤ℤ◌, true, false, ap, sym, ◌∙◌, arith, to_z, of_z, nat_abs, w128, lt_z, ints, to_z_pos, value_of}
-use Rattle.rational128.proofs.LowestTerms.{same_parts, ratio_parts}
-use Rattle.rational128.proofs.Signed.{told}
-use Rattle.rational128.proofs.Reciprocals.{IsInverse, inverts}
+use Rattle.rational128.proofs.{Shared.{◌≡◌, ℤ, pos, ◌<ℤ◌, ◌≤ℤ◌, true, false, ap, sym, ◌∙◌, arith, to_z, of_z, nat_abs, w128, lt_z, ints, to_z_pos, value_of}, LowestTerms.{same_parts, ratio_parts}}
+use Rattle.rational128.proofs.{Signed.{told}, Reciprocals.{IsInverse, inverts}}
 use Rattle.calc_terms.specs.Fractions.{times, inverse as inverse_of_fraction}
 use Rattle.rational128.proofs.reciprocal.invert.Goals as goal
 use Rattle.rational128.proofs.reciprocal.invert.Goals.{After-unsigned_abs, After-rational, then-num-lt0, else-num-lt0}

@@ -1,6 +1,4 @@
-use Rattle.rational128.proofs.Shared.{sym, ◌∙◌, subst, nat_abs, IsGcd, value_of}
-use Rattle.rational128.proofs.LowestTerms.{same_parts}
-use Rattle.rational128.proofs.Reciprocals.{negative_told, negative_lowest, negative_parts}
+use Rattle.rational128.proofs.{Shared.{sym, ◌∙◌, subst, nat_abs, IsGcd, value_of}, LowestTerms.{same_parts}, Reciprocals.{negative_told, negative_lowest, negative_parts}}
 use Rattle.rational128.proofs.reciprocal.neg.Goals as goal
 
 pub rational-requires-clause-in_lowest_terms : goal.rational-requires-clause-in_lowest_terms

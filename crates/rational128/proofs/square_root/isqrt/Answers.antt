@@ -1,5 +1,4 @@
-use Rattle.rational128.proofs.Shared.{refl, arith}
-use Rattle.rational128.proofs.Newton.{starts, steps, quotient_bound}
+use Rattle.rational128.proofs.{Shared.{refl, arith}, Newton.{starts, steps, quotient_bound}}
 use Rattle.rational128.proofs.square_root.isqrt.Goals as goal
 
 pub loop-root-init : goal.loop-root-init

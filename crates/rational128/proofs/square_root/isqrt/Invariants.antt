@@ -1,5 +1,4 @@
-use Rattle.rational128.proofs.Shared.{◌^◌}
-use Rattle.rational128.proofs.Newton.{IsUpper}
+use Rattle.rational128.proofs.{Shared.{◌^◌}, Newton.{IsUpper}}
 use Rattle.rational128.proofs.square_root.isqrt.Given as goal
 
 abbrev pub invariant-loop-root : goal.invariant-loop-root

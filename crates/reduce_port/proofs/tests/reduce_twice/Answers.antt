@@ -1,8 +1,7 @@
 use Rattle.std.proofs.lemmas.Result.{IfOk-weaker, on_ok_weaker}
 use Rattle.breakers.proofs.Runs.{CalmChecks-append}
 use Rattle.calc_algebra.proofs.Rewritings.{reduces_after, rewrites_of}
-use Rattle.tree_handles.proofs.Fronts.{behind_first, behind_new, front_same, front_without, front_after_one}
-use Rattle.tree_handles.proofs.Given.{given_handed, given_told, given_rest, gives_as}
+use Rattle.tree_handles.proofs.{Fronts.{behind_first, behind_new, front_same, front_without, front_after_one}, Given.{given_handed, given_told, given_rest, gives_as}}
 use Rattle.reduce_port.proofs.tests.reduce_twice.Goals as goal
 
 pub reduce-requires-2-clause-handed : goal.reduce-requires-2-clause-handed

@@ -1,7 +1,6 @@
 use Rattle.std.proofs.Common.{rules, ◌∙◌, refl}
 use Rattle.reducer_tests.proofs.Shared.{given_root, given_rest, root_held}
-use Rattle.sum_reduce.proofs.Sums.{changes_same, changes_after, changes_rest, put_in, roots_apart, sum_live}
-use Rattle.sum_reduce.proofs.Tested.{empty_sum, placed, moved_sum}
+use Rattle.sum_reduce.proofs.{Sums.{changes_same, changes_after, changes_rest, put_in, roots_apart, sum_live}, Tested.{empty_sum, placed, moved_sum}}
 use Rattle.reducer_tests.proofs.expressions.sum_of_three.Goals as goal
 
 pub loop-n-init : goal.loop-n-init

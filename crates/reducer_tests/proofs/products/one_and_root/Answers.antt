@@ -1,7 +1,6 @@
 use Rattle.std.proofs.Common.{◌∙◌, ap, pos, rules}
 use Rattle.reducer_tests.proofs.Shared.{is_number, num, root, given_handed, given_told}
-use Rattle.number_forms.proofs.Pairs.{first_handed, pair_apart, first_told, pair_rest}
-use Rattle.number_forms.proofs.TermTrees.{if_given}
+use Rattle.number_forms.proofs.{Pairs.{first_handed, pair_apart, first_told, pair_rest}, TermTrees.{if_given}}
 use Rattle.product_reduce.proofs.Small.{root_two, whole_value}
 use Rattle.reducer_tests.proofs.products.one_and_root.Goals as goal
 

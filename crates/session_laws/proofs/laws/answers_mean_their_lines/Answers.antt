@@ -1,6 +1,5 @@
 use Rattle.std.proofs.Common.{refl}
-use Rattle.session_laws.proofs.Shared.{shown, stored}
-use Rattle.session_laws.proofs.MeaningLemmas.{shows_meaning, has_no_meaning}
+use Rattle.session_laws.proofs.{Shared.{shown, stored}, MeaningLemmas.{shows_meaning, has_no_meaning}}
 use Rattle.session_laws.proofs.laws.answers_mean_their_lines.Goals as goal
 
 pub returns-clause-shown : goal.returns-clause-shown

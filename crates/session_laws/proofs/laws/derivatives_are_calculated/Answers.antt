@@ -1,6 +1,5 @@
 use Rattle.std.proofs.Common.{refl}
-use Rattle.session_laws.proofs.Shared.{diff}
-use Rattle.session_laws.proofs.AskedLines.{commanded_reply}
+use Rattle.session_laws.proofs.{Shared.{diff}, AskedLines.{commanded_reply}}
 use Rattle.session_laws.proofs.laws.derivatives_are_calculated.Goals as goal
 
 pub returns : goal.returns

@@ -1,5 +1,4 @@
-use Rattle.square_parts.proofs.Shared.{sym, refl, IsGcd-swap}
-use Rattle.square_parts.proofs.SquareFactors.{divisor_positive, first_square, alike_roots, alike_turned, first_part, second_part}
+use Rattle.square_parts.proofs.{Shared.{sym, refl, IsGcd-swap}, SquareFactors.{divisor_positive, first_square, alike_roots, alike_turned, first_part, second_part}}
 use Rattle.square_parts.proofs.classes.alike.Goals as goal
 
 pub nonzero_div-r : goal.nonzero_div-r

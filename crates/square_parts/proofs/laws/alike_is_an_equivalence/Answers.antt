@@ -1,5 +1,4 @@
-use Rattle.square_parts.proofs.Shared.{refl, alike_from, alike_true, alike_trans}
-use Rattle.square_parts.proofs.SquareFactors.{alike_turned}
+use Rattle.square_parts.proofs.{Shared.{refl, alike_from, alike_true, alike_trans}, SquareFactors.{alike_turned}}
 use Rattle.square_parts.proofs.laws.alike_is_an_equivalence.Goals as goal
 
 pub returns : goal.returns

@@ -1,5 +1,4 @@
-use Rattle.square_parts.proofs.Shared.{arith}
-use Rattle.square_parts.proofs.CleanParts.{clean_alone, clean_with_rest, small_no_square, rounded_no_square, square_not_clean, square_fits}
+use Rattle.square_parts.proofs.{Shared.{arith}, CleanParts.{clean_alone, clean_with_rest, small_no_square, rounded_no_square, square_not_clean, square_fits}}
 use Rattle.square_parts.proofs.splitting.parts_of.Goals as goal
 use Rattle.square_parts.proofs.splitting.parts_of.Goals.{then-found-gt-SQUARE_OF_TRIAL_LIMIT+else-root-found, else-found-gt-SQUARE_OF_TRIAL_LIMIT}
 

@@ -1,5 +1,4 @@
-use Rattle.square_parts.proofs.Shared.{arith}
-use Rattle.square_parts.proofs.CleanParts.{whole_found, nothing_below_two}
+use Rattle.square_parts.proofs.{Shared.{arith}, CleanParts.{whole_found, nothing_below_two}}
 use Rattle.square_parts.proofs.splitting.split.Goals as goal
 
 pub divided_by-requires-clause-found : goal.divided_by-requires-clause-found

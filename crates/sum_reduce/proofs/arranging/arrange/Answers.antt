@@ -1,13 +1,7 @@
 use Rattle.std.proofs.Common.{sym, subst, ap, arith}
-use Rattle.sum_reduce.proofs.Shared.{passed_result, plain_value, add, sizes, AnswersFold, forest, behind_first, front_after_one, terms_in, passed_named, collects_opened, Overflows, SpansRoot, SpansTrees, passed_lacks}
-use Rattle.sum_reduce.proofs.Orders.{opened_stage, rationals_faulted, rationals_ordered}
-use Rattle.sum_reduce.proofs.Stages.{stage_after}
-use Rattle.sum_reduce.proofs.Sums.{changes_after, changes_front}
-use Rattle.sum_reduce.proofs.Hindered.{overflows_after, overflows_as}
-use Rattle.sum_reduce.proofs.CollectedParts.{opened_parts}
-use Rattle.sum_reduce.proofs.SumBytes.{changes_free, opened_sizes}
-use Rattle.sum_reduce.proofs.Held.{few_after}
-use Rattle.sum_reduce.proofs.HeldTerms.{opened_held}
+use Rattle.sum_reduce.proofs.Shared.{passed_result, plain_value, add, sizes, AnswersFold, forest, behind_first, front_after_one, terms_in, passed_named, collects_opened, Overflows, SpansRoot}
+use Rattle.sum_reduce.proofs.{Shared.{SpansTrees, passed_lacks}, Orders.{opened_stage, rationals_faulted, rationals_ordered}, Stages.{stage_after}, Sums.{changes_after, changes_front}}
+use Rattle.sum_reduce.proofs.{Hindered.{overflows_after, overflows_as}, CollectedParts.{opened_parts}, SumBytes.{changes_free, opened_sizes}, Held.{few_after}, HeldTerms.{opened_held}}
 use Rattle.sum_reduce.proofs.arranging.arrange.Goals as goal
 
 pub returns-in_err-join_numbers-clause-rationals : goal.returns-in_err-join_numbers-clause-rationals

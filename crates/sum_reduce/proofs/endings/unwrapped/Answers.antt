@@ -1,7 +1,5 @@
 use Rattle.std.proofs.Common.{◌∙◌, inl, arith}
-use Rattle.sum_reduce.proofs.Shared.{forest, owned, terms_in}
-use Rattle.sum_reduce.proofs.Sums.{sum_within, term_out, only_left}
-use Rattle.sum_reduce.proofs.Written.{only_term}
+use Rattle.sum_reduce.proofs.{Shared.{forest, owned, terms_in}, Sums.{sum_within, term_out, only_left}, Written.{only_term}}
 use Rattle.sum_reduce.proofs.endings.unwrapped.Goals as goal
 
 pub take_child-only-requires-clause-within : goal.take_child-only-requires-clause-within

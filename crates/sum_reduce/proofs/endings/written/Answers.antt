@@ -1,6 +1,5 @@
 use Rattle.std.proofs.Common.{◌∙◌}
-use Rattle.sum_reduce.proofs.Shared.{gives_as}
-use Rattle.sum_reduce.proofs.Sums.{changes_rest}
+use Rattle.sum_reduce.proofs.{Shared.{gives_as}, Sums.{changes_rest}}
 use Rattle.sum_reduce.proofs.endings.written.Goals as goal
 
 pub returns-clause-tree : goal.returns-clause-tree

@@ -1,5 +1,4 @@
-use Rattle.sum_reduce.proofs.Shared.{forest, terms_in}
-use Rattle.sum_reduce.proofs.Numbered.{led_none}
+use Rattle.sum_reduce.proofs.{Shared.{forest, terms_in}, Numbered.{led_none}}
 use Rattle.sum_reduce.proofs.numbers.number_to_move.Goals as goal
 
 pub returns-in_err-first : goal.returns-in_err-first

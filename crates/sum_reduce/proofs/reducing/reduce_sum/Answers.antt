@@ -1,16 +1,8 @@
 use Rattle.std.proofs.Common.{◌∙◌, sym, subst, refl, ap, arith, ◌^◌, length}
 use Rattle.sum_reduce.proofs.Shared.{tree_of, forest, gives_as, given_told, IsWrittenSum, IsSumAnswer, IsCollected, terms_in, size, passed_lacks, sum_whole, counts_of_all, KeepsSumBounds}
-use Rattle.sum_reduce.proofs.Collected.{settled_collected, settled_written}
-use Rattle.sum_reduce.proofs.Rationals.{rationals_answer}
-use Rattle.sum_reduce.proofs.Settled.{reduced_formed, undef_answer, settled_answer}
-use Rattle.sum_reduce.proofs.Sums.{changes_rest}
-use Rattle.sum_reduce.proofs.CollectedCounts.{collected_counts, written_counted}
-use Rattle.sum_reduce.proofs.CollectedPowers.{collected_powers}
-use Rattle.sum_reduce.proofs.CollectedSpans.{spans_collected, spans_written, spans_terms}
-use Rattle.sum_reduce.proofs.Rooms.{sum_lacks}
-use Rattle.sum_reduce.proofs.Held.{holds}
-use Rattle.sum_reduce.proofs.HeldTerms.{tree_held}
-use Rattle.sum_reduce.proofs.CollectedExponents.{exponents_collected, written_counts, undef_bounds}
+use Rattle.sum_reduce.proofs.{Collected.{settled_collected, settled_written}, Rationals.{rationals_answer}, Settled.{reduced_formed, undef_answer, settled_answer}, Sums.{changes_rest}}
+use Rattle.sum_reduce.proofs.{CollectedCounts.{collected_counts, written_counted}, CollectedPowers.{collected_powers}, CollectedSpans.{spans_collected, spans_written, spans_terms}, Rooms.{sum_lacks}}
+use Rattle.sum_reduce.proofs.{Held.{holds}, HeldTerms.{tree_held}, CollectedExponents.{exponents_collected, written_counts, undef_bounds}}
 use Rattle.sum_reduce.proofs.reducing.reduce_sum.Goals as goal
 use Rattle.std.proofs.lemmas.Bool.{false≢true}
 

@@ -1,7 +1,5 @@
-use Rattle.surd_terms.proofs.Shared.{◌≡◌, ◌<◌, ◌/◌, ◌^◌, sym, ap, ◌∙◌, subst, arith, to_z, of_z, nat_abs, w128, mul-div_cancel', den_pos, value_of, positive_factor}
-use Rattle.surd_terms.proofs.Shared.{ratio_parts, same_parts, told}
-use Rattle.surd_terms.proofs.WholeFactors.{multiple_parts, multiple_coprime, part_le}
-use Rattle.surd_terms.proofs.cancelling.multiple.Goals.{After-num}
+use Rattle.surd_terms.proofs.Shared.{◌≡◌, ◌<◌, ◌/◌, ◌^◌, sym, ap, ◌∙◌, subst, arith, to_z, of_z, nat_abs, w128, mul-div_cancel', den_pos, value_of, positive_factor, ratio_parts, same_parts, told}
+use Rattle.surd_terms.proofs.{WholeFactors.{multiple_parts, multiple_coprime, part_le}, cancelling.multiple.Goals.{After-num}}
 use Rattle.surd_terms.proofs.cancelling.multiple.Goals as goal
 
 num_is : (c : After-num) → to_z w128 (of_z w128 c.num.result) ≡ (value_of c.args.c).num

@@ -1,6 +1,5 @@
 use Rattle.surd_terms.proofs.Shared.{◌≤◌, ◌/◌, pos, [], ◌∷◌, refl, sym, ◌∙◌, times, whole_fraction, value_of, Mul, calculation, IsCancelled, ◌∣◌}
-use Rattle.surd_terms.proofs.Misfits.{step_fits, step_misfit, product_misfit, refused_for, if_value}
-use Rattle.surd_terms.proofs.WholeFactors.{cancelled_is, cancelled_product, cancelled_misfit, second_positive}
+use Rattle.surd_terms.proofs.{Misfits.{step_fits, step_misfit, product_misfit, refused_for, if_value}, WholeFactors.{cancelled_is, cancelled_product, cancelled_misfit, second_positive}}
 use Rattle.surd_terms.proofs.cancelling.scaled_product.Goals.{After-gcd-second}
 use Rattle.surd_terms.proofs.cancelling.scaled_product.Goals as goal
 

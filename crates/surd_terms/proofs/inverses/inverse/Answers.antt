@@ -1,8 +1,6 @@
-use Rattle.surd_terms.proofs.Shared.{pos, ◌∙◌, refl, ap, sym, times, whole_fraction, term, term_of}
-use Rattle.surd_terms.proofs.Rationals.{whole_not_zero, num_not_zero, fits_times_one}
-use Rattle.surd_terms.proofs.Values.{times_not_zero, inverse_not_zero, inverse_inverts}
+use Rattle.surd_terms.proofs.{Shared.{pos, ◌∙◌, refl, ap, sym, times, whole_fraction, term, term_of}, Rationals.{whole_not_zero, num_not_zero, fits_times_one}}
+use Rattle.surd_terms.proofs.{Values.{times_not_zero, inverse_not_zero, inverse_inverts}, inverses.inverse.Goals.{In_ok-product, After-new}}
 use Rattle.calc_terms.specs.Fractions.{inverse as inverse_of_fraction}
-use Rattle.surd_terms.proofs.inverses.inverse.Goals.{In_ok-product, After-new}
 use Rattle.surd_terms.proofs.inverses.inverse.Goals as goal
 
 pub returns-in_err-product-clause-rational : goal.returns-in_err-product-clause-rational

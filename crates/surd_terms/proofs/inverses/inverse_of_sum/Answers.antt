@@ -1,10 +1,8 @@
-use Rattle.surd_terms.proofs.Shared.{◌≡◌, ◌≢◌, List, [], ◌∷◌, ◌++◌, ◌∙◌, refl, ap, sym, Fraction, plus, times, negative, zero_fraction, value_of, Term, term, Add, Mul}
-use Rattle.surd_terms.proofs.Shared.{Calculation, calculation, square_calculations, square_of, conjugate_product, term_of}
-use Rattle.surd_terms.proofs.Misfits.{step_fits, step_misfit, passed_list, refused_for}
-use Rattle.surd_terms.proofs.Rationals.{num_not_zero}
-use Rattle.surd_terms.proofs.Values.{times_not_zero, inverse_not_zero, negative_not_zero, conjugates_not_zero, conjugate_inverts}
+use Rattle.surd_terms.proofs.Shared.{◌≡◌, ◌≢◌, List, [], ◌∷◌, ◌++◌, ◌∙◌, refl, ap, sym, Fraction, plus, times, negative, zero_fraction, value_of, Term, term, Add, Mul, Calculation, calculation}
+use Rattle.surd_terms.proofs.{Shared.{square_calculations, square_of, conjugate_product, term_of}, Misfits.{step_fits, step_misfit, passed_list, refused_for}, Rationals.{num_not_zero}}
+use Rattle.surd_terms.proofs.{Values.{times_not_zero, inverse_not_zero, negative_not_zero, conjugates_not_zero, conjugate_inverts}, inverses.inverse_of_sum.Goals.{In_ok-difference, In_ok-second}}
+use Rattle.surd_terms.proofs.inverses.inverse_of_sum.Goals.{After-new-2}
 use Rattle.calc_terms.specs.Fractions.{inverse as inverse_of_fraction}
-use Rattle.surd_terms.proofs.inverses.inverse_of_sum.Goals.{In_ok-difference, In_ok-second, After-new-2}
 use Rattle.surd_terms.proofs.inverses.inverse_of_sum.Goals as goal
 
 difference : (c : In_ok-difference) → value_of c.in_ok-difference.difference ≡ conjugate_product (term_of c.args.a) (term_of c.args.b)

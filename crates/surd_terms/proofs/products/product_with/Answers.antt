@@ -1,9 +1,6 @@
 use Rattle.surd_terms.proofs.Shared.{◌≡◌, ◌*◌, inl, inr, pos, [], refl, ap, sym, ◌∙◌, arith, times, whole_fraction, Term, term, term_times, Mul, IsExtracted, term_of}
-use Rattle.surd_terms.proofs.Misfits.{refused_for, step_misfit, step_fits}
-use Rattle.surd_terms.proofs.ProductMisfits.{rational_misfit, coefficients_misfit, two_roots, cancelled_for}
-use Rattle.surd_terms.proofs.Rationals.{whole_not_zero}
-use Rattle.surd_terms.proofs.Values.{times_not_zero, extracted_nothing, extracted_value}
-use Rattle.surd_terms.proofs.products.product_with.Goals.{After-new, After-new-then-radicand-eq1-2, In_ok-root, After-new-2}
+use Rattle.surd_terms.proofs.{Misfits.{refused_for, step_misfit, step_fits}, ProductMisfits.{rational_misfit, coefficients_misfit, two_roots, cancelled_for}, Rationals.{whole_not_zero}}
+use Rattle.surd_terms.proofs.{Values.{times_not_zero, extracted_nothing, extracted_value}, products.product_with.Goals.{After-new, After-new-then-radicand-eq1-2, In_ok-root, After-new-2}}
 use Rattle.surd_terms.proofs.products.product_with.Goals as goal
 
 -- ---- with a rational factor

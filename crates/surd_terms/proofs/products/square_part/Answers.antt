@@ -1,7 +1,5 @@
-use Rattle.surd_terms.proofs.Shared.{◌≡◌, ℕ, ◌*◌, ◌/◌, pos, [], ◌∷◌, sym, ap, ◌∙◌, subst, arith, same_from_IsGcd, whole_fraction, gcd, gcd_is, Mul, calculation}
-use Rattle.surd_terms.proofs.Shared.{first_misfit, IsClean, clean_below_over_shared}
-use Rattle.surd_terms.proofs.Misfits.{refused_for}
-use Rattle.surd_terms.proofs.Radicands.{IsSquarePart, shared_positive, rest_positive, square_part}
+use Rattle.surd_terms.proofs.Shared.{◌≡◌, ℕ, ◌*◌, ◌/◌, pos, [], ◌∷◌, sym, ap, ◌∙◌, subst, arith, same_from_IsGcd, whole_fraction, gcd, gcd_is, Mul, calculation, first_misfit, IsClean}
+use Rattle.surd_terms.proofs.{Shared.{clean_below_over_shared}, Misfits.{refused_for}, Radicands.{IsSquarePart, shared_positive, rest_positive, square_part}}
 use Rattle.surd_terms.proofs.products.square_part.Goals.{After-gcd-shared, In_ok-rest, After-split-root}
 use Rattle.surd_terms.proofs.products.square_part.Goals as goal
 

@@ -1,5 +1,4 @@
-use Rattle.surd_terms.proofs.Shared.{◌≡◌, ℕ, ◌*◌, ◌/◌, ◌^◌, ◌<◌, ◌≤◌, Option, Some, None, inr, ap, ◌∙◌, arith, MatchOption, IsGcd, same_from_IsGcd, gcd, gcd_is}
-use Rattle.surd_terms.proofs.Shared.{SomeIff}
+use Rattle.surd_terms.proofs.Shared.{◌≡◌, ℕ, ◌*◌, ◌/◌, ◌^◌, ◌<◌, ◌≤◌, Option, Some, None, inr, ap, ◌∙◌, arith, MatchOption, IsGcd, same_from_IsGcd, gcd, gcd_is, SomeIff}
 use Rattle.surd_terms.proofs.products.undivided.Goals as goal
 
 from_iff : (o : Option ℕ) (P A : Type 0) (v w : ℕ) → SomeIff o P v → v ≡ w → ((P → ⊥) → A) → MatchOption o A (λ n. n ≡ w)

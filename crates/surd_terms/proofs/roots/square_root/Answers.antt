@@ -1,7 +1,6 @@
-use Rattle.surd_terms.proofs.Shared.{◌≡◌, ◌*◌, ◌<◌, ◌^◌, [], ◌∷◌, true, false, pos, ap, sym, ◌∙◌, subst, rules, to_z, of_z, nat_abs, w128, to_z_pos, times, lowest}
-use Rattle.surd_terms.proofs.Shared.{quotient, whole_fraction, mul_pos, fraction_fits, IsRootOf, value_of, Term, term, told, term_of, Mul, calculation, first_misfit}
-use Rattle.surd_terms.proofs.Extraction.{positive_abs, IsSplit, split_root, root_of, positive_is, quotient_not_zero}
-use Rattle.surd_terms.proofs.roots.square_root.Goals.{In_ok-product, After-split-root, After-ratio, After-new}
+use Rattle.surd_terms.proofs.Shared.{◌≡◌, ◌*◌, ◌<◌, ◌^◌, [], ◌∷◌, true, false, pos, ap, sym, ◌∙◌, subst, rules, to_z, of_z, nat_abs, w128, to_z_pos, times, lowest, quotient, whole_fraction, mul_pos}
+use Rattle.surd_terms.proofs.{Shared.{fraction_fits, IsRootOf, value_of, Term, term, told, term_of, Mul, calculation, first_misfit}, Extraction.{positive_abs, IsSplit, split_root, root_of}}
+use Rattle.surd_terms.proofs.{Extraction.{positive_is, quotient_not_zero}, roots.square_root.Goals.{In_ok-product, After-split-root, After-ratio, After-new}}
 use Rattle.surd_terms.proofs.roots.square_root.Goals as goal
 
 num_is : (c : In_ok-product) → c.unsigned_abs.result ≡ nat_abs c.args.q.num

@@ -1,9 +1,6 @@
-use Rattle.surd_terms.proofs.Shared.{◌≡◌, ◌*◌, pos, true, List, [], ◌∷◌, refl, sym, ap, ◌∙◌, subst, IsGcd, IsClean, plus, times, whole_fraction, value_of, are_alike, term, IsSum}
-use Rattle.surd_terms.proofs.Shared.{term_of, Add, Mul, Calculation, calculation, scaled, scaling, joining_calculations, first_misfit, clean_part}
-use Rattle.surd_terms.proofs.Misfits.{joining_parts, one_radicand_calculations, step_fits, step_misfit, refused_for}
-use Rattle.surd_terms.proofs.Radicands.{shared_positive}
-use Rattle.surd_terms.proofs.Rationals.{rational_fits}
-use Rattle.surd_terms.proofs.Values.{sum_joins, sum_is, alike_itself, sum_of_one_radicand}
+use Rattle.surd_terms.proofs.Shared.{◌≡◌, ◌*◌, pos, true, List, [], ◌∷◌, refl, sym, ap, ◌∙◌, subst, IsGcd, IsClean, plus, times, whole_fraction, value_of, are_alike, term, IsSum, term_of, Add, Mul}
+use Rattle.surd_terms.proofs.{Shared.{Calculation, calculation, scaled, scaling, joining_calculations, first_misfit, clean_part}, Misfits.{joining_parts, one_radicand_calculations, step_fits}}
+use Rattle.surd_terms.proofs.{Misfits.{step_misfit, refused_for}, Radicands.{shared_positive}, Rationals.{rational_fits}, Values.{sum_joins, sum_is, alike_itself, sum_of_one_radicand}}
 use Rattle.surd_terms.proofs.sums.join.Goals.{After-coefficient, After-whole, After-multiple, In_ok-left, In_ok-right, In_ok-add}
 use Rattle.surd_terms.proofs.sums.join.Goals as goal
 

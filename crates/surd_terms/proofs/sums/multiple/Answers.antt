@@ -1,5 +1,4 @@
-use Rattle.surd_terms.proofs.Shared.{sym, ap, ◌∙◌, to_z, of_z, w128, told}
-use Rattle.surd_terms.proofs.Rationals.{value_not_zero, value_zero}
+use Rattle.surd_terms.proofs.{Shared.{sym, ap, ◌∙◌, to_z, of_z, w128, told}, Rationals.{value_not_zero, value_zero}}
 use Rattle.surd_terms.proofs.sums.multiple.Goals as goal
 
 pub new-requires-clause-not_zero : goal.new-requires-clause-not_zero

@@ -1,5 +1,4 @@
-use Rattle.surd_terms.proofs.Shared.{ap, ◌∙◌, of_z, w128}
-use Rattle.surd_terms.proofs.Rationals.{value_not_zero}
+use Rattle.surd_terms.proofs.{Shared.{ap, ◌∙◌, of_z, w128}, Rationals.{value_not_zero}}
 use Rattle.surd_terms.proofs.tests.term.Goals as goal
 
 pub new-requires-clause-not_zero : goal.new-requires-clause-not_zero

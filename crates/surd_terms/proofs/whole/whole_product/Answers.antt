@@ -1,5 +1,4 @@
-use Rattle.surd_terms.proofs.Shared.{◌*◌, pos, ap, ◌∙◌, to_z, of_z, nat_abs, w128, times, told}
-use Rattle.surd_terms.proofs.Rationals.{whole_times, whole_num_of}
+use Rattle.surd_terms.proofs.{Shared.{◌*◌, pos, ap, ◌∙◌, to_z, of_z, nat_abs, w128, times, told}, Rationals.{whole_times, whole_num_of}}
 use Rattle.surd_terms.proofs.whole.whole_product.Goals as goal
 
 pub returns-clause-product : goal.returns-clause-product

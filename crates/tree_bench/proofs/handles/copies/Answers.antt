@@ -1,7 +1,5 @@
 use Rattle.std.proofs.Common.{◌∙◌, inl}
-use Rattle.tree_handles.proofs.Given.{given_root, given_rest, given_handed, owned, handed_at}
-use Rattle.tree_handles.proofs.Lasts.{expression_root}
-use Rattle.tree_handles.proofs.Roots.{root_held}
+use Rattle.tree_handles.proofs.{Given.{given_root, given_rest, given_handed, owned, handed_at}, Lasts.{expression_root}, Roots.{root_held}}
 use Rattle.tree_bench.proofs.handles.copies.Goals as goal
 use Rattle.tree_bench.proofs.handles.copies.Goals.{in-Ok+in_ok-elapsed+in_ok-elapsed-2, in_default}
 

@@ -1,5 +1,4 @@
-use Rattle.tree_handles.specs.Handed.{IsHanded}
-use Rattle.tree_handles.specs.Standing.{Stands, forest}
+use Rattle.tree_handles.specs.{Handed.{IsHanded}, Standing.{Stands, forest}}
 use Rattle.tree_bench.proofs.handles.nested_sums.Given as goal
 
 abbrev pub invariant-loop : goal.invariant-loop

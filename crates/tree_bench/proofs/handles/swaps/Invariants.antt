@@ -1,6 +1,5 @@
 use Rattle.std.proofs.Common.{◌≡◌, true}
-use Rattle.tree_handles.specs.Roots.{has_root}
-use Rattle.tree_handles.specs.Standing.{Stands, forest}
+use Rattle.tree_handles.specs.{Roots.{has_root}, Standing.{Stands, forest}}
 use Rattle.tree_bench.proofs.handles.swaps.Given as goal
 
 abbrev pub invariant-loop : goal.invariant-loop

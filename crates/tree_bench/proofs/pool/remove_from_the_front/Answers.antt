@@ -1,8 +1,7 @@
 use Rattle.std.proofs.Common.{arith, subst, sym, ap, ◌∙◌, ◌+◌, ℕ}
 use Rattle.calc_terms.specs.Node.{size_of_header}
 use Rattle.node_pool.specs.Places.{IsBoundary}
-use Rattle.node_pool.proofs.Walk.{starts}
-use Rattle.node_pool.proofs.Cuts.{step}
+use Rattle.node_pool.proofs.{Walk.{starts}, Cuts.{step}}
 use Rattle.tree_bench.proofs.pool.remove_from_the_front.Goals as goal
 
 pub header-requires-clause-boundary : goal.header-requires-clause-boundary

@@ -1,6 +1,5 @@
-use Rattle.tree_bits.proofs.Shared.{undef_held}
-use Rattle.tree_bits.proofs.Rows.{rational_row, sum_row, opposite_row, difference_row, product_row, quotient_row, power_row, kept_row, rational_to_symbol, symbol_to_symbol, root_row}
-use Rattle.tree_bits.proofs.Sums.{symbol_is_held}
+use Rattle.tree_bits.proofs.{Shared.{undef_held}, Rows.{rational_row, sum_row, opposite_row, difference_row, product_row, quotient_row, power_row, kept_row, rational_to_symbol, symbol_to_symbol}}
+use Rattle.tree_bits.proofs.{Rows.{root_row}, Sums.{symbol_is_held}}
 use Rattle.tree_bits.proofs.laws.rows_of_high_and_low.Goals as goal
 
 pub returns : goal.returns

@@ -1,5 +1,4 @@
-use Rattle.tree_bits.proofs.HeldTrees.{tree_by_both, part_by_both, parts_multiply}
-use Rattle.tree_bits.proofs.Numbers.{exponents_within}
+use Rattle.tree_bits.proofs.{HeldTrees.{tree_by_both, part_by_both, parts_multiply}, Numbers.{exponents_within}}
 use Rattle.tree_bits.proofs.laws.what_holds_trees.Goals as goal
 
 pub returns : goal.returns

@@ -1,5 +1,4 @@
-use Rattle.tree_bits.proofs.Weighted.{held_by_both, put_before, split_off}
-use Rattle.tree_bits.proofs.Sums.{sums_held, joined_held}
+use Rattle.tree_bits.proofs.{Weighted.{held_by_both, put_before, split_off}, Sums.{sums_held, joined_held}}
 use Rattle.tree_bits.proofs.laws.what_holds_weighted_terms.Goals as goal
 
 pub returns : goal.returns

@@ -1,6 +1,5 @@
-use Rattle.tree_handles.proofs.Shared.{◌≡◌, refl, ℕ, ◌-◌, ◌+◌, ◌≤◌, ◌⊎◌, ap, ◌∙◌, arith, inl, inr, State, place_of, with_children, moved, arity, with_nth}
-use Rattle.tree_handles.proofs.{Shared.{kids_of, with_kids, root_tree, without_root, forest, Stands, IsChildPlace}, Adding.{added_place, counted_added, root_live}, Releases.few_nodes}
-use Rattle.tree_handles.proofs.Forests.{stands, keeps, keeps_after}
+use Rattle.tree_handles.proofs.Shared.{◌≡◌, refl, ℕ, ◌-◌, ◌+◌, ◌≤◌, ◌⊎◌, ap, ◌∙◌, arith, inl, inr, State, place_of, with_children, moved, arity, with_nth, kids_of, with_kids, root_tree, without_root}
+use Rattle.tree_handles.proofs.{Shared.{forest, Stands, IsChildPlace}, Releases.few_nodes, Adding.{added_place, counted_added, root_live}, Forests.{stands, keeps, keeps_after}}
 use Rattle.tree_handles.proofs.moving.add_at.Goals as goal
 
 pub children-children-requires-clause-live : goal.children-children-requires-clause-live

@@ -1,6 +1,5 @@
-use Rattle.tree_handles.proofs.Shared.{◌≡◌, refl, ℕ, ◌+◌, ◌-◌, ap, ◌∙◌, arith, Header, State, with_children, without, arity, kids, tree_nth, merged_nth, kids_of, with_kids}
-use Rattle.tree_handles.proofs.{Shared.{forest, Stands}, Distinct.held_parent, Forests.stands, Parts.live_node, Releases.few_nodes, Swapping.{merges, counted_merged}}
-use Rattle.tree_handles.proofs.AtRoots.{changed_root}
+use Rattle.tree_handles.proofs.Shared.{◌≡◌, refl, ℕ, ◌+◌, ◌-◌, ap, ◌∙◌, arith, Header, State, with_children, without, arity, kids, tree_nth, merged_nth, kids_of, with_kids, forest, Stands}
+use Rattle.tree_handles.proofs.{Distinct.held_parent, Forests.stands, Parts.live_node, Releases.few_nodes, Swapping.{merges, counted_merged}, AtRoots.{changed_root}}
 use Rattle.tree_handles.proofs.moving.merge_children.Goals as goal
 
 pub children-children-requires-clause-live : goal.children-children-requires-clause-live

@@ -1,6 +1,5 @@
-use Rattle.tree_handles.proofs.{Shared.{◌≡◌, ℕ, sym, ap, ◌∙◌, arith, AreSiblings, Forest, swapped_nth, kids_of, with_kids, forest}, AtRoots.changed_root, Joins.with_kids-same}
-use Rattle.tree_handles.proofs.{Nths.{pair, swapped_nth-same}, ChildPlaces.{placed, ordered, turned}, moving.swap_siblings.Goals.{After-swap_apart, After-swap_apart-then-right-left}}
-use Rattle.tree_handles.proofs.moving.swap_siblings.Goals.{Else-right-left}
+use Rattle.tree_handles.proofs.{AtRoots.changed_root, Joins.with_kids-same, Shared.{◌≡◌, ℕ, sym, ap, ◌∙◌, arith, AreSiblings, Forest, swapped_nth, kids_of, with_kids, forest}}
+use Rattle.tree_handles.proofs.{Nths.{pair, swapped_nth-same}, ChildPlaces.{placed, ordered, turned}, moving.swap_siblings.Goals.{After-swap_apart, After-swap_apart-then-right-left, Else-right-left}}
 use Rattle.tree_handles.proofs.moving.swap_siblings.Goals as goal
 
 pub locate-left-requires : goal.locate-left-requires

@@ -1,6 +1,5 @@
-use Rattle.tree_handles.proofs.Shared.{rules, ◌≡◌, refl, ℕ, ◌-◌, ap, ◌∙◌, arith, inr, State, used, with_children, moved, boundary_le, IsChildAt, arity, tree_nth, join}
-use Rattle.tree_handles.proofs.{Shared.{without_nth, kids_of, with_kids, forest, Stands}, ChildPlaces.{placed, known_taken}, Distinct.held_parent, Forests.{stands, keeps, keeps_after}}
-use Rattle.tree_handles.proofs.{Parts.counted_taken, AtRoots.taken_root}
+use Rattle.tree_handles.proofs.Shared.{rules, ◌≡◌, refl, ℕ, ◌-◌, ap, ◌∙◌, arith, inr, State, used, with_children, moved, boundary_le, IsChildAt, arity, tree_nth, join, without_nth, kids_of, with_kids}
+use Rattle.tree_handles.proofs.{Shared.{forest, Stands}, Distinct.held_parent, Parts.counted_taken, AtRoots.taken_root, ChildPlaces.{placed, known_taken}, Forests.{stands, keeps, keeps_after}}
 use Rattle.tree_handles.proofs.moving.take_known_child.Goals as goal
 
 pub children-children-requires-clause-live : goal.children-children-requires-clause-live

@@ -1,5 +1,4 @@
-use Rattle.tree_handles.proofs.{Shared.{◌≡◌, sym, ap, ◌∙◌, name_of, kind_of_payload, named, tree_at, payload_in, forest}, Parts.live_node, Plains.holds_symbol}
-use Rattle.tree_handles.proofs.Readings.{payload_seen, plain_symbol}
+use Rattle.tree_handles.proofs.{Parts.live_node, Plains.holds_symbol, Shared.{◌≡◌, sym, ap, ◌∙◌, name_of, kind_of_payload, named, tree_at, payload_in, forest}, Readings.{payload_seen, plain_symbol}}
 use Rattle.tree_handles.proofs.read.name.Goals as goal
 
 pub name-requires-clause-live : goal.name-requires-clause-live

@@ -1,5 +1,4 @@
-use Rattle.tree_handles.proofs.Shared.{rules, ◌≡◌, ◌+◌, ◌-◌, ◌∙◌, ap, sym, subst, arith, IsBoundary, without, State, Forest, bytes_in, Starts, Stands, forest}
-use Rattle.tree_handles.proofs.Dropping.{stands_first, dropped}
+use Rattle.tree_handles.proofs.{Shared.{rules, ◌≡◌, ◌+◌, ◌-◌, ◌∙◌, ap, sym, subst, arith, IsBoundary, without, State, Forest, bytes_in, Starts, Stands, forest}, Dropping.{stands_first, dropped}}
 use Rattle.tree_handles.proofs.releasing.drop_behind.Goals as goal
 
 pub overflow_sub-len : goal.overflow_sub-len

@@ -1,5 +1,4 @@
-use Rattle.tree_handles.proofs.{Shared.{arith, ◌≤◌, free_of, tree_of}, Fronts.{behind_first, front_same, front_at, front_without, front_after}, Given.owned}
-use Rattle.tree_handles.proofs.Room.{released_free, least_size}
+use Rattle.tree_handles.proofs.{Given.owned, Shared.{arith, ◌≤◌, free_of, tree_of}, Fronts.{behind_first, front_same, front_at, front_without, front_after}, Room.{released_free, least_size}}
 use Rattle.tree_handles.proofs.undef.undefined.Goals as goal
 
 pub unreachable-requires : goal.unreachable-requires

@@ -1,5 +1,4 @@
-use Rattle.tree_handles.proofs.{Shared.{◌-◌, ◌∙◌, ℕ, ap, subst, sym, rest_trees, kids_of, forest}, Parts.live_node, Visiting.{IsWalk, walk_below}}
-use Rattle.tree_handles.proofs.visits.nodes_below.Goals.{After-from}
+use Rattle.tree_handles.proofs.{Parts.live_node, Shared.{◌-◌, ◌∙◌, ℕ, ap, subst, sym, rest_trees, kids_of, forest}, Visiting.{IsWalk, walk_below}, visits.nodes_below.Goals.{After-from}}
 use Rattle.tree_handles.proofs.visits.nodes_below.Goals as goal
 
 pub child_place-requires : goal.child_place-requires

@@ -1,7 +1,6 @@
 use Rattle.std.proofs.Common.{refl}
 use Rattle.calc_algebra.specs.Numbers.{is_number}
-use Rattle.calc_terms.specs.Fractions.{lowest}
-use Rattle.calc_terms.specs.Gcd.{gcd}
+use Rattle.calc_terms.specs.{Fractions.{lowest}, Gcd.{gcd}}
 use Rattle.tree_room.proofs.examples.a_join_counted.Goals as goal
 
 pub returns-clause-apart : goal.returns-clause-apart

@@ -1,5 +1,4 @@
-use Rattle.tree_walks.proofs.{Shared.{rules, ◌≡◌, Bool, true, false, name_of, plain, given_handed, tree_at, forest}, Absent.absent, Filling.IsDone}
-use Rattle.tree_walks.proofs.replacing.replace_name.Goals.{Then-not-holds_name}
+use Rattle.tree_walks.proofs.{Absent.absent, Filling.IsDone, Shared.{rules, ◌≡◌, Bool, true, false, name_of, plain, given_handed, tree_at, forest}, replacing.replace_name.Goals.{Then-not-holds_name}}
 use Rattle.tree_handles.proofs.Seen.{expression}
 use Rattle.tree_walks.proofs.replacing.replace_name.Goals as goal
 

@@ -1,6 +1,5 @@
 use Rattle.std.proofs.Common.{◌≡◌, ℕ, List, [], refl, true, false}
-use Rattle.tree_walks.proofs.Shared.{Forest, payload_in, Visit, by_test, has_name}
-use Rattle.tree_walks.proofs.Searches.{IsLooking, IsLooked, looking, looked}
+use Rattle.tree_walks.proofs.{Shared.{Forest, payload_in, Visit, by_test, has_name}, Searches.{IsLooking, IsLooked, looking, looked}}
 use Rattle.tree_walks.proofs.tests.letters_of.Goals as goal
 
 -- whatever the node is, the others are left

@@ -1,7 +1,6 @@
 use Rattle.std.proofs.Common.{ap, arith}
 use Rattle.line_text.specs.Content.{spare_of}
-use Rattle.tree_handles.proofs.Lasts.{expression_root, plain_root}
-use Rattle.tree_handles.proofs.Roots.{root_held}
+use Rattle.tree_handles.proofs.{Lasts.{expression_root, plain_root}, Roots.{root_held}}
 use Rattle.acceptance.proofs.tests.round_trips.written.Goals as goal
 
 pub tree_bytes-bytes-requires-clause-live : goal.tree_bytes-bytes-requires-clause-live

@@ -1,5 +1,4 @@
-use Rattle.std.proofs.Common.{arith, ap, ◌∙◌, map, sym}
-use Rattle.std.proofs.lemmas.List.{with_items_is, length-set}
+use Rattle.std.proofs.{Common.{arith, ap, ◌∙◌, map, sym}, lemmas.List.{with_items_is, length-set}}
 use Rattle.breakers.proofs.Arming.{NoneArms-next, NoneArms-armed, NoneArms-any, NoneArms-all}
 use Rattle.breakers.proofs.watch.Watch.arm_first.Goals as goal
 

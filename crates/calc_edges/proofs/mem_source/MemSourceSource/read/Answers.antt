@@ -1,5 +1,4 @@
-use Rattle.std.proofs.Common.{◌≡◌, ℕ, ◌≤◌, List, ◌++◌, Result, Ok, Err, IfOk, length, take, drop, min, arith, sym, ap, ◌∙◌, append_assoc}
-use Rattle.std.proofs.lemmas.List.{drop-append-le, take-append-drop}
+use Rattle.std.proofs.{Common.{◌≡◌, ℕ, ◌≤◌, List, ◌++◌, Result, Ok, Err, IfOk, length, take, drop, min, arith, sym, ap, ◌∙◌, append_assoc}, lemmas.List.{drop-append-le, take-append-drop}}
 use Rattle.calc_edges.proofs.mem_source.MemSourceSource.read.Goals as goal
 
 -- what stands behind n elements stands there in the first k of them, and then behind those

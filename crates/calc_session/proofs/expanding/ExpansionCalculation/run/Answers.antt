@@ -1,10 +1,8 @@
 use Rattle.std.proofs.Common.{◌≡◌, ◌∙◌, ◌+◌, ℕ, true, false, refl, sym, ap, subst}
-use Rattle.calc_session.proofs.Shared.{states, size, is_polynomial, free_of, Handle, plain, tree_of, tree_at, forest, given_handed, given_root, expression_root, plain_root, Refusal, reply_of, IsReplyToExpansion, is_no_polynomial, reported}
+use Rattle.calc_session.proofs.Shared.{states, size, is_polynomial, free_of, Handle, plain, tree_of, tree_at, forest, given_handed, given_root, expression_root, plain_root, Refusal, reply_of}
+use Rattle.calc_session.proofs.{Shared.{IsReplyToExpansion, is_no_polynomial, reported}, DerivingLemmas.{over}, EvaluationLemmas.{calm_refused, front_in_place}, ExpansionLemmas.{comes_expanded}}
+use Rattle.calc_session.proofs.{ExpansionLemmas.{expansion_defined, expansion_reduced, lacks_face, unexpanded_reply}, expanding.ExpansionCalculation.run.Goals.{After-id, After-expand}}
 use Rattle.calc_session.specs.Expanding.{lacks_bytes}
-use Rattle.calc_session.proofs.DerivingLemmas.{over}
-use Rattle.calc_session.proofs.EvaluationLemmas.{calm_refused, front_in_place}
-use Rattle.calc_session.proofs.ExpansionLemmas.{comes_expanded, expansion_defined, expansion_reduced, lacks_face, unexpanded_reply}
-use Rattle.calc_session.proofs.expanding.ExpansionCalculation.run.Goals.{After-id, After-expand}
 use Rattle.calc_session.specs.declared.answers.Refusal.TheVariants as refusal
 use Rattle.calc_session.proofs.expanding.ExpansionCalculation.run.Goals as goal
 

@@ -1,7 +1,5 @@
 use Rattle.std.proofs.Common.{◌∙◌, inl, refl, sym, arith}
-use Rattle.calc_session.proofs.Shared.{states, refusal_of_pool, is_long, state_in}
-use Rattle.calc_session.proofs.CountingLemmas.{none_asked, none_known}
-use Rattle.calc_session.proofs.SessionLemmas.{answers_blank, answers_vain, calm_blank, calm_long}
+use Rattle.calc_session.proofs.{Shared.{states, refusal_of_pool, is_long, state_in}, CountingLemmas.{none_asked, none_known}, SessionLemmas.{answers_blank, answers_vain, calm_blank, calm_long}}
 use Rattle.calc_session.specs.declared.answers.Refusal.TheVariants as refusal
 use Rattle.calc_session.proofs.parts.Parts.answer.Goals as goal
 

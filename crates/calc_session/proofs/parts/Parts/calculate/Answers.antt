@@ -1,11 +1,9 @@
 use Rattle.std.proofs.Common.{◌∙◌, ◌*◌, ◌+◌, None, inl, refl, sym, ap, subst, arith}
-use Rattle.calc_session.proofs.Shared.{TripsRose, IsWritable, states, tokens_of, free_of, tree_of, forest, given_rest, gives_as, held_entries, ComesTo, CountsRefusal, reason_of, refusal_of_evaluation, ExpressionBecomes, IsReplyToExpression, is_no_expression, is_read, IsCountedBut, IsKnownOf, is_not_made, refusal_in, reported, state_in}
-use Rattle.calc_session.proofs.CommandLemmas.{calm_told, refusal_uninterrupted}
-use Rattle.calc_session.proofs.CountingLemmas.{counted_still, counted_then, counted_there, none_known, none_made, none_read}
-use Rattle.calc_session.proofs.EvaluationLemmas.{front_over, none_rose, size_kept}
-use Rattle.calc_session.proofs.PoolLemmas.{kept_still, old_below, still_counted}
-use Rattle.calc_session.proofs.TellingLemmas.{comes_calculated, has_face, same_again, told_as, told_interruption, told_lack}
-use Rattle.calc_session.proofs.parts.Parts.calculate.Goals.{After-run-evaluation}
+use Rattle.calc_session.proofs.Shared.{TripsRose, IsWritable, states, tokens_of, free_of, tree_of, forest, given_rest, gives_as, held_entries, ComesTo, CountsRefusal, reason_of, refusal_of_evaluation}
+use Rattle.calc_session.proofs.Shared.{ExpressionBecomes, IsReplyToExpression, is_no_expression, is_read, IsCountedBut, IsKnownOf, is_not_made, refusal_in, reported, state_in}
+use Rattle.calc_session.proofs.{CommandLemmas.{calm_told, refusal_uninterrupted}, CountingLemmas.{counted_still, counted_then, counted_there, none_known, none_made, none_read}}
+use Rattle.calc_session.proofs.{EvaluationLemmas.{front_over, none_rose, size_kept}, PoolLemmas.{kept_still, old_below, still_counted}, TellingLemmas.{comes_calculated, has_face, same_again, told_as}}
+use Rattle.calc_session.proofs.{TellingLemmas.{told_interruption, told_lack}, parts.Parts.calculate.Goals.{After-run-evaluation}}
 use Rattle.calc_session.specs.Arguments.{IsNoExpression, bytes_before}
 use Rattle.calc_session.specs.declared.answers.LineAnswer.TheVariants as answer
 use Rattle.calc_session.specs.declared.answers.Refusal.TheVariants as refusal

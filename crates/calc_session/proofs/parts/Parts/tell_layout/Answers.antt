@@ -1,9 +1,6 @@
 use Rattle.std.proofs.Common.{◌≡◌, Ok, Err, refl, sym, ap, subst, arith}
-use Rattle.calc_session.proofs.Shared.{serial, IsExpression, forest, Refusal, CountsRefusal, reason_of, lack_in, layout_reply, told_at, refusal_in}
-use Rattle.calc_session.proofs.DrawingLemmas.{answer_expression}
-use Rattle.calc_session.proofs.EvaluationLemmas.{size_kept}
-use Rattle.calc_session.proofs.PoolLemmas.{kept_but}
-use Rattle.calc_session.proofs.SessionLemmas.{same_after}
+use Rattle.calc_session.proofs.{Shared.{serial, IsExpression, forest, Refusal, CountsRefusal, reason_of, lack_in, layout_reply, told_at, refusal_in}, DrawingLemmas.{answer_expression}}
+use Rattle.calc_session.proofs.{EvaluationLemmas.{size_kept}, PoolLemmas.{kept_but}, SessionLemmas.{same_after}}
 use Rattle.calc_session.proofs.parts.Parts.tell_layout.Goals as goal
 
 pub write_layout-requires-clause-expression : goal.write_layout-requires-clause-expression

@@ -1,8 +1,7 @@
 use Rattle.std.proofs.Common.{◌≡◌, ◌≤◌, ◌∙◌, ◌*◌, ◌+◌, ap, sym, subst, arith}
-use Rattle.calc_session.proofs.Shared.{ratio_of, Content, IsHeld, rational, size_of_payload, payload_most, free_of, forest}
-use Rattle.node_pool.specs.State.{State}
-use Rattle.calc_session.proofs.OpeningLemmas.{IsOpened, first_state_is, opened, seen_is}
+use Rattle.calc_session.proofs.{Shared.{ratio_of, Content, IsHeld, rational, size_of_payload, payload_most, free_of, forest}, OpeningLemmas.{IsOpened, first_state_is, opened, seen_is}}
 use Rattle.calc_session.proofs.session.Session.open.Goals.{After-unwrap-answer}
+use Rattle.node_pool.specs.State.{State}
 use Rattle.calc_session.proofs.session.Session.open.Goals as goal
 
 here : (c : After-unwrap-answer) → IsOpened c.in_ok-pool.pool c.number.new.pool c.unwrap-answer.result

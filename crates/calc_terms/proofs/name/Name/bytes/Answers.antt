@@ -1,5 +1,4 @@
-use Rattle.calc_terms.proofs.Shared.{sym, refl, subst, true, IsName}
-use Rattle.calc_terms.proofs.Names.{front, in_words}
+use Rattle.calc_terms.proofs.{Shared.{sym, refl, subst, true, IsName}, Names.{front, in_words}}
 use Rattle.calc_terms.proofs.name.Name.bytes.Goals as goal
 
 pub returns-clause-value : goal.returns-clause-value

@@ -1,5 +1,4 @@
-use Rattle.calc_terms.proofs.Shared.{◌∙◌, sym, true}
-use Rattle.calc_terms.proofs.Names.{in_words, written, written_back}
+use Rattle.calc_terms.proofs.{Shared.{◌∙◌, sym, true}, Names.{in_words, written, written_back}}
 use Rattle.calc_terms.proofs.name.Name.read.Goals as goal
 
 pub returns-then-not-is_name-clause-in_words : goal.returns-then-not-is_name-clause-in_words

@@ -1,5 +1,4 @@
-use Rattle.calc_terms.proofs.Shared.{arith, rules, ◌<◌, ◌^◌, FitsSigned, w128, ints}
-use Rattle.calc_terms.proofs.Signs.{is_made}
+use Rattle.calc_terms.proofs.{Shared.{arith, rules, ◌<◌, ◌^◌, FitsSigned, w128, ints}, Signs.{is_made}}
 use Rattle.calc_terms.proofs.rat.Rat.divided.Goals as goal
 
 pub invariant_of-result : goal.invariant_of-result

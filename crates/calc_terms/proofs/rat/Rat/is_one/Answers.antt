@@ -1,5 +1,4 @@
-use Rattle.calc_terms.proofs.Shared.{◌≡◌, ◌∙◌, ap, nat_abs, sym, Bool, ◌&&◌, ◌==◌, w128, fits_signed_from_abs, to_z-of_z, int_is_one, value_of, Rat, is_one_fraction}
-use Rattle.calc_terms.proofs.ShortForm.{one_by, whole_test}
+use Rattle.calc_terms.proofs.{Shared.{◌≡◌, ◌∙◌, ap, nat_abs, sym, Bool, ◌&&◌, ◌==◌, w128, fits_signed_from_abs, to_z-of_z, int_is_one, value_of, Rat, is_one_fraction}, ShortForm.{one_by, whole_test}}
 use Rattle.calc_terms.proofs.rat.Rat.is_one.Goals as goal
 use Rattle.calc_terms.proofs.rat.Rat.is_one.Goals.{After-is_one_int}
 

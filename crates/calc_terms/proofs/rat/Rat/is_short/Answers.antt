@@ -1,5 +1,4 @@
-use Rattle.calc_terms.proofs.Shared.{ℤ, ◌<◌, ◌^◌, ◌∙◌, ap, arith, FitsSigned, nat_abs, w128, ints, to_z-of_z, is_short_int}
-use Rattle.calc_terms.proofs.ShortForm.{tested, not_whole}
+use Rattle.calc_terms.proofs.{Shared.{ℤ, ◌<◌, ◌^◌, ◌∙◌, ap, arith, FitsSigned, nat_abs, w128, ints, to_z-of_z, is_short_int}, ShortForm.{tested, not_whole}}
 use Rattle.calc_terms.proofs.rat.Rat.is_short.Goals as goal
 
 fitting : (z : ℤ) → nat_abs z < 2 ^ 127 → FitsSigned w128 z

@@ -1,5 +1,4 @@
-use Rattle.calc_terms.proofs.Shared.{◌∙◌, ap, sym, w128, fits_signed_from_abs, to_z-of_z, int_is_zero}
-use Rattle.calc_terms.proofs.ShortForm.{lowest_itself}
+use Rattle.calc_terms.proofs.{Shared.{◌∙◌, ap, sym, w128, fits_signed_from_abs, to_z-of_z, int_is_zero}, ShortForm.{lowest_itself}}
 use Rattle.calc_terms.proofs.rat.Rat.is_zero.Goals as goal
 
 pub returns : goal.returns

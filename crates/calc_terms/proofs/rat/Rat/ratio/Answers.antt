@@ -1,5 +1,4 @@
-use Rattle.calc_terms.proofs.Shared.{w128, to_z-of_z, ratio_of}
-use Rattle.calc_terms.proofs.Lowest.{same_ratio_of}
+use Rattle.calc_terms.proofs.{Shared.{w128, to_z-of_z, ratio_of}, Lowest.{same_ratio_of}}
 use Rattle.calc_terms.proofs.rat.Rat.ratio.Goals as goal
 
 pub returns-clause-value : goal.returns-clause-value

@@ -1,7 +1,5 @@
-use Rattle.child_lists.proofs.Shared.{◌≡◌, ◌<◌, Bool, get_or, sym, ap, ◌∙◌, arith, told, root_ids, IsChildAt, arity, kids_of, forest, seen_child, root_ids-nth}
-use Rattle.child_lists.proofs.ListedChildren.{children_number}
-use Rattle.child_lists.proofs.list.ChildList.child.Given.{Over}
-use Rattle.child_lists.proofs.list.ChildList.child.Goals.{After-index-ids-place}
+use Rattle.child_lists.proofs.{Shared.{◌≡◌, ◌<◌, Bool, get_or, sym, ap, ◌∙◌, arith, told, root_ids, IsChildAt, arity, kids_of, forest, seen_child, root_ids-nth}, ListedChildren.{children_number}}
+use Rattle.child_lists.proofs.{list.ChildList.child.Given.{Over}, list.ChildList.child.Goals.{After-index-ids-place}}
 use Rattle.child_lists.proofs.list.ChildList.child.Goals as goal
 
 pub child_id-requires-clause-within : goal.child_id-requires-clause-within

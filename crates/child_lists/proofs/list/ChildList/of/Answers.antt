@@ -1,6 +1,5 @@
-use Rattle.child_lists.proofs.Shared.{◌≡◌, ◌<◌, ℕ, List, [], ◌∷◌, ◌++◌, Some, length, append_assoc, length-append, sym, ap, ◌∙◌, arith, eqb-true, eqb-false, le-leb, lt-leb, root_ids, kids_of}
-use Rattle.child_lists.proofs.Shared.{forest, told}
-use Rattle.child_lists.proofs.ListedChildren.{end_none}
+use Rattle.child_lists.proofs.Shared.{◌≡◌, ◌<◌, ℕ, List, [], ◌∷◌, ◌++◌, Some, length, append_assoc, length-append, sym, ap, ◌∙◌, arith, eqb-true, eqb-false, le-leb, lt-leb, root_ids, kids_of, forest}
+use Rattle.child_lists.proofs.{Shared.{told}, ListedChildren.{end_none}}
 use Rattle.child_lists.proofs.list.ChildList.of.Goals as goal
 
 pub loop-id-init : goal.loop-id-init

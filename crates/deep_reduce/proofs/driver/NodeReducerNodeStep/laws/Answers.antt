@@ -1,6 +1,5 @@
 use Rattle.std.specs.Prelude.{⊤}
-use Rattle.deep_reduce.proofs.Shared.{Tree, Trees, none, more, EachTree, children_of}
-use Rattle.deep_reduce.proofs.Ready.{child_lacks, child_overflows, leaf_reduced}
+use Rattle.deep_reduce.proofs.{Shared.{Tree, Trees, none, more, EachTree, children_of}, Ready.{child_lacks, child_overflows, leaf_reduced}}
 use Rattle.deep_reduce.proofs.driver.NodeReducerNodeStep.laws.Goals as goal
 
 pub returns : goal.returns

@@ -1,7 +1,5 @@
 use Rattle.std.proofs.Common.{rules, refl}
-use Rattle.deep_reduce.proofs.Shared.{if_map, tree_of, gives_as}
-use Rattle.deep_reduce.proofs.NodeAnswers.{node_answered}
-use Rattle.deep_reduce.proofs.Ready.{over_answers, step_lacks, step_overflows}
+use Rattle.deep_reduce.proofs.{Shared.{if_map, tree_of, gives_as}, NodeAnswers.{node_answered}, Ready.{over_answers, step_lacks, step_overflows}}
 use Rattle.deep_reduce.proofs.driver.NodeReducerNodeStep.step.Goals as goal
 
 pub returns : goal.returns

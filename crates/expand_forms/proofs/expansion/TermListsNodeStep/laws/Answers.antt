@@ -1,6 +1,4 @@
-use Rattle.expand_forms.proofs.Shared.{arith, child_bits, children_of}
-use Rattle.expand_forms.proofs.OverAnswers.{all_polynomials, each_polynomial, leaf_expanded}
-use Rattle.expand_forms.proofs.PowersOfSums.{child_lacks, leaf_ready}
+use Rattle.expand_forms.proofs.{Shared.{arith, child_bits, children_of}, OverAnswers.{all_polynomials, each_polynomial, leaf_expanded}, PowersOfSums.{child_lacks, leaf_ready}}
 use Rattle.expand_forms.proofs.expansion.TermListsNodeStep.laws.Goals as goal
 
 pub returns : goal.returns

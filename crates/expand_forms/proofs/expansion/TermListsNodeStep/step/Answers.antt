@@ -1,5 +1,4 @@
-use Rattle.expand_forms.proofs.Shared.{rules}
-use Rattle.expand_forms.proofs.PowersOfSums.{beyond_most}
+use Rattle.expand_forms.proofs.{Shared.{rules}, PowersOfSums.{beyond_most}}
 use Rattle.expand_forms.proofs.expansion.TermListsNodeStep.step.Goals as goal
 
 pub returns : goal.returns

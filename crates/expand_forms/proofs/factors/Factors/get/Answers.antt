@@ -1,5 +1,4 @@
-use Rattle.expand_forms.proofs.Shared.{arith, drop, suc}
-use Rattle.expand_forms.proofs.TermReadings.{drop_all, factor_read, has_count}
+use Rattle.expand_forms.proofs.{Shared.{arith, drop, suc}, TermReadings.{drop_all, factor_read, has_count}}
 use Rattle.expand_forms.proofs.factors.Factors.get.Goals as goal
 
 pub returns-then-at-self : goal.returns-then-at-self

@@ -1,6 +1,5 @@
 use Rattle.std.proofs.Common.{◌<◌, lit<, length, map, ap, arith}
-use Rattle.linear_solve.proofs.Shared.{length-map, cleared_pivot, entries_of, pivot_of}
-use Rattle.linear_solve.proofs.Calculations.{each_long}
+use Rattle.linear_solve.proofs.{Shared.{length-map, cleared_pivot, entries_of, pivot_of}, Calculations.{each_long}}
 use Rattle.linear_solve.proofs.elimination.Elimination.settle_by.Goals as goal
 
 pub push-requires : goal.push-requires

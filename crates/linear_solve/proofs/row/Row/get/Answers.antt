@@ -1,6 +1,5 @@
 use Rattle.std.proofs.Common.{sym, ap, ◌∙◌, length, arith}
-use Rattle.linear_solve.proofs.Shared.{get_or_past, length-map, zero_fraction, value_of, entries_of}
-use Rattle.linear_solve.proofs.Entries.{zero_value}
+use Rattle.linear_solve.proofs.{Shared.{get_or_past, length-map, zero_fraction, value_of, entries_of}, Entries.{zero_value}}
 use Rattle.linear_solve.proofs.row.Row.get.Goals as goal
 
 pub returns-else-at-entries : goal.returns-else-at-entries

@@ -1,6 +1,5 @@
 use Rattle.std.proofs.Common.{◌<◌, length, Ok, Err, sym, arith}
-use Rattle.linear_solve.proofs.Shared.{err_from_is_err_and, Fraction, value_of, sum_of, entries_of, misfit_of}
-use Rattle.linear_solve.proofs.Entries.{add_told, longer, pair_all, pair_more, pair_stops}
+use Rattle.linear_solve.proofs.{Shared.{err_from_is_err_and, Fraction, value_of, sum_of, entries_of, misfit_of}, Entries.{add_told, longer, pair_all, pair_more, pair_stops}}
 use Rattle.linear_solve.proofs.row.Row.plus.Goals as goal
 
 pub returns-in_err-sum-clause-overflow : goal.returns-in_err-sum-clause-overflow

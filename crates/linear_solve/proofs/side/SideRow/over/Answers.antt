@@ -1,6 +1,5 @@
 use Rattle.std.proofs.Common.{ap, ◌∙◌}
-use Rattle.linear_solve.proofs.Shared.{is_zero_fraction}
-use Rattle.linear_solve.proofs.Entries.{nonzero_numerator}
+use Rattle.linear_solve.proofs.{Shared.{is_zero_fraction}, Entries.{nonzero_numerator}}
 use Rattle.linear_solve.proofs.side.SideRow.over.Goals as goal
 
 pub invert-requires : goal.invert-requires

@@ -1,5 +1,4 @@
-use Rattle.node_order.proofs.Shared.{◌∙◌, length, sym, ap, arith, tree_at, forest, nodes-flatten, one_at, arity_le, visits_length}
-use Rattle.node_order.proofs.Pairs.{shows_tree}
+use Rattle.node_order.proofs.{Shared.{◌∙◌, length, sym, ap, arith, tree_at, forest, nodes-flatten, one_at, arity_le, visits_length}, Pairs.{shows_tree}}
 use Rattle.node_order.proofs.fronts.Front.of.Goals as goal
 
 pub first-requires : goal.first-requires

@@ -1,6 +1,5 @@
-use Rattle.node_pool.proofs.Shared.{List, arith, ap, sym, subst, length, ◌∙◌, ◌≡◌, ◌∷◌, ℕ, Node, AreBelow, Contents, IsKept, noted, used, parent, put_before, IsBoundary}
-use Rattle.node_pool.proofs.{Shared.{between, since, until, free_of}, Cuts.boundary_le, Found.end_boundary, Keeping.{boundary_in, new_known, placed_before, room_unused}, Noting.last_part}
-use Rattle.node_pool.proofs.Splits.{boundary-append}
+use Rattle.node_pool.proofs.Shared.{List, arith, ap, sym, subst, length, ◌∙◌, ◌≡◌, ◌∷◌, ℕ, Node, AreBelow, Contents, IsKept, noted, used, parent, put_before, IsBoundary, between, since, until}
+use Rattle.node_pool.proofs.{Shared.{free_of}, Cuts.boundary_le, Found.end_boundary, Noting.last_part, Keeping.{boundary_in, new_known, placed_before, room_unused}, Splits.{boundary-append}}
 use Rattle.node_pool.proofs.pool.Pool.insert.Goals as goal
 
 pub take_least-id-requires-clause-some : goal.take_least-id-requires-clause-some

@@ -1,5 +1,4 @@
-use Rattle.node_pool.proofs.Shared.{rules, List, arith, ap, sym, subst, ◌∙◌, ◌≡◌, ◌≤◌, ◌+◌, ◌-◌, ℕ, Node, IsBoundary, exchanged, swapped, State}
-use Rattle.node_pool.proofs.Exchanges.{IsHalf, half}
+use Rattle.node_pool.proofs.{Shared.{rules, List, arith, ap, sym, subst, ◌∙◌, ◌≡◌, ◌≤◌, ◌+◌, ◌-◌, ℕ, Node, IsBoundary, exchanged, swapped, State}, Exchanges.{IsHalf, half}}
 use Rattle.node_pool.proofs.pool.Pool.swap_blocks.Goals as goal
 
 -- what the first move leaves

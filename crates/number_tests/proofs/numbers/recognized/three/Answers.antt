@@ -1,4 +1,5 @@
-use Rattle.number_tests.proofs.Shared.{rules, refl, ⊤, bare, Tree, represents_none, represents_handed, represents_with, represents_node, gives, gives_as, given_root, given_handed, given_rest, last_held, last_apart, other_root, ends_as}
+use Rattle.number_tests.proofs.Shared.{rules, refl, ⊤, bare, Tree, represents_none, represents_handed, represents_with, represents_node, gives, gives_as, given_root, given_handed, given_rest}
+use Rattle.number_tests.proofs.Shared.{last_held, last_apart, other_root, ends_as}
 use Rattle.calc_terms.specs.declared.kind.Kind.TheVariants as kind
 use Rattle.number_tests.proofs.numbers.recognized.three.Goals as goal
 

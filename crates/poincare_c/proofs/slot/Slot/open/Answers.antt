@@ -1,8 +1,6 @@
 use Rattle.std.proofs.Common.{◌≡◌, false, rules}
 use Rattle.poincare_c.proofs.SlotLemmas.{opening, refuses}
-use Rattle.poincare_c.specs.Slots.{opens}
-use Rattle.poincare_c.specs.Standings.{is_open}
-use Rattle.poincare_c.specs.declared.standing.Standing.TheVariants.{Open}
+use Rattle.poincare_c.specs.{Slots.{opens}, Standings.{is_open}, declared.standing.Standing.TheVariants.{Open}}
 use Rattle.poincare_c.proofs.slot.Slot.open.Goals as goal
 
 pub returns-in-Ok : goal.returns-in-Ok

@@ -1,6 +1,5 @@
 use Rattle.std.proofs.Common.{◌≡◌, ◌∙◌, ◌+◌, ◌<◌, ◌++◌, ◌∷◌, [], length, take, drop, get_or, arith, refl, sym, ap, subst}
-use Rattle.poincare_run.proofs.Shared.{take_all, take_more, drop_more, take-append-drop, err_from_is_err_and, stops_later, Goes, place_of}
-use Rattle.poincare_run.proofs.StepLemmas.{goes_nowhere, goes_on, breaks_after}
+use Rattle.poincare_run.proofs.{Shared.{take_all, take_more, drop_more, take-append-drop, err_from_is_err_and, stops_later, Goes, place_of}, StepLemmas.{goes_nowhere, goes_on, breaks_after}}
 use Rattle.poincare_run.proofs.dialog.Dialog.answer.Goals as goal
 
 pub loop-byte-init : goal.loop-byte-init

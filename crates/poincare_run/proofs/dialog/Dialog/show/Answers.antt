@@ -1,6 +1,5 @@
 use Rattle.std.proofs.Common.{◌≡◌, ◌++◌, ◌∷◌, [], List, ℕ, ap, sym, subst}
-use Rattle.poincare_run.proofs.Shared.{on_err_weaker, AppendsPart, AppendsPart-after, Seen, picture_text}
-use Rattle.poincare_run.proofs.PictureLemmas.{picture_wanted}
+use Rattle.poincare_run.proofs.{Shared.{on_err_weaker, AppendsPart, AppendsPart-after, Seen, picture_text}, PictureLemmas.{picture_wanted}}
 use Rattle.poincare_run.proofs.dialog.Dialog.show.Goals as goal
 
 pub returns-then-self-clause-err : goal.returns-then-self-clause-err

@@ -1,8 +1,6 @@
 use Rattle.std.proofs.Common.{◌∙◌, sym, ap}
 use Rattle.calc_terms.proofs.FractionFacts.{one_is}
-use Rattle.calc_terms.specs.FractionLaws.{one_times}
-use Rattle.calc_terms.specs.Fractions.{times}
-use Rattle.calc_terms.specs.Rat.{value_of}
+use Rattle.calc_terms.specs.{FractionLaws.{one_times}, Fractions.{times}, Rat.{value_of}}
 use Rattle.polynomials.specs.Polynomials.{summand}
 use Rattle.polynomials.proofs.term.Term.times.Goals as goal
 

@@ -1,10 +1,9 @@
 -- `give_back` makes room of the bytes, and hands it back with the allocator's token. Assumes `Logic`.
-use Rattle.raw_region.proofs.Shared.{◌≡◌, List, [], ◌∷◌, ◌++◌, length, refl, sym, ap, subst, ◌∙◌, lit<, Fn, inst_fn, Val, vunit, ftrue, froom, flft, SProp, never, id⊢}
-use Rattle.raw_region.proofs.Shared.{Env, WpFn, ◌⊑◌, ⊑_trans, fact, tables, raw, ◌⊛◌, later, prop, at_ret, ◌$◌, ◌∵◌, qed, by, move, drop, keep, use1, split, split3, join}
-use Rattle.raw_region.proofs.Shared.{group, rewrite, regoal, fsplit, fjoin, feq_i, feq_l, await, whole, sub, stop, fld, lit, unit_lit, of_opd, and_then, no_more, first, blocks, exec, returns}
-use Rattle.raw_region.proofs.Shared.{enter, alloc_all, pass_all, free_all, look_at, get, get_in, sets, env, RefOf, yes, no, param, owns, Ptr, block_ptr, in_a_block, plain, types_at, nothing}
-use Rattle.raw_region.proofs.Shared.{heard, alive, after, proved_at, leaves, byte, block_owns, Stays, stay_dropped, walk_of, Goes-dropped, ty_array, Al, fm}
-use Rattle.raw_region.proofs.{Blocks.{only, Bk, block_val, block_had, block_size}, block.Block.give_back.Statement.statement}
+use Rattle.raw_region.proofs.Shared.{◌≡◌, List, [], ◌∷◌, ◌++◌, length, refl, sym, ap, subst, ◌∙◌, lit<, Fn, inst_fn, Val, vunit, ftrue, froom, flft, SProp, never, id⊢, Env, WpFn, ◌⊑◌, ⊑_trans, fact}
+use Rattle.raw_region.proofs.Shared.{tables, raw, ◌⊛◌, later, prop, at_ret, ◌$◌, ◌∵◌, qed, by, move, drop, keep, use1, split, split3, join, group, rewrite, regoal, fsplit, fjoin, feq_i, feq_l, await}
+use Rattle.raw_region.proofs.Shared.{whole, sub, stop, fld, lit, unit_lit, of_opd, and_then, no_more, first, blocks, exec, returns, enter, alloc_all, pass_all, free_all, look_at, get, get_in, sets}
+use Rattle.raw_region.proofs.Shared.{env, RefOf, yes, no, param, owns, Ptr, block_ptr, in_a_block, plain, types_at, nothing, heard, alive, after, proved_at, leaves, byte, block_owns, Stays}
+use Rattle.raw_region.proofs.{Shared.{stay_dropped, walk_of, Goes-dropped, ty_array, Al, fm}, block.Block.give_back.Statement.statement, Blocks.{only, Bk, block_val, block_had, block_size}}
 use mir.{Val.{has_ty, WT}, Syntax.ty_unit, Raw.raw as bare}
 use types.{Kit.{‵, given, !, learn}, ByLocal.lands_last}
 use denote.{RawPtr.Bytes.bytes-room, Triple.Call.calls_at_last}

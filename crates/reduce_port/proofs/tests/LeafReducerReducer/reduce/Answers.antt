@@ -1,22 +1,13 @@
 use Rattle.std.proofs.Common.{ap, sym, subst, ◌∙◌, arith}
-use Rattle.breakers.specs.Breakers.{CalmChecks}
-use Rattle.breakers.specs.Watch.{states}
-use Rattle.calc_measures.specs.PlainValues.{plain_value}
+use Rattle.breakers.specs.{Breakers.{CalmChecks}, Watch.{states}}
+use Rattle.calc_measures.specs.{PlainValues.{plain_value}, PlainTrees.{IsPlainAnswer}}
 use Rattle.calc_terms.specs.Trees.{Tree}
-use Rattle.breakers.proofs.Runs.{calm_checks_raise_no_trips}
-use Rattle.breakers.proofs.Stops.{one_calm, calm_up_to, trips_at_once}
-use Rattle.reduce_port.proofs.Faults.{interrupted}
-use Rattle.reduce_port.proofs.Leaves.{leaf_of, one_node}
+use Rattle.breakers.proofs.{Runs.{calm_checks_raise_no_trips}, Stops.{one_calm, calm_up_to, trips_at_once}}
+use Rattle.reduce_port.proofs.{Faults.{interrupted}, Leaves.{leaf_of, one_node}}
 use Rattle.calc_algebra.proofs.Rewritings.{Rewrites-refl, reduces}
 use Rattle.reduce_port.specs.EasyTrees.{Evaluates}
-use Rattle.calc_measures.specs.PlainTrees.{IsPlainAnswer}
-use Rattle.tree_handles.specs.Handed.{tree_of}
-use Rattle.tree_handles.proofs.Fronts.{behind_first, front_same, front_end, front_without, front_after}
-use Rattle.tree_handles.proofs.Given.{gives, represents_handed}
-use Rattle.tree_handles.proofs.Lasts.{last_tree}
-use Rattle.tree_handles.proofs.Roots.{root_held}
-use Rattle.tree_handles.specs.Expressions.{plain}
-use Rattle.tree_handles.specs.Standing.{forest}
+use Rattle.tree_handles.specs.{Handed.{tree_of}, Expressions.{plain}, Standing.{forest}}
+use Rattle.tree_handles.proofs.{Fronts.{behind_first, front_same, front_end, front_without, front_after}, Given.{gives, represents_handed}, Lasts.{last_tree}, Roots.{root_held}}
 use Rattle.reduce_port.proofs.tests.LeafReducerReducer.reduce.Goals as goal
 
 pub kind-requires-clause-live : goal.kind-requires-clause-live

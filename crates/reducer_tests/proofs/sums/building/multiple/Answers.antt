@@ -1,5 +1,6 @@
 use Rattle.std.proofs.Common.{◌∙◌, ap, rules}
-use Rattle.reducer_tests.proofs.Shared.{is_number, is_reduced, number_words, put_reduces, plain, without_root, gives_as, given_handed, given_other, given_apart, given_rest, given_same, given_told, eqb-sym, if_map}
+use Rattle.reducer_tests.proofs.Shared.{is_number, is_reduced, number_words, put_reduces, plain, without_root, gives_as, given_handed, given_other, given_apart, given_rest, given_same, given_told}
+use Rattle.reducer_tests.proofs.Shared.{eqb-sym, if_map}
 use Rattle.reducer_tests.proofs.sums.building.multiple.Goals as goal
 
 pub put_coefficient-requires : goal.put_coefficient-requires

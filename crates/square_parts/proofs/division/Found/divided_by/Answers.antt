@@ -1,6 +1,4 @@
-use Rattle.square_parts.proofs.Shared.{◌≡◌, refl, true, false}
-use Rattle.square_parts.proofs.Steps.{done_with}
-use Rattle.square_parts.proofs.Ends.{next_prime, behind_prime}
+use Rattle.square_parts.proofs.{Shared.{◌≡◌, refl, true, false}, Steps.{done_with}, Ends.{next_prime, behind_prime}}
 use Rattle.square_parts.proofs.division.Found.divided_by.Goals as goal
 
 pub loop-found-init : goal.loop-found-init

@@ -1,5 +1,4 @@
-use Rattle.square_parts.proofs.Shared.{◌≡◌, rules, false, ◌∷◌}
-use Rattle.square_parts.proofs.Ends.{next_four, without_four}
+use Rattle.square_parts.proofs.{Shared.{◌≡◌, rules, false, ◌∷◌}, Ends.{next_four, without_four}}
 use Rattle.square_parts.proofs.division.Found.divided_by_four.Goals as goal
 
 pub one_divides-requires-clause-a : goal.one_divides-requires-clause-a

@@ -1,6 +1,5 @@
-use Rattle.square_parts.proofs.Shared.{◌<◌, ◌*◌, ◌∙◌, sym, subst, rules, drop, IsDividedBelow}
-use Rattle.square_parts.proofs.Steps.{rest_positive}
-use Rattle.square_parts.proofs.Ends.{starts_with_four, end_by_square, end_by_limit, divided_by_first, divided_by_none}
+use Rattle.square_parts.proofs.{Shared.{◌<◌, ◌*◌, ◌∙◌, sym, subst, rules, drop, IsDividedBelow}, Steps.{rest_positive}, Ends.{starts_with_four, end_by_square, end_by_limit, divided_by_first}}
+use Rattle.square_parts.proofs.Ends.{divided_by_none}
 use Rattle.square_parts.proofs.division.Found.divided_by_primes.Goals as goal
 
 pub returns-then-from-found-clause-no_other : goal.returns-then-from-found-clause-no_other

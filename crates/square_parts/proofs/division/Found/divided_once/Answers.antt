@@ -1,5 +1,4 @@
-use Rattle.square_parts.proofs.Shared.{◌≡◌, ℕ, true, false, ◌*◌, ◌/◌, refl, arith}
-use Rattle.square_parts.proofs.Steps.{IsStep, square_found, clean_found}
+use Rattle.square_parts.proofs.{Shared.{◌≡◌, ℕ, true, false, ◌*◌, ◌/◌, refl, arith}, Steps.{IsStep, square_found, clean_found}}
 use Rattle.square_parts.proofs.division.Found.divided_once.Goals as goal
 use Rattle.square_parts.proofs.division.Found.divided_once.Goals.{Then-divides, Else-divides}
 

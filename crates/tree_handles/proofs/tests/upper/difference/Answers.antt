@@ -1,9 +1,6 @@
 use Rattle.std.proofs.Common.{◌∙◌, ap, refl}
-use Rattle.tree_handles.proofs.Shared.{lowest, Ratio, Forest, without_root}
-use Rattle.tree_handles.proofs.Fronts.{behind_first, behind_later, behind_new, front_same, front_without, front_after, front_after_two}
-use Rattle.tree_handles.proofs.Given.{given_handed, given_other, given_apart, given_told, given_same, given_rest, given_without, gives_as, handed_beside}
-use Rattle.tree_handles.proofs.Roots.{tree-without}
-use Rattle.tree_handles.proofs.Outcomes.{eqb-sym}
+use Rattle.tree_handles.proofs.{Shared.{lowest, Ratio, Forest, without_root}, Fronts.{behind_first, behind_later, behind_new, front_same, front_without, front_after, front_after_two}}
+use Rattle.tree_handles.proofs.{Given.{given_handed, given_other, given_apart, given_told, given_same, given_rest, given_without, gives_as, handed_beside}, Roots.{tree-without}, Outcomes.{eqb-sym}}
 use Rattle.tree_handles.proofs.tests.upper.difference.Goals as goal
 
 pub node_over_two-requires-clause-first : goal.node_over_two-requires-clause-first

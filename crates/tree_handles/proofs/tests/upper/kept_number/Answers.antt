@@ -1,9 +1,6 @@
 use Rattle.std.proofs.Common.{◌≡◌, ◌⊎◌, inl, inr, ◌∙◌, ap, sym}
-use Rattle.tree_handles.proofs.Shared.{Fraction, value_of, Tree, num, is_num, without_root, forest}
-use Rattle.tree_handles.proofs.Fronts.{behind_first, behind_later, front_same, front_at, front_without, front_after}
-use Rattle.tree_handles.proofs.Given.{gives_as, handed_beside, handed_at, owned}
-use Rattle.tree_handles.proofs.Lasts.{plain_root}
-use Rattle.tree_handles.proofs.Roots.{root_held}
+use Rattle.tree_handles.proofs.{Shared.{Fraction, value_of, Tree, num, is_num, without_root, forest}, Fronts.{behind_first, behind_later, front_same, front_at, front_without, front_after}}
+use Rattle.tree_handles.proofs.{Given.{gives_as, handed_beside, handed_at, owned}, Lasts.{plain_root}, Roots.{root_held}}
 use Rattle.tree_handles.proofs.tests.upper.kept_number.Goals as goal
 
 pub rational-x-requires-clause-live : goal.rational-x-requires-clause-live

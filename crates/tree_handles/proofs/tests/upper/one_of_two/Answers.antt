@@ -1,7 +1,5 @@
 use Rattle.std.proofs.Common.{ap, ◌∙◌}
-use Rattle.tree_handles.proofs.Shared.{is_num, plain, Forest}
-use Rattle.tree_handles.proofs.Given.{given_root, given_handed, given_other, given_apart, given_told, given_same}
-use Rattle.tree_handles.proofs.Outcomes.{eqb-sym}
+use Rattle.tree_handles.proofs.{Shared.{is_num, plain, Forest}, Given.{given_root, given_handed, given_other, given_apart, given_told, given_same}, Outcomes.{eqb-sym}}
 use Rattle.tree_handles.proofs.tests.upper.one_of_two.Goals as goal
 
 pub kept_number-requires-clause-first : goal.kept_number-requires-clause-first

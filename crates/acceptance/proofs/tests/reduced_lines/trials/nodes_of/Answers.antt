@@ -1,5 +1,4 @@
-use Rattle.tree_handles.proofs.Given.{given_handed}
-use Rattle.tree_handles.proofs.Roots.{root_held}
+use Rattle.tree_handles.proofs.{Given.{given_handed}, Roots.{root_held}}
 use Rattle.acceptance.proofs.tests.reduced_lines.trials.nodes_of.Goals as goal
 
 pub tree_nodes-requires-clause-live : goal.tree_nodes-requires-clause-live
