@@ -10,6 +10,7 @@ usage: build.py ROOT WORD..
 
 import fcntl
 import hashlib
+import math
 import os
 import re
 import shutil
@@ -180,9 +181,10 @@ class Build:
             while self.left and not self.failed:
                 if found := self.can_begin():
                     self.left.remove(found[0])
-                    jobs = self.lanes // (len(self.under_way) + len(found))
+                    # No processor is left idle, though some have more than one process at times.
+                    jobs = math.ceil(self.lanes / (len(self.under_way) + len(found)))
                     self.under_way.add(found[0].name)
-                    return found[0], max(1, min(jobs, MOST_JOBS))
+                    return found[0], min(jobs, MOST_JOBS)
                 self.changed.wait()
             return None
 
