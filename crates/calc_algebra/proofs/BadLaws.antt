@@ -1,46 +1,39 @@
 -- A Bad tree has no value, and an Easy tree has one or is Bad.
-use Rattle.calc_algebra.proofs.{InverseLaws.{zero_is_not_one}, Shared.{◌≡◌, ℕ, ◌⊎◌, inl, inr, ℤ, pos, [], true, sym, ap, ◌∙◌, arith, ◌≤ℤ◌, int_is_negative, Fraction, zero_fraction, one_fraction}}
-use Rattle.calc_algebra.proofs.Shared.{whole_fraction, lowest, gcd, Tree, undef, add, mult, power, root, neg, sub, div, Trees, none, more, IsPart, itself, in_add, in_mult, in_base, in_exponent}
+use Rattle.calc_algebra.proofs.{InverseLaws.{zero_is_not_one}, Shared.{Assignment, Means, [], ◌≡◌, ℕ, ◌⊎◌, inl, inr, ℤ, pos, true, sym, ◌∙◌, arith, ◌≤ℤ◌, int_is_negative, Fraction, one_fraction}}
+use Rattle.calc_algebra.proofs.Shared.{whole_fraction, Tree, undef, add, mult, power, root, neg, sub, div, Trees, none, more, IsPart, itself, in_add, in_mult, in_base, in_exponent}
 use Rattle.calc_algebra.proofs.Shared.{in_root, in_neg, in_left, in_right, in_dividend, in_divisor, IsPartOf, first, later, Surd, surd_of, surd_one, Same, Inverts, MeansSum, MeansProduct}
-use Rattle.calc_algebra.proofs.{Shared.{IsWholePower, IsPower, IsRootOf, IsAssignment, HasValue, IsNegative, IsHalf, GivesZeroNoPower, IsBadNode, IsBad, IsEasy}, SurdLaws.{Agree, Agree-Same}}
+use Rattle.calc_algebra.proofs.{Shared.{IsWholePower, IsPower, IsRootOf, HasValue, IsNegative, IsHalf, GivesZeroNoPower, IsBadNode, IsBad, IsEasy}, SurdLaws.{Agree, Agree-Same}}
 use Rattle.calc_algebra.proofs.{SurdLaws.{Agree-sym, Agree-trans, Agree-eq, Agree-surd_times_right, surd_times-nil}, SquareClassLaws.{Same-Agree}, PowerLaws.{root_zero}, TermLaws.{Same-refl}}
 use Rattle.calc_algebra.proofs.MeaningLaws.{one_meaning, one_rational, whole_is_no_half, whole_one, class_coefficient-surd_of}
 
--- a value of a tree comes from values of its parts
-Valued : Tree → Type 0
-Valued t = (v : Surd) × HasValue t v
+module _ (f : Assignment) where
+  mutual
+    -- where a tree has a meaning, each part has
+    pub part_means : (p t : Tree) → IsPart p t → (v : Surd) → Means t f v → (w : Surd) × Means p f w
+    part_means p t itself v m = (v, m)
+    part_means p (add ts) (in_add h) v (w, m, e) = part_of_sum p ts h w m
+    part_means p (mult ts) (in_mult h) v (w, m, e) = part_of_product p ts h w m
+    part_means p (power b e) (in_base h) v (w, x, m, n, i) = part_means p b h w m
+    part_means p (power b e) (in_exponent h) v (w, x, m, n, i) = part_means p e h x n
+    part_means p (root a) (in_root h) v (x, m, i) = part_means p a h x m
+    part_means p (neg a) (in_neg h) v (w, m, e) = part_means p a h w m
+    part_means p (sub a b) (in_left h) v (w, u, m, n, e) = part_means p a h w m
+    part_means p (sub a b) (in_right h) v (w, u, m, n, e) = part_means p b h u n
+    part_means p (div a b) (in_dividend h) v (w, u, y, m, n, i, e) = part_means p a h w m
+    part_means p (div a b) (in_divisor h) v (w, u, y, m, n, i, e) = part_means p b h u n
 
-mutual
-  unfolding Valued
+    part_of_sum : (p : Tree) (ts : Trees) → IsPartOf p ts → (v : Surd) → MeansSum ts f v → (w : Surd) × Means p f w
+    part_of_sum p none h v m = elim h [ ]
+    part_of_sum p (more t ts) (first h) v (a, b, m, n, e) = part_means p t h a m
+    part_of_sum p (more t ts) (later h) v (a, b, m, n, e) = part_of_sum p ts h b n
 
-  part_valued : (p t : Tree) → IsPart p t → (v : Surd) → HasValue t v → Valued p
-  part_valued p t itself v m = (v, m)
-  part_valued p (add ts) (in_add h) v (w, m, e) = sum_part p ts h w m
-  part_valued p (mult ts) (in_mult h) v (w, m, e) = product_part p ts h w m
-  part_valued p (power b e) (in_base h) v (w, x, m, n, i) = part_valued p b h w m
-  part_valued p (power b e) (in_exponent h) v (w, x, m, n, i) = part_valued p e h x n
-  part_valued p (root a) (in_root h) v (x, m, i) = part_valued p a h x m
-  part_valued p (neg a) (in_neg h) v (w, m, e) = part_valued p a h w m
-  part_valued p (sub a b) (in_left h) v (w, u, m, n, e) = part_valued p a h w m
-  part_valued p (sub a b) (in_right h) v (w, u, m, n, e) = part_valued p b h u n
-  part_valued p (div a b) (in_dividend h) v (w, u, y, m, n, i, e) = part_valued p a h w m
-  part_valued p (div a b) (in_divisor h) v (w, u, y, m, n, i, e) = part_valued p b h u n
-
-  sum_part : (p : Tree) (ts : Trees) → IsPartOf p ts → (v : Surd) → MeansSum ts [] v → Valued p
-  sum_part p none h v m = elim h [ ]
-  sum_part p (more t ts) (first h) v (a, b, m, n, e) = part_valued p t h a m
-  sum_part p (more t ts) (later h) v (a, b, m, n, e) = sum_part p ts h b n
-
-  product_part : (p : Tree) (ts : Trees) → IsPartOf p ts → (v : Surd) → MeansProduct ts [] v → Valued p
-  product_part p none h v m = elim h [ ]
-  product_part p (more t ts) (first h) v (a, b, m, n, e) = part_valued p t h a m
-  product_part p (more t ts) (later h) v (a, b, m, n, e) = product_part p ts h b n
-
-empty_once : IsAssignment []
-empty_once = tt
+    part_of_product : (p : Tree) (ts : Trees) → IsPartOf p ts → (v : Surd) → MeansProduct ts f v → (w : Surd) × Means p f w
+    part_of_product p none h v m = elim h [ ]
+    part_of_product p (more t ts) (first h) v (a, b, m, n, e) = part_means p t h a m
+    part_of_product p (more t ts) (later h) v (a, b, m, n, e) = part_of_product p ts h b n
 
 one_value : (t : Tree) (v w : Surd) → HasValue t v → HasValue t w → Agree v w
-one_value t v w m n = one_meaning [] empty_once t v w m n
+one_value t v w m n = one_meaning [] tt t v w m n
 
 -- zero has no inverse
 no_inverse : (y w : Surd) → Agree w [] → Inverts y w → ⊥
@@ -98,8 +91,7 @@ bad_node (root a) (q, g, n) v (x, m, (q', s, i)) =
 bad_node _ h v m = h
 
 pub bad_has_no_value : (t : Tree) (v : Surd) → IsBad t → HasValue t v → ⊥
-unfolding Valued
-bad_has_no_value t v (p, h, b) m = let (w, n) = part_valued p t h v m in bad_node p b w n
+bad_has_no_value t v (p, h, b) m = let (w, n) = part_means [] p t h v m in bad_node p b w n
 
 pub easy_decided : (t : Tree) → IsEasy t → IsBad t ⊎ ((v : Surd) × HasValue t v)
 easy_decided t e = e.decided t itself

@@ -1,5 +1,5 @@
 -- A test that surds are the same, for examples that compute.
-use Rattle.calc_algebra.proofs.Shared.{◌≡◌, ℕ, zero, suc, [], ◌∷◌, List, Bool, true, false, ◌&&◌, ◌==◌, arith, ℤ, pos, negsuc, Contains, and_parts, eqb-true, Fraction}
+use Rattle.calc_algebra.proofs.Shared.{◌≡◌, ℕ, zero, suc, ◌∷◌, List, Bool, true, false, ◌&&◌, ◌==◌, arith, ℤ, pos, negsuc, Contains, and_parts, eqb-true, Fraction, []}
 use Rattle.calc_algebra.proofs.Shared.{fraction_path, Surd, class_coefficient, radicands, Same}
 
 abbrev same_int : ℤ → ℤ → Bool

@@ -1,7 +1,7 @@
 -- What the computed functions on naturals give.
 use Rattle.calc_algebra.proofs.Shared.{◌≡◌, ℕ, zero, suc, ◌+◌, ◌*◌, ◌^◌, ◌≤◌, ◌<◌, true, refl, arith, inl, inr, ◌/◌, ◌%◌, ap, sym, subst, ◌⊎◌, mod-eq-zero_of_dvd, dvd_of_mod-eq-zero, dvd_trans}
 use Rattle.calc_algebra.proofs.Shared.{square_root, trial_limit, without, left_from, left_of, IsTried, empty_product, one_factor_more, are_alike, dvd-mul_right, mul-div_cancel', ◌∣◌}
-use Rattle.calc_algebra.proofs.SquareClassLaws.{alike_from, alike_true}
+use Rattle.calc_algebra.proofs.{SquareClassLaws.{alike_from, alike_true}, SquareRootLaws.{factor_pos}}
 
 pub below_power : (k : ℕ) → k < 2 ^ k
 below_power zero = omega arith
@@ -18,9 +18,6 @@ alike_test r s (t, p, e) = alike_true r s t (record { square = e; positive = p }
 
 -- ---- trial division
 
-positive_quotient : (d q r : ℕ) → 0 < r → d * q ≡ r → 0 < q
-positive_quotient d q r p e = grind arith
-
 smaller_quotient : (steps d q r : ℕ) → 2 ≤ d → d * q ≡ r → r < 2 ^ suc steps → q < 2 ^ steps
 smaller_quotient steps d q r h e l = grind arith
 
@@ -31,7 +28,7 @@ without_free (suc steps) d r h p l x = by (r % d) refl (λ p' l'. without_free s
     by : (m : ℕ) → r % d ≡ m → (0 < r / d → r / d < 2 ^ steps → d ∣ without steps d (r / d) → ⊥) → d ∣ (elim m [ zero ↦ without steps d (r / d) | suc m' ↦ r ]) → ⊥
     by zero e go x =
         let f = mul-div_cancel' d (dvd_of_mod-eq-zero d e) in
-        go (positive_quotient d (r / d) r p f) (smaller_quotient steps d (r / d) r h f l) x
+        go (factor_pos d (r / d) r f p) (smaller_quotient steps d (r / d) r h f l) x
     by (suc m) e go x = let z = mod-eq-zero_of_dvd d x in absurd (omega arith)
 
 without_tried : (steps d r : ℕ) → 2 ≤ d → d ≤ trial_limit → (m : ℕ) × IsTried m × (r ≡ without steps d r * m)
@@ -56,9 +53,6 @@ tried_times : {m n : ℕ} → IsTried m → IsTried n → IsTried (m * n)
 tried_times {n = n} empty_product u = subst IsTried (omega arith) u
 tried_times {n = n} (one_factor_more {d} {m} h k t) u = subst IsTried (omega arith) (one_factor_more h k (tried_times t u))
 
-positive_left : (r x m : ℕ) → 0 < r → r ≡ x * m → 0 < x
-positive_left r x m p e = grind arith
-
 free_from : (steps d w x : ℕ) → LeftOf steps (suc d) w x → (d ∣ w → ⊥) → (e : ℕ) → d ≤ e → e < d + suc steps → e ∣ x → ⊥
 free_from steps d w x l none e a b y = by (order d e a)
   where
@@ -77,9 +71,9 @@ left_from_is zero d r h k p = record { positive = p; free = λ e a b x. absurd (
 left_from_is (suc steps) d r h k p =
     let (n, u, f) = without_tried r d r h (omega arith) in
     let w : ℕ = without r d r in
-    let l = left_from_is steps (suc d) w (omega arith) (omega arith) (positive_left r w n p f) in
+    let l = left_from_is steps (suc d) w (omega arith) (omega arith) (factor_pos n w r (omega (arith, f)) p) in
     let (m, t, g) = l.tried in
-    record { positive = l.positive; free = free_from steps d w (left_from steps (suc d) w) l (without_free r d r h p (below_power r)); tried = (m * n, tried_times t u, joined (left_from steps (suc d) w) w m n r f g) }
+    record { positive = l.positive; free = free_from steps d w (left_from steps (suc d) w) l (without_free r d r h p (below_power r)); tried = (m * n, tried_times {m = m} {n = n} t u, joined (left_from steps (suc d) w) w m n r f g) }
   where
     joined : (x w m n r : ℕ) → r ≡ w * n → w ≡ x * m → r ≡ x * (m * n)
     joined x w m n r f g = omega (arith, ap (λ y. y * n) g)

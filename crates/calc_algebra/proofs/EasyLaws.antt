@@ -1,5 +1,5 @@
 -- Bad and Easy trees from their children, and what their reduced trees tell.
-use Rattle.calc_algebra.proofs.Shared.{arith, ◌≡◌, ◌≢◌, ℕ, ◌≤◌, ◌⊎◌, inl, inr, ℤ, pos, negsuc, List, [], ◌∷◌, ◌++◌, true, false, refl, subst, ◌≤ℤ◌, HasValue, IsZero, IsWhole, IsNegative}
+use Rattle.calc_algebra.proofs.Shared.{refl, ◌∷◌, arith, ◌≡◌, ◌≢◌, ℕ, ◌≤◌, ◌⊎◌, inl, inr, ℤ, pos, negsuc, List, ◌++◌, true, false, subst, ◌≤ℤ◌, HasValue, IsZero, IsWhole, IsNegative, []}
 use Rattle.calc_algebra.proofs.Shared.{GivesZeroNoPower, IsBadNode, IsBad, IsEasy, Fraction, zero_fraction, whole_fraction, int_is_negative, IsPower, IsRootOf, IsNumber, value, classes, Same, Surd}
 use Rattle.calc_algebra.proofs.Shared.{surd_of, Tree, num, undef, add, mult, power, root, neg, sub, div, Trees, none, more, names, names_of, IsPart, itself, in_add, in_mult, in_base, in_exponent}
 use Rattle.calc_algebra.proofs.{Shared.{in_root, in_neg, in_left, in_right, in_dividend, in_divisor, IsPartOf, first, later}, MeaningLaws.{Means-Same, Same-sym}, MeaningRewrites.{KeepsMeanings}}
@@ -26,32 +26,28 @@ mutual
   IsPartOf-trans p q (more t ts) h (first k) = first (IsPart-trans p q t h k)
   IsPartOf-trans p q (more t ts) h (later k) = later (IsPartOf-trans p q ts h k)
 
-left_empty : (a b : List (List ℕ)) → a ++ b ≡ [] → a ≡ []
-left_empty [] b e = refl
-left_empty (x ∷ a) b e = cc
-
-right_empty : (a b : List (List ℕ)) → a ++ b ≡ [] → b ≡ []
-right_empty [] b e = e
-right_empty (x ∷ a) b e = cc
+both_empty : (a b : List (List ℕ)) → a ++ b ≡ [] → (a ≡ []) × (b ≡ [])
+both_empty [] b e = (refl, e)
+both_empty (x ∷ a) b e = cc
 
 mutual
   pub names_of_part : (p t : Tree) → IsPart p t → names t ≡ [] → names p ≡ []
   names_of_part p t itself e = e
   names_of_part p (add ts) (in_add h) e = names_of_parts p ts h e
   names_of_part p (mult ts) (in_mult h) e = names_of_parts p ts h e
-  names_of_part p (power b g) (in_base h) e = names_of_part p b h (left_empty (names b) (names g) e)
-  names_of_part p (power b g) (in_exponent h) e = names_of_part p g h (right_empty (names b) (names g) e)
+  names_of_part p (power b g) (in_base h) e = names_of_part p b h (both_empty (names b) (names g) e).0
+  names_of_part p (power b g) (in_exponent h) e = names_of_part p g h (both_empty (names b) (names g) e).1
   names_of_part p (root a) (in_root h) e = names_of_part p a h e
   names_of_part p (neg a) (in_neg h) e = names_of_part p a h e
-  names_of_part p (sub a b) (in_left h) e = names_of_part p a h (left_empty (names a) (names b) e)
-  names_of_part p (sub a b) (in_right h) e = names_of_part p b h (right_empty (names a) (names b) e)
-  names_of_part p (div a b) (in_dividend h) e = names_of_part p a h (left_empty (names a) (names b) e)
-  names_of_part p (div a b) (in_divisor h) e = names_of_part p b h (right_empty (names a) (names b) e)
+  names_of_part p (sub a b) (in_left h) e = names_of_part p a h (both_empty (names a) (names b) e).0
+  names_of_part p (sub a b) (in_right h) e = names_of_part p b h (both_empty (names a) (names b) e).1
+  names_of_part p (div a b) (in_dividend h) e = names_of_part p a h (both_empty (names a) (names b) e).0
+  names_of_part p (div a b) (in_divisor h) e = names_of_part p b h (both_empty (names a) (names b) e).1
 
   names_of_parts : (p : Tree) (ts : Trees) → IsPartOf p ts → names_of ts ≡ [] → names p ≡ []
   names_of_parts p none h e = elim h [ ]
-  names_of_parts p (more t ts) (first h) e = names_of_part p t h (left_empty (names t) (names_of ts) e)
-  names_of_parts p (more t ts) (later h) e = names_of_parts p ts h (right_empty (names t) (names_of ts) e)
+  names_of_parts p (more t ts) (first h) e = names_of_part p t h (both_empty (names t) (names_of ts) e).0
+  names_of_parts p (more t ts) (later h) e = names_of_parts p ts h (both_empty (names t) (names_of ts) e).1
 
 -- each part of an Easy tree is Easy
 pub easy_part : (p t : Tree) → IsPart p t → IsEasy t → IsEasy p
@@ -84,76 +80,52 @@ bad_among (more t ts) (inl (p, h, b)) = (p, first h, b)
 bad_among (more t ts) (inr h) = let (p, k, b) = bad_among ts h in (p, later k, b)
 
 -- a sum is Bad exactly where a child is
-sum_by_part : (p : Tree) (ts : Trees) → IsPart p (add ts) → IsBadNode p → HasBad ts
-sum_by_part p ts h b = grind (arith, has_bad)
-
 pub bad_sum : (ts : Trees) → IsBad (add ts) → HasBad ts
-bad_sum ts (p, h, b) = sum_by_part p ts h b
+bad_sum ts h = grind (arith, has_bad)
 
 pub sum_of_bad : (ts : Trees) → HasBad ts → IsBad (add ts)
 sum_of_bad ts h = let (p, k, b) = bad_among ts h in (p, in_add k, b)
 
 -- and a product
-product_by_part : (p : Tree) (ts : Trees) → IsPart p (mult ts) → IsBadNode p → HasBad ts
-product_by_part p ts h b = grind (arith, has_bad)
-
 pub bad_product : (ts : Trees) → IsBad (mult ts) → HasBad ts
-bad_product ts (p, h, b) = product_by_part p ts h b
+bad_product ts h = grind (arith, has_bad)
 
 pub product_of_bad : (ts : Trees) → HasBad ts → IsBad (mult ts)
 product_of_bad ts h = let (p, k, b) = bad_among ts h in (p, in_mult k, b)
 
-neg_by_part : (p a : Tree) → IsPart p (neg a) → IsBadNode p → IsBad a
-neg_by_part p a h b = grind arith
-
 pub bad_neg : (a : Tree) → IsBad (neg a) → IsBad a
-bad_neg a (p, h, b) = neg_by_part p a h b
-
-sub_by_part : (p a b : Tree) → IsPart p (sub a b) → IsBadNode p → IsBad a ⊎ IsBad b
-sub_by_part p a b h n = grind arith
+bad_neg a h = grind arith
 
 pub bad_sub : (a b : Tree) → IsBad (sub a b) → IsBad a ⊎ IsBad b
-bad_sub a b (p, h, n) = sub_by_part p a b h n
+bad_sub a b h = grind arith
 
 -- a quotient is Bad where a child is, or the divisor is zero
-div_by_part : (p a b : Tree) → IsPart p (div a b) → IsBadNode p → IsBad a ⊎ (IsBad b ⊎ IsZero b)
-div_by_part p a b h n = grind arith
-
 pub bad_div : (a b : Tree) → IsBad (div a b) → IsBad a ⊎ (IsBad b ⊎ IsZero b)
-bad_div a b (p, h, n) = div_by_part p a b h n
+bad_div a b h = grind arith
 
 pub div_by_zero_is_bad : (a b : Tree) → IsZero b → IsBad (div a b)
 div_by_zero_is_bad a b z = (div a b, itself, z)
 
 -- a power is Bad where a child is, or its base has no such power
-power_by_part : (p b e : Tree) → IsPart p (power b e) → IsBadNode p → IsBad b ⊎ (IsBad e ⊎ IsBadNode (power b e))
-power_by_part p b e itself n = inr (inr n)
-power_by_part p b e (in_base h) n = inl (p, h, n)
-power_by_part p b e (in_exponent h) n = inr (inl (p, h, n))
-
 pub bad_power : (b e : Tree) → IsBad (power b e) → IsBad b ⊎ (IsBad e ⊎ IsBadNode (power b e))
-bad_power b e (p, h, n) = power_by_part p b e h n
+bad_power b e (p, itself, n) = inr (inr n)
+bad_power b e (p, in_base h, n) = inl (p, h, n)
+bad_power b e (p, in_exponent h, n) = inr (inl (p, h, n))
 
 pub zero_power_is_bad : (b e : Tree) → IsZero b → GivesZeroNoPower e → IsBad (power b e)
 zero_power_is_bad b e z g = (power b e, itself, inl (z, g))
 
 -- a root is Bad where its argument is, or is a negative rational
-root_by_part : (p a : Tree) → IsPart p (root a) → IsBadNode p → IsBad a ⊎ IsNegative a
-root_by_part p a itself n = inr n
-root_by_part p a (in_root h) n = inl (p, h, n)
-
 pub bad_root : (a : Tree) → IsBad (root a) → IsBad a ⊎ IsNegative a
-bad_root a (p, h, n) = root_by_part p a h n
+bad_root a (p, itself, n) = inr n
+bad_root a (p, in_root h, n) = inl (p, h, n)
 
 pub undef_is_bad : IsBad undef
 undef_is_bad = (undef, itself, tt)
 
 -- a number is not Bad
-number_by_part : (p : Tree) (q : Fraction) → IsPart p (num q) → IsBadNode p → ⊥
-number_by_part p q itself n = n
-
 pub num_is_not_bad : (q : Fraction) → ¬ (IsBad (num q))
-num_is_not_bad q (p, h, n) = number_by_part p q h n
+num_is_not_bad q (p, itself, n) = n
 
 -- ---- values
 

@@ -1,12 +1,12 @@
 -- Inverses: of one term, of two terms that are not alike, of products and powers, and which surds have one.
-use Rattle.calc_algebra.proofs.Shared.{◌≡◌, ◌≢◌, ℕ, zero, suc, ◌*◌, ◌<◌, ◌≤◌, ℤ, pos, negsuc, ◌*ℤ◌, [], ◌∷◌, Bool, true, false, length, refl, sym, ap, ◌∙◌, arith, nat_abs, ints, not_from_false}
+use Rattle.calc_algebra.proofs.Shared.{◌≡◌, ◌≢◌, ℕ, zero, suc, ◌*◌, ◌<◌, ◌≤◌, ℤ, pos, negsuc, ◌*ℤ◌, ◌∷◌, Bool, true, false, length, refl, sym, ap, ◌∙◌, arith, nat_abs, ints, not_from_false, []}
 use Rattle.calc_algebra.proofs.Shared.{IsShort, negative_lowest, times_comm, times_assoc, times_plus, zero_plus, zero_times, one_times, plus_negative, Fraction, lowest, plus, times, negative, inverse}
 use Rattle.calc_algebra.proofs.Shared.{inverse_of, zero_fraction, one_fraction, is_zero_fraction, plus_comm, plus_assoc, same_lowest, lowest_parts, den_pos, plus_lowest, times_lowest, mul_pos}
 use Rattle.calc_algebra.proofs.Shared.{quotient, whole_fraction, gcd, int_is_zero, parts, diffs, eq_diff, are_alike, Same, Inverts, square_root, Surd, term, surd_of, surd_one, surd_times, surd_power}
 use Rattle.calc_algebra.proofs.{Shared.{zero_is, no_zero, cross_products, mul-one}, MeaningLaws.{class_coefficient-surd_of, Same-sym}, SquareClassLaws.{Alike, alike_from, alike_true, Same-Agree}}
-use Rattle.calc_algebra.proofs.{SquareClassLaws.{Same-trans}, SquareRootLaws.{square_from_scaled}, SurdLaws.{Agree-sym, Agree-trans, Agree-eq, Agree-Same, Agree-surd_times, Agree-surd_times_right}}
-use Rattle.calc_algebra.proofs.{SurdLaws.{one_inverse, inverse_times, inverse_power, surd_times_comm, surd_times-nil, times_zero}, TermLaws.{Same-refl, Same-eq, Same-append, extracted}}
-use Rattle.calc_algebra.proofs.TermLaws.{joined_radicand, zero_term, zero_radicand}
+use Rattle.calc_algebra.proofs.{SquareClassLaws.{Same-trans}, SquareRootLaws.{factor_pos, square_from_scaled}, SurdLaws.{Agree-sym, Agree-trans, Agree-eq, Agree-Same, Agree-surd_times}}
+use Rattle.calc_algebra.proofs.{SurdLaws.{Agree-surd_times_right, one_inverse, inverse_times, inverse_power, surd_times_comm, surd_times-nil, times_zero}, TermLaws.{Same-refl, Same-eq, Same-append}}
+use Rattle.calc_algebra.proofs.TermLaws.{extracted, joined_radicand, zero_term, zero_radicand}
 
 -- ---- inverses of fractions
 
@@ -133,6 +133,7 @@ Inverts-terms a b m r s e =
     let y : Fraction = whole_fraction (pos s) in
     let c : Fraction = times (times a m) a in
     let d : Fraction = times (times (negative b) m) b in
+    let turned : s * r ≡ r * s = omega arith in
     Same-trans
     (Same-append {v = term c (r * r) ∷ []} {v' = surd_of (times c x)} (root_squared c r)
     (Same-append {v = term (times (times a m) b) (r * s) ∷ term (times (times (negative b) m) a) (s * r) ∷ []} {v' = []}
@@ -141,9 +142,6 @@ Inverts-terms a b m r s e =
     (Same-trans (Same-eq (ap (λ q. term q (r * s) ∷ []) (middle_goes a b m))) (zero_term (r * s)))))
     (root_squared d s)))
     (Same-trans (joined_radicand (times c x) (times d y) 1) (Same-eq (ap surd_of (ends_join a b m x y ∙ e))))
-  where
-    turned : s * r ≡ r * s
-    turned = omega arith
 
 abs_square : (p : ℤ) → p *ℤ p ≡ pos (nat_abs p * nat_abs p)
 abs_square p = grind arith
@@ -161,11 +159,7 @@ scaled_square u q v p r s e = omega (arith, ap (λ n. s * n) e)
 alike_from_scaled : (u q v p r s : ℕ) → 0 < u → 0 < p → 0 < r → 0 < s → u * u * r * (p * p) ≡ v * v * s * (q * q) → are_alike r s ≡ true
 alike_from_scaled u q v p r s hu hp hr hs e =
     let (t, f) = square_from_scaled (r * s) (u * p) (s * v * q) (mul_pos u p hu hp) (scaled_square u q v p r s e) in
-    alike_true r s t (record { square = sym f; positive = root_pos t (r * s) f (mul_pos r s hr hs) })
-  where
-    root_pos : (t n : ℕ) → n ≡ t * t → 0 < n → 0 < t
-    root_pos zero n f h = absurd (omega arith)
-    root_pos (suc t) n f h = omega arith
+    alike_true r s t (record { square = sym f; positive = factor_pos t t (r * s) (sym f) (mul_pos r s hr hs) })
 
 abs_pos : (z : ℤ) → (z ≡ pos 0 → ⊥) → 0 < nat_abs z
 abs_pos z h = grind arith
@@ -198,12 +192,9 @@ whole_part_of r h = times_lowest (pos 1) (pos r) r 1 h (omega arith) ∙ same_lo
 pub term_of_class : (b : Fraction) (r s t : ℕ) → Alike r s t → 0 < r → Same (term b s ∷ []) (term (times (times b (quotient 1 r)) (whole_fraction (pos t))) r ∷ [])
 term_of_class b r s t a h =
     let c : Fraction = times b (quotient 1 r) in
-    Same-trans (Same-eq (ap (λ q. term q s ∷ []) back))
-    (Same-trans (Same-sym (extracted c (r * r * s) r s refl)) (extracted c (r * r * s) t r (turned (a.square))))
+    let turned : r * r * s ≡ t * t * r = omega (arith, ap (λ n. n * r) a.square) in
+    Same-trans (Same-eq (ap (λ q. term q s ∷ []) back)) (Same-trans (Same-sym (extracted c (r * r * s) r s refl)) (extracted c (r * r * s) t r turned))
   where
-    turned : t * t ≡ r * s → r * r * s ≡ t * t * r
-    turned e = omega (arith, ap (λ n. n * r) e)
-
     back : b ≡ times (times b (quotient 1 r)) (whole_fraction (pos r))
     back = sym (times_assoc b (quotient 1 r) (whole_fraction (pos r)) ∙ ap (times b) (whole_part_of r h) ∙ times_comm b one_fraction ∙ one_times b)
 
@@ -252,3 +243,5 @@ two_terms_have_inverse (t ∷ u ∷ x ∷ w) l n = absurd (omega arith)
 pub short_has_inverse : (v : Surd) → IsShort v → ¬ (Same v []) → (y : Surd) × Inverts y v
 unfolding HasInverse
 short_has_inverse v (w, h, l) n = moved v w h (two_terms_have_inverse w l (λ z. n (Same-trans h z)))
+
+pub ruleset inverses = (Inverts-one, Inverts-not_zero, short_has_inverse)

@@ -1,13 +1,11 @@
 -- A meaning is closed under sameness, and unique up to it.
-use Rattle.calc_algebra.proofs.Shared.{ℕ, zero, suc, ◌≡◌, ℤ, pos, negsuc, List, [], ◌∷◌, Contains, ◌⊎◌, ◌*ℤ◌, inl, inr, subst, sym, ap, ◌∙◌, arith, times_comm, one_times, zero_plus, Fraction, lowest}
+pub use Rattle.calc_algebra.proofs.SquareClassLaws.{Same-sym}
+use Rattle.calc_algebra.proofs.Shared.{ℕ, zero, suc, ◌≡◌, ℤ, pos, negsuc, List, ◌∷◌, Contains, ◌⊎◌, ◌*ℤ◌, inl, inr, subst, sym, ap, ◌∙◌, arith, times_comm, one_times, zero_plus, Fraction, lowest, []}
 use Rattle.calc_algebra.proofs.Shared.{zero_fraction, one_fraction, plus_comm, lowest_cross, den_pos, whole_fraction, minus_one_fraction, cancel_pos, whole_denominator, Gives, Binding, bound_names}
 use Rattle.calc_algebra.proofs.Shared.{Assignment, IsAssignment, Means, MeansSum, MeansProduct, IsWholePower, IsPower, IsRootOf, IsRoot, Same, Inverts, class_coefficient, square_root, Surd, surd_one}
 use Rattle.calc_algebra.proofs.{Shared.{surd_of, Tree, num, symbol, undef, add, mult, power, root, neg, sub, div, Trees, none, more, get_or-map, length-map}, SquareClassLaws.{Same-trans, Same-Agree}}
-use Rattle.calc_algebra.proofs.SurdLaws.{Agree, Agree-refl, Agree-sym, Agree-trans, Agree-eq, Agree-append, Agree-surd_scale, Agree-surd_times, Agree-surd_times_right, Agree-surd_power, one_inverse}
-use Rattle.calc_algebra.proofs.HalfLaws.{one_is_not_two}
-
-pub Same-sym : {v w : Surd} → Same v w → Same w v
-Same-sym h = record { of_first = λ s c. sym (h.of_second s c); of_second = λ s c. sym (h.of_first s c) }
+use Rattle.calc_algebra.proofs.SurdLaws.{Agree, Agree-Same, Agree-refl, Agree-sym, Agree-trans, Agree-eq, Agree-append, Agree-surd_scale, Agree-surd_times, Agree-surd_times_right, Agree-surd_power}
+use Rattle.calc_algebra.proofs.{SurdLaws.{one_inverse}, HalfLaws.{one_is_not_two}}
 
 power_same : (n : ℤ) (w v u : Surd) → IsWholePower n w v → Same v u → IsWholePower n w u
 power_same n w v u h e = grind (arith, Same-trans, Same-sym)
@@ -77,8 +75,11 @@ one_row w w' x x' v u a b (inr (q, d, i, r, k, h)) (inr (q', d', i', r', k', h')
     let z : q' ≡ q = sym (one_rational q q' x x' b i i') in
     one_power q.num r r' v u (one_root_of w w' r r' a k k') h (rw z at h')
 
+pub none_in : {X : Type 0} {x : X} → Contains [] x → ⊥
+none_in (k, l, e) = absurd (omega arith)
+
 -- one element is the first or is contained in the rest
-at_front : {X : Type 0} (x : X) (xs : List X) (z : X) → Contains (x ∷ xs) z → (x ≡ z) ⊎ Contains xs z
+pub at_front : {X : Type 0} (x : X) (xs : List X) (z : X) → Contains (x ∷ xs) z → (x ≡ z) ⊎ Contains xs z
 at_front x xs z h = grind arith
 
 name_bound : (f : Assignment) (b : Binding) → Contains f b → Contains (bound_names f) b.name
@@ -87,9 +88,6 @@ name_bound f b (k, l, e) = (k, rw length-map l, get_or-map (λ b. b.name) f k b 
 -- an assignment gives a name at most one value
 pub one_value : (f : Assignment) → IsAssignment f → (x : List ℕ) (p q : Fraction) → Gives f x p → Gives f x q → p ≡ q
 one_value [] once x p q m n = absurd (none_in m)
-  where
-    none_in : {X : Type 0} {x : X} → Contains [] x → ⊥
-    none_in (k, l, e) = absurd (omega arith)
 one_value (b ∷ f) (new, once) x p q m n = by (λ m' n'. one_value f once x p q m' n') (at_front b f _ m) (at_front b f _ n)
   where
     bind : Fraction → Binding
@@ -122,3 +120,5 @@ module _ (f : Assignment) (once : IsAssignment f) where
     pub one_product : (ts : Trees) (v u : Surd) → MeansProduct ts f v → MeansProduct ts f u → Agree v u
     one_product none v u h k = Agree-eq (h ∙ sym k)
     one_product (more t ts) v u (a, b, m, n, e) (a', b', m', n', e') = Agree-trans (Agree-eq e) (Agree-trans (Agree-surd_times (one_meaning t a a' m m') (one_product ts b b' n n')) (Agree-eq (sym e')))
+
+pub ruleset meanings = (Means-Same, Agree-Same, one_meaning)

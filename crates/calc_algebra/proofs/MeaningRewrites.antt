@@ -1,14 +1,11 @@
 -- Rewritings of sums and products that keep meanings: each meaning of the old tree is one of the new, under every assignment.
-use Rattle.calc_algebra.proofs.Shared.{◌≡◌, ℕ, zero, suc, ◌<◌, List, [], ◌∷◌, ◌++◌, length, refl, sym, arith, subst, append_assoc, append-nil, set, get_or, zero_fraction, one_fraction}
-use Rattle.calc_algebra.proofs.Shared.{minus_one_fraction, Assignment, IsAssignment, Means, Same, Surd, surd_of, surd_one, surd_scale, surd_times, Tree, num, undef, add, mult, power, root, neg, sub}
+pub use Rattle.calc_algebra.specs.Rewritings.{KeepsMeanings}
+use Rattle.calc_algebra.proofs.Shared.{◌≡◌, ℕ, zero, suc, ◌<◌, List, ◌∷◌, ◌++◌, length, refl, sym, arith, subst, append_assoc, append-nil, set, get_or, zero_fraction, one_fraction, []}
+use Rattle.calc_algebra.proofs.Shared.{minus_one_fraction, Assignment, Means, Same, Surd, surd_of, surd_one, surd_scale, surd_times, Tree, num, undef, add, mult, power, root, neg, sub}
 use Rattle.calc_algebra.proofs.{Shared.{div, Trees, none, more, append, IsPermutation, swap_is, IsPermutation-keeps}, InverseLaws.{Same-times_zero}, MeaningLaws.{one_meaning, Means-Same, Same-sym}}
 use Rattle.calc_algebra.proofs.{SquareClassLaws.{Same-trans, Same-Agree}, SurdLaws.{Agree, Agree-sym, Agree-trans, Agree-eq, Agree-Same, surd_times-append, surd_times-surd_of, surd_times-surd_one}}
 use Rattle.calc_algebra.proofs.{SurdLaws.{surd_times-one, surd_times_comm, surd_times_assoc, surd_times_left_comm}, TermLaws.{Same-refl, Same-eq, Same-append, Same-append_comm, Same-surd_times}}
 use Rattle.calc_algebra.proofs.TermLaws.{zero_term}
-
--- each meaning of t is one of u, under every assignment
-pub record KeepsMeanings (t u : Tree) : Type 0 where
-  pub means : (f : Assignment) → IsAssignment f → (v : Surd) → Means t f v → Means u f v
 
 pub KeepsMeanings-refl : (t : Tree) → KeepsMeanings t t
 KeepsMeanings-refl t = record { means = λ f once v m. m }
@@ -27,27 +24,20 @@ two a b = more a (more b none)
 pub sum_more : (f : Assignment) (t : Tree) (ts : Trees) (v a b : Surd) → Means t f a → Means (add ts) f b → Same v (a ++ b) → Means (add (more t ts)) f v
 sum_more f t ts v a b m (w, n, k) e = (a ++ w, (a, w, m, n, refl), Same-trans e (Same-append (Same-refl a) k))
 
-pub record SumParts (t : Tree) (ts : Trees) (f : Assignment) (v : Surd) : Type 0 where
+pub record Parts (node : Trees → Tree) (join : Surd → Surd → Surd) (t : Tree) (ts : Trees) (f : Assignment) (v : Surd) : Type 0 where
   pub first : Surd
   pub rest : Surd
   pub first_means : Means t f first
-  pub rest_means : Means (add ts) f rest
-  pub same : Same v (first ++ rest)
+  pub rest_means : Means (node ts) f rest
+  pub same : Same v (join first rest)
 
-pub sum_parts : (f : Assignment) (t : Tree) (ts : Trees) (v : Surd) → Means (add (more t ts)) f v → SumParts t ts f v
+pub sum_parts : (f : Assignment) (t : Tree) (ts : Trees) (v : Surd) → Means (add (more t ts)) f v → Parts add (λ a b. a ++ b) t ts f v
 sum_parts f t ts v (w, (a, b, m, n, e), k) = record { first = a; rest = b; first_means = m; rest_means = (b, n, Same-refl b); same = Same-trans k (Same-eq e) }
 
 pub product_more : (f : Assignment) (t : Tree) (ts : Trees) (v a b : Surd) → Means t f a → Means (mult ts) f b → Same v (surd_times a b) → Means (mult (more t ts)) f v
 product_more f t ts v a b m (w, n, k) e = (surd_times a w, (a, w, m, n, refl), Same-trans e (Same-surd_times (Same-refl a) k))
 
-pub record ProductParts (t : Tree) (ts : Trees) (f : Assignment) (v : Surd) : Type 0 where
-  pub first : Surd
-  pub rest : Surd
-  pub first_means : Means t f first
-  pub rest_means : Means (mult ts) f rest
-  pub same : Same v (surd_times first rest)
-
-pub product_parts : (f : Assignment) (t : Tree) (ts : Trees) (v : Surd) → Means (mult (more t ts)) f v → ProductParts t ts f v
+pub product_parts : (f : Assignment) (t : Tree) (ts : Trees) (v : Surd) → Means (mult (more t ts)) f v → Parts mult surd_times t ts f v
 product_parts f t ts v (w, (a, b, m, n, e), k) = record { first = a; rest = b; first_means = m; rest_means = (b, n, Same-refl b); same = Same-trans k (Same-eq e) }
 
 pub sum_none : (f : Assignment) (v : Surd) → Same v [] → Means (add none) f v

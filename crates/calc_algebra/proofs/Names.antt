@@ -1,7 +1,7 @@
 -- The names in trees, and in lists of trees.
-use Rattle.calc_algebra.proofs.Shared.{ℕ, ◌≡◌, ◌⊎◌, inl, inr, true, List, [], ◌++◌, refl, sym, ap, ◌∙◌, subst, append_assoc, arith, Contains, Contains-append_left, Contains-append_right}
+use Rattle.calc_algebra.proofs.Shared.{ℕ, ◌≡◌, ◌⊎◌, inl, inr, true, List, ◌++◌, refl, sym, ap, ◌∙◌, subst, append_assoc, arith, Contains, Contains-append_left, Contains-append_right, []}
 use Rattle.calc_algebra.proofs.{Shared.{Contains-append_cases, IsNumber, IsTerm, AreTerms, is_number, Tree, Trees, none, more, append, names, names_of, HasNoNewName}, MeaningRewrites.{Permuted}}
-use Rattle.calc_algebra.proofs.{MeaningRewrites.{permuted_none, permuted_more, permuted_swap, permuted_trans}, NumberLaws.{number_words}}
+use Rattle.calc_algebra.proofs.{MeaningRewrites.{permuted_none, permuted_more, permuted_swap, permuted_trans}, NumberLaws.{number_words}, MeaningLaws.{none_in}}
 
 -- each name in the second list is one in the first
 pub record Within (old new : List (List ℕ)) : Type 0 where
@@ -31,9 +31,6 @@ within_right a b = record { name = λ x m. Contains-append_right a b x m }
 
 pub within_beside : (a b c d : List (List ℕ)) → Within a b → Within c d → Within (a ++ c) (b ++ d)
 within_beside a b c d h k = within_both (a ++ c) b d (within_trans (within_left a c) h) (within_trans (within_right a c) k)
-
-none_in : {X : Type 0} {x : X} → Contains [] x → ⊥
-none_in (k, l, e) = absurd (omega arith)
 
 pub within_none : (a : List (List ℕ)) → Within a []
 within_none a = record { name = λ x m. absurd (none_in m) }

@@ -1,6 +1,6 @@
 -- What the value of a Number tells of its tree, with no bound on radicands: zero, a rational, how many classes.
-use Rattle.calc_algebra.proofs.Shared.{◌≡◌, ◌≢◌, ℕ, zero, suc, ◌*◌, ◌<◌, ◌≤◌, ◌⊎◌, inl, inr, pos, [], ◌∷◌, Bool, true, false, ◌==◌, ◌&&◌, length, refl, sym, ap, ◌∙◌, arith, subst, ⊤, nat_le}
-use Rattle.calc_algebra.proofs.Shared.{false_from_ne_true, IsClean, times_comm, one_times, zero_plus, Fraction, plus, times, zero_fraction, one_fraction, plus_comm, quotient, same_lowest, IsNumber}
+use Rattle.calc_algebra.proofs.Shared.{◌≡◌, ◌≢◌, ℕ, ◌*◌, ◌<◌, ◌≤◌, ◌⊎◌, inl, inr, pos, ◌∷◌, true, false, ◌==◌, ◌&&◌, length, refl, sym, ap, ◌∙◌, arith, subst, ⊤, nat_le, []}
+use Rattle.calc_algebra.proofs.Shared.{false_from_ne_true, IsClean, times_comm, one_times, zero_plus, Fraction, plus, times, zero_fraction, one_fraction, quotient, same_lowest, IsNumber}
 use Rattle.calc_algebra.proofs.Shared.{IsTerm, AreTerms, IsBelowAll, Rises, value, classes, term_of, terms_of, are_alike, term_share, class_coefficient, Same, square_root, Term, Surd, term, surd_of}
 use Rattle.calc_algebra.proofs.{Shared.{Tree, num, Trees, none, more, mul_comm, one-mul, plus_zero}, CleanLaws.{clean_no_square}, InverseLaws.{one_is_not_zero}, MeaningLaws.{Same-sym, surd_of_one}}
 use Rattle.calc_algebra.proofs.{NumberShapes.{AsTerm, as_term, AsNumber, as_number}, PowerLaws.{zero_surd_of}, SquareClassLaws.{alike_from, alike_true, alike_trans, Same-Agree, Same-trans}}
@@ -62,45 +62,28 @@ proper_not_zero t v s h e = s.not_zero (sym (first_coefficient t v s h) ∙ (Sam
 pub one_not_zero : one_fraction ≢ zero_fraction
 one_not_zero e = one_is_not_zero (zero_surd_of one_fraction e)
 
-by_kind : (t : Tree) → AsTerm t → IsProper (term_of t)
-by_kind t h = grind (arith, one_not_zero)
-
 pub term_proper : (t : Tree) → IsTerm t → IsProper (term_of t)
-term_proper t h = by_kind t (as_term t h)
+term_proper t h = grind (arith, as_term, one_not_zero)
 
 pub terms_proper : (ts : Trees) → AreTerms ts → AreProper (terms_of ts)
 terms_proper none h = tt
 terms_proper (more t ts) (h, hs) = (term_proper t h, terms_proper ts hs)
 
--- proper terms that rise
-record IsValue (v : Surd) : Type 0 where
-  proper : AreProper v
-  rising : Rises v
-
-by_form : (t : Tree) → AsNumber t → IsNumber t → IsValue (value t)
-by_form t h k = grind (arith, term_proper, terms_proper)
-
-is_value : (t : Tree) → IsNumber t → IsValue (value t)
-is_value t h = by_form t (as_number t h) h
-
 pub value_proper : (t : Tree) → IsNumber t → AreProper (value t)
-value_proper t h = (is_value t h).proper
+value_proper t h = grind (arith, as_number, term_proper, terms_proper)
 
 pub value_rises : (t : Tree) → IsNumber t → Rises (value t)
-value_rises t h = (is_value t h).rising
+value_rises t h = grind (arith, as_number)
 
 -- ---- zero
 
-no_terms : (v : Surd) → IsValue v → Same v [] → v ≡ []
-no_terms [] h e = refl
-no_terms (t ∷ v) h e = absurd (proper_not_zero t v (h.proper.0) (h.rising.0) e)
-
-zero_by_form : (t : Tree) → value t ≡ [] → AsNumber t → t ≡ num zero_fraction
-zero_by_form t e h = grind arith
+no_terms : (v : Surd) → AreProper v → Rises v → Same v [] → v ≡ []
+no_terms [] h b e = refl
+no_terms (t ∷ v) h b e = absurd (proper_not_zero t v h.0 b.0 e)
 
 -- a Number that is zero is Num 0
 pub number_zero : (t : Tree) → IsNumber t → Same (value t) [] → t ≡ num zero_fraction
-number_zero t h e = zero_by_form t (no_terms (value t) (is_value t h) e) (as_number t h)
+number_zero t h e = grind (arith, as_number, no_terms, value_proper, value_rises)
 
 -- ---- a rational
 
@@ -111,20 +94,15 @@ share_found q r s h = grind arith
 alike_one : (v : Surd) (q : Fraction) (r s : ℕ) → Agree v (term q r ∷ []) → class_coefficient v s ≢ zero_fraction → are_alike r s ≡ true
 alike_one v q r s a h = share_found q r s (λ e. h (a.at s ∙ ap (λ x. plus x zero_fraction) e ∙ zero_plus zero_fraction))
 
-square_is : (n t : ℕ) → t * t ≡ 1 * n → n ≡ t * t
-square_is n t e = sym (e ∙ one-mul n)
-
 -- 1 is alike with no clean radicand of at least 2
 pub one_apart_from_clean : (n : ℕ) → 2 ≤ n → IsClean n → are_alike 1 n ≡ false
 one_apart_from_clean n l c = false_from_ne_true (are_alike 1 n) (λ h.
     let a = alike_from 1 n h in
-    let e : n ≡ square_root (1 * n) * square_root (1 * n) = square_is n (square_root (1 * n)) a.square in
+    let e : n ≡ square_root (1 * n) * square_root (1 * n) = sym (a.square ∙ one-mul n) in
     clean_no_square (square_root (1 * n)) (subst IsClean e c) (above_one n (square_root (1 * n)) l e))
   where
     above_one : (n t : ℕ) → 2 ≤ n → n ≡ t * t → 1 < t
-    above_one n zero l e = absurd (omega arith)
-    above_one n (suc zero) l e = absurd (omega arith)
-    above_one n (suc (suc t)) l e = omega arith
+    above_one n t l e = grind arith
 
 -- a term with a clean radicand is no rational
 irrational : (q : Fraction) (t : Term) (n : ℕ) → 2 ≤ n → IsClean n → t.radicand ≡ n → IsProper t → Agree (t ∷ []) (surd_of q) → ⊥
@@ -133,10 +111,10 @@ irrational q t n l c e p a =
     let g : are_alike 1 t.radicand ≡ false = ap (are_alike 1) e ∙ one_apart_from_clean n l c in
     cc
 
-rational_by_form : (t : Tree) (q : Fraction) → AsTerm t → Agree (term_of t ∷ []) (surd_of q) → t ≡ num q
-rational_by_form t q (inl a) e = a.is ∙ ap num (surd_of_one a.q q (Agree-trans (subst (λ x. Agree (term a.q 1 ∷ []) (x ∷ [])) (sym a.term_is) (record { at = λ s. refl })) e))
-rational_by_form t q (inr (inl a)) e = absurd (irrational q (term_of t) a.n a.two a.clean (ap (λ x. x.radicand) a.term_is) (by_kind t (inr (inl a))) e)
-rational_by_form t q (inr (inr a)) e = absurd (irrational q (term_of t) a.n a.two a.clean (ap (λ x. x.radicand) a.term_is) (by_kind t (inr (inr a))) e)
+rational_by_form : (t : Tree) (q : Fraction) → IsTerm t → AsTerm t → Agree (term_of t ∷ []) (surd_of q) → t ≡ num q
+rational_by_form t q h (inl a) e = a.is ∙ ap num (surd_of_one a.q q (Agree-trans (subst (λ x. Agree (term a.q 1 ∷ []) (x ∷ [])) (sym a.term_is) (record { at = λ s. refl })) e))
+rational_by_form t q h (inr (inl a)) e = absurd (irrational q (term_of t) a.n a.two a.clean (ap (λ x. x.radicand) a.term_is) (term_proper t h) e)
+rational_by_form t q h (inr (inr a)) e = absurd (irrational q (term_of t) a.n a.two a.clean (ap (λ x. x.radicand) a.term_is) (term_proper t h) e)
 
 -- a list with two terms or more is no single term
 two_not_one : (v : Surd) (q : Fraction) (r : ℕ) → AreProper v → Rises v → 2 ≤ length v → Agree v (term q r ∷ []) → ⊥
@@ -151,7 +129,7 @@ two_not_one (t ∷ u ∷ v) q r (s, (x, xs)) (b, (c, cs)) l a =
 
 by_rational : (t : Tree) (q : Fraction) → IsNumber t → Agree (value t) (surd_of q) → AsNumber t → t ≡ num q
 by_rational t q h e (inl a) = a.is ∙ ap num (surd_of_one zero_fraction q (Agree-trans (Same-Agree (zero_term 1)) (subst (λ v. Agree v (surd_of q)) a.value_is e)))
-by_rational t q h e (inr (inl a)) = rational_by_form t q (as_term t a.one) (subst (λ v. Agree v (surd_of q)) a.value_is e)
+by_rational t q h e (inr (inl a)) = rational_by_form t q a.one (as_term t a.one) (subst (λ v. Agree v (surd_of q)) a.value_is e)
 by_rational t q h e (inr (inr a)) = absurd (two_not_one (value t) q 1 (value_proper t h) (value_rises t h) (subst (λ v. 2 ≤ length v) (sym a.value_is) a.two) e)
 
 -- a Number that is rational is a Num

@@ -1,5 +1,5 @@
 -- The tests for clean radicands and for Numbers say what their words say, both ways.
-use Rattle.calc_algebra.proofs.Shared.{◌≡◌, ℕ, zero, suc, ◌+◌, ◌*◌, ◌%◌, ◌≤◌, ◌<◌, ◌⊎◌, inl, inr, Bool, true, false, not, ◌&&◌, ◌||◌, refl, sym, ap, ◌∙◌, arith, [], ◌∷◌, nat_lt, nat_le, ◌==◌, length}
+use Rattle.calc_algebra.proofs.Shared.{◌≡◌, ℕ, zero, suc, ◌+◌, ◌*◌, ◌%◌, ◌≤◌, ◌<◌, ◌⊎◌, inl, inr, Bool, true, false, not, ◌&&◌, ◌||◌, refl, sym, ap, ◌∙◌, arith, ◌∷◌, nat_lt, ◌==◌, length, []}
 use Rattle.calc_algebra.proofs.Shared.{mod-eq-zero_of_dvd, dvd_of_mod-eq-zero, and_from, not_from_false, le-leb, lt-ltb, eq-eqb, and_parts, ltb-true, leb-true, eqb-true, not-true, no_zero, no_one}
 use Rattle.calc_algebra.proofs.Shared.{zero_test, one_test, left_of, is_clean, IsClean, no_square_divides, Fraction, IsRadicand, IsTerm, IsNumber, AreTerms, IsBelowAll, Rises, terms_of, is_radicand}
 use Rattle.calc_algebra.proofs.Shared.{is_term, rises, is_number, are_terms, is_below_all, are_numbers, are_alike, square_root, Term, Surd, Tree, num, add, mult, root, Trees, none, more, undef}

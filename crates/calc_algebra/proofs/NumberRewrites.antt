@@ -1,6 +1,6 @@
 -- Rewritings with Numbers that keep meanings: their sums, products, powers, inverses and roots, and coefficients.
-use Rattle.calc_algebra.proofs.Shared.{◌≡◌, ◌≢◌, ℕ, suc, ◌*◌, ◌<◌, ℤ, pos, negsuc, [], ◌∷◌, ◌++◌, Bool, true, false, if◌then◌else◌, sym, ap, ◌∙◌, arith, subst, fraction_power, Fraction, lowest, times}
-use Rattle.calc_algebra.proofs.Shared.{inverse, zero_fraction, whole_fraction, lowest_parts, times_lowest, Assignment, IsAssignment, Means, IsRootOf, IsNumber, value, is_radicand, is_number, split}
+use Rattle.calc_algebra.proofs.Shared.{◌≡◌, ◌≢◌, ℕ, suc, ◌*◌, ◌<◌, ℤ, pos, negsuc, ◌∷◌, ◌++◌, sym, ap, ◌∙◌, arith, subst, fraction_power, Fraction, lowest, times, []}
+use Rattle.calc_algebra.proofs.Shared.{inverse, zero_fraction, whole_fraction, lowest_parts, times_lowest, Assignment, IsAssignment, Means, IsRootOf, IsNumber, value}
 use Rattle.calc_algebra.proofs.Shared.{split_product, product_tree, part_of, num_one, Same, Inverts, Surd, term, surd_of, surd_power, Tree, num, add, mult, power, root, Trees, none, more, one-mul}
 use Rattle.calc_algebra.proofs.{Shared.{mul-one}, MeaningLaws.{one_meaning, Means-Same, Same-sym, surd_of_one}, NumberValues.{number_means}, SquareClassLaws.{Same-trans, Same-Agree}}
 use Rattle.calc_algebra.proofs.{SurdLaws.{Agree-sym, Agree-trans, Agree-Same}, TermLaws.{Same-refl, Same-eq, Same-append, Same-surd_times, Same-surd_power, extracted}}
@@ -97,28 +97,10 @@ root_extracted p d s t h e = Same-sym (Same-trans (extracted (lowest (pos 1) d) 
 
 -- a product is its coefficient times the factors behind it
 pub split_keeps : (ts : Trees) → KeepsMeanings (mult ts) (mult (more (split_product ts).coefficient (split_product ts).factors))
-split_keeps (more (num q) (more (root (num r)) ts)) = by (is_radicand r)
-  where
-    by : (b : Bool) → KeepsMeanings (mult (more (num q) (more (root (num r)) ts)))
-        (mult (more (if b then split (mult (more (num q) (more (root (num r)) none))) ts else split (num q) (more (root (num r)) ts)).coefficient
-        (if b then split (mult (more (num q) (more (root (num r)) none))) ts else split (num q) (more (root (num r)) ts)).factors))
-    by true = nested_product (two (num q) (root (num r))) ts
-    by false = KeepsMeanings-refl (mult (more (num q) (more (root (num r)) ts)))
+split_keeps (more (num q) (more (root (num r)) ts)) = grind (arith, nested_product (two (num q) (root (num r))) ts, KeepsMeanings-refl)
 split_keeps (more (num q) ts) = KeepsMeanings-refl (mult (more (num q) ts))
-split_keeps (more (root (num r)) ts) = by (is_radicand r)
-  where
-    by : (b : Bool) → KeepsMeanings (mult (more (root (num r)) ts))
-        (mult (more (if b then split (root (num r)) ts else split num_one (more (root (num r)) ts)).coefficient
-        (if b then split (root (num r)) ts else split num_one (more (root (num r)) ts)).factors))
-    by true = KeepsMeanings-refl (mult (more (root (num r)) ts))
-    by false = to_one_factor (more (root (num r)) ts)
-split_keeps (more (add us) ts) = by (is_number (add us))
-  where
-    by : (b : Bool) → KeepsMeanings (mult (more (add us) ts))
-        (mult (more (if b then split (add us) ts else split num_one (more (add us) ts)).coefficient
-        (if b then split (add us) ts else split num_one (more (add us) ts)).factors))
-    by true = KeepsMeanings-refl (mult (more (add us) ts))
-    by false = to_one_factor (more (add us) ts)
+split_keeps (more (root (num r)) ts) = grind (arith, KeepsMeanings-refl, to_one_factor)
+split_keeps (more (add us) ts) = grind (arith, KeepsMeanings-refl, to_one_factor)
 split_keeps ts = to_one_factor ts
 
 -- a list of factors as one tree

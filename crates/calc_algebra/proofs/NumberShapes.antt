@@ -1,5 +1,5 @@
 -- The shapes of a Number, and that it is told by its value.
-use Rattle.calc_algebra.proofs.Shared.{◌≡◌, ◌≢◌, ℕ, ◌≤◌, ◌⊎◌, inl, inr, pos, [], ◌∷◌, Bool, true, false, if◌then◌else◌, length, refl, ap, ◌∙◌, arith}
+use Rattle.calc_algebra.proofs.Shared.{◌≡◌, ◌≢◌, ℕ, ◌≤◌, ◌⊎◌, inl, inr, pos, ◌∷◌, Bool, true, false, if◌then◌else◌, length, refl, ap, ◌∙◌, arith, []}
 use Rattle.calc_algebra.proofs.Shared.{not_from_false, IsClean, Fraction, lowest, zero_fraction, one_fraction, is_zero_fraction, lowest_parts, whole_fraction, IsNumber, IsTerm, AreTerms, value}
 use Rattle.calc_algebra.proofs.Shared.{term_of, terms_of, natural_of, Term, Surd, term, surd_of, Tree, num, add, mult, root, Trees, none, more, zero_is, no_zero}
 

@@ -1,8 +1,8 @@
 -- Numbers with the same value, all radicands below 10^12, are one tree.
-use Rattle.calc_algebra.proofs.Shared.{◌≡◌, ◌≢◌, ℕ, ◌<◌, ◌≤◌, ◌^◌, ◌⊎◌, inl, inr, [], ◌∷◌, refl, sym, ap, ◌∙◌, arith, subst, Contains, ⊤, false_from_ne_true, Contains-append_right, IsClean, zero_plus}
-use Rattle.calc_algebra.proofs.Shared.{plus_negative, Fraction, plus, negative, zero_fraction, one_fraction, plus_comm, plus_assoc, IsNumber, IsTerm, AreTerms, IsBelowAll, Rises, value, term_of}
-use Rattle.calc_algebra.proofs.{Shared.{terms_of, term_share, class_coefficient, radicands, Same, Term, Surd, term, Tree, add, Trees, none, more}, NumberShapes.{AsTerm, as_term, AsNumber, as_number}}
-use Rattle.calc_algebra.proofs.{NumberShapes.{one_number_of_value}, NumberClasses.{IsProper, first_coefficient, one_not_zero}, CleanLaws.{IsSquareFree, clean_square_free, one_square_free}}
+use Rattle.calc_algebra.proofs.Shared.{add, subst, ◌≡◌, ℕ, ◌<◌, ◌^◌, ◌⊎◌, inl, inr, ◌∷◌, refl, sym, ap, ◌∙◌, arith, Contains, ⊤, false_from_ne_true, Contains-append_right, zero_plus, []}
+use Rattle.calc_algebra.proofs.Shared.{plus_negative, Fraction, plus, negative, zero_fraction, plus_comm, plus_assoc, IsNumber, IsTerm, AreTerms, IsBelowAll, Rises, value, term_of}
+use Rattle.calc_algebra.proofs.{Shared.{terms_of, term_share, class_coefficient, radicands, Same, Term, Surd, term, Tree, Trees, none, more}, NumberShapes.{AsNumber, AsTerm, as_term, as_number}}
+use Rattle.calc_algebra.proofs.{NumberShapes.{one_number_of_value}, NumberClasses.{IsProper, term_proper, first_coefficient}, CleanLaws.{IsSquareFree, clean_square_free, one_square_free}}
 use Rattle.calc_algebra.proofs.{CleanLaws.{alike_square_free}, SquareClassLaws.{Same-Agree}, SurdLaws.{Agree, Agree-sym}, TermLaws.{share_apart}}
 
 -- ---- lists of square-free terms
@@ -79,16 +79,13 @@ first_small t v h = h t.radicand (0, omega arith, refl)
 rest_small : (t : Term) (v : Surd) → AreSmall (t ∷ v) → AreSmall v
 rest_small t v h = λ r c. h r (Contains-append_right (t.radicand ∷ []) (radicands v) r c)
 
-clean_simplest : (q : Fraction) (n : ℕ) → q ≢ zero_fraction → 2 ≤ n → IsClean n → n < 10 ^ 12 → IsSimplest (term q n)
-clean_simplest q n h l c s = record { proper = record { not_zero = h; positive = omega arith }; square_free = clean_square_free n c s }
-
-by_small : (t : Tree) → AsTerm t → (term_of t).radicand < 10 ^ 12 → IsSimplest (term_of t)
-by_small t (inl a) s = subst IsSimplest (sym a.term_is) (record { proper = record { not_zero = a.not_zero; positive = omega arith }; square_free = one_square_free })
-by_small t (inr (inl a)) s = subst IsSimplest (sym a.term_is) (clean_simplest one_fraction a.n one_not_zero a.two a.clean (subst (λ x. x.radicand < 10 ^ 12) a.term_is s))
-by_small t (inr (inr a)) s = subst IsSimplest (sym a.term_is) (clean_simplest a.q a.n a.not_zero a.two a.clean (subst (λ x. x.radicand < 10 ^ 12) a.term_is s))
-
 pub term_simplest : (t : Tree) → IsTerm t → (term_of t).radicand < 10 ^ 12 → IsSimplest (term_of t)
-term_simplest t h = by_small t (as_term t h)
+term_simplest t h s = record { proper = term_proper t h; square_free = by (as_term t h) }
+  where
+    by : AsTerm t → IsSquareFree (term_of t).radicand
+    by (inl a) = subst (λ x. IsSquareFree x.radicand) (sym a.term_is) one_square_free
+    by (inr (inl a)) = subst (λ x. IsSquareFree x.radicand) (sym a.term_is) (clean_square_free a.n a.clean (subst (λ x. x.radicand < 10 ^ 12) a.term_is s))
+    by (inr (inr a)) = subst (λ x. IsSquareFree x.radicand) (sym a.term_is) (clean_square_free a.n a.clean (subst (λ x. x.radicand < 10 ^ 12) a.term_is s))
 
 pub terms_simplest : (ts : Trees) → AreTerms ts → AreSmall (terms_of ts) → AreSimplest (terms_of ts)
 terms_simplest none h s = tt

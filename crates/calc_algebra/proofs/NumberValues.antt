@@ -1,11 +1,8 @@
 -- A Number means its terms under every assignment.
-use Rattle.calc_algebra.proofs.Shared.{◌≡◌, ℕ, ◌*◌, ◌≤◌, ℤ, pos, [], ◌∷◌, Bool, true, false, if◌then◌else◌, refl, sym, ap, ◌∙◌, arith, times_comm, one_times, zero_times, zero_plus, Fraction, times}
-use Rattle.calc_algebra.proofs.Shared.{zero_fraction, one_fraction, plus, quotient, int_is_zero, Assignment, Means, MeansSum, IsRootOf, IsNumber, IsTerm, IsRadicand, value, term_of, terms_of}
-use Rattle.calc_algebra.proofs.Shared.{natural_of, AreTerms, Same, term_share, are_alike, square_root, Surd, term, surd_one, surd_times, surd_of, Tree, num, add, mult, root, Trees, none, more}
-use Rattle.calc_algebra.proofs.{Shared.{zero_is}, SurdLaws.{Agree, Agree-refl, Agree-trans, Agree-eq, Agree-Same}}
-
-pub Same-refl : (v : Surd) → Same v v
-Same-refl v = Agree-Same (Agree-refl v)
+use Rattle.calc_algebra.proofs.Shared.{◌≡◌, ℕ, ◌*◌, ◌≤◌, ℤ, pos, ◌∷◌, Bool, true, false, if◌then◌else◌, refl, sym, ap, ◌∙◌, arith, times_comm, one_times, Fraction, times, []}
+use Rattle.calc_algebra.proofs.Shared.{one_fraction, int_is_zero, Assignment, Means, MeansSum, IsRootOf, IsNumber, IsTerm, IsRadicand, value, term_of, terms_of}
+use Rattle.calc_algebra.proofs.Shared.{natural_of, AreTerms, Same, Surd, term, surd_one, surd_times, surd_of, Tree, num, add, mult, root, Trees, none, more}
+use Rattle.calc_algebra.proofs.{Shared.{zero_is}, SurdLaws.{Agree-eq, Agree-Same}, TermLaws.{Same-refl, zero_term}, SquareClassLaws.{Same-trans, Same-sym}}
 
 root_of_whole : (p : ℤ) (n r : ℕ) → n ≡ 1 → p ≡ pos r → 2 ≤ r → IsRootOf p n (term one_fraction (natural_of p) ∷ [])
 unfolding one_fraction
@@ -35,17 +32,11 @@ terms_mean : (ts : Trees) (f : Assignment) → AreTerms ts → MeansSum ts f (te
 terms_mean none f h = refl
 terms_mean (more t ts) f h = (term_of t ∷ [], terms_of ts, term_means t f h.0, terms_mean ts f h.1, refl)
 
-zero_share : (s : ℕ) → term_share (term zero_fraction 1) s ≡ zero_fraction
-zero_share s = grind (arith, zero_times)
-
-zero_alone : (q : Fraction) → int_is_zero q.num ≡ true → Agree [] (surd_of q)
-zero_alone q h = Agree-trans (record { at = λ s. sym (ap (λ x. plus x zero_fraction) (zero_share s) ∙ zero_plus zero_fraction) }) (Agree-eq (ap surd_of (sym (zero_is q h))))
-
 pub number_means : (t : Tree) (f : Assignment) → IsNumber t → Means t f (value t)
 number_means (num q) f h = by (int_is_zero q.num) refl
   where
     by : (b : Bool) → int_is_zero q.num ≡ b → Same (if b then [] else surd_of q) (surd_of q)
-    by true e = Agree-Same (zero_alone q e)
+    by true e = Same-trans (Same-sym (zero_term 1)) (Agree-Same (Agree-eq (ap surd_of (sym (zero_is q e)))))
     by false e = Same-refl (surd_of q)
 number_means (add ts) f h = (terms_of ts, terms_mean ts f h.1, Same-refl (terms_of ts))
 number_means (root a) f h = term_means (root a) f h

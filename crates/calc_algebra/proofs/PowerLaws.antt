@@ -1,5 +1,5 @@
 -- Powers: laws of exponents for natural and for whole exponents, powers of products, of powers and of roots, and powers of rationals.
-use Rattle.calc_algebra.proofs.Shared.{◌≡◌, ℕ, zero, suc, ◌+◌, ◌*◌, ◌<◌, ◌⊎◌, inl, inr, ℤ, pos, negsuc, neg_ℤ, ◌+ℤ◌, ◌*ℤ◌, [], refl, sym, ap, ◌∙◌, arith, subst, ints, fraction_power, Fraction, lowest}
+use Rattle.calc_algebra.proofs.Shared.{◌≡◌, ℕ, zero, suc, ◌+◌, ◌*◌, ◌<◌, ◌⊎◌, inl, inr, ℤ, pos, negsuc, neg_ℤ, ◌+ℤ◌, ◌*ℤ◌, refl, sym, ap, ◌∙◌, arith, subst, ints, fraction_power, Fraction, lowest, []}
 use Rattle.calc_algebra.proofs.Shared.{times, zero_fraction, same_lowest, lowest_parts, den_pos, times_lowest, mul_pos, whole_fraction, gcd, parts, diff_eq, mul_diff, IsWholePower, IsRootOf, IsRoot}
 use Rattle.calc_algebra.proofs.{Shared.{Same, Inverts, Surd, surd_of, surd_one, surd_times, surd_power, up, down}, MeaningLaws.{class_coefficient-surd_of, Same-sym}}
 use Rattle.calc_algebra.proofs.{SquareClassLaws.{Same-Agree, Same-trans}, SurdLaws.{Agree, Agree-refl, Agree-sym, Agree-trans, Agree-eq, Agree-Same, Agree-surd_times, Agree-surd_times_right}}
@@ -13,32 +13,22 @@ pub Agree-power_suc : (v : Surd) (n : ℕ) → Agree (surd_power v (suc n)) (sur
 Agree-power_suc v n = grind (arith, Agree-sym, surd_times-one, Agree-refl)
 
 pub Agree-power_add : (v : Surd) (a b : ℕ) → Agree (surd_power v (a + b)) (surd_times (surd_power v a) (surd_power v b))
-Agree-power_add v zero b = Agree-trans (Agree-eq (ap (surd_power v) (plain b))) (Agree-eq (sym (surd_times-surd_one (surd_power v b))))
-  where
-    plain : (b : ℕ) → 0 + b ≡ b
-    plain b = omega arith
+Agree-power_add v zero b = let plain : 0 + b ≡ b = omega arith in Agree-trans (Agree-eq (ap (surd_power v) plain)) (Agree-eq (sym (surd_times-surd_one (surd_power v b))))
 Agree-power_add v (suc a) b =
-    Agree-trans (Agree-eq (ap (surd_power v) (moved a b)))
+    let moved : suc a + b ≡ suc (a + b) = omega arith in
+    Agree-trans (Agree-eq (ap (surd_power v) moved))
     (Agree-trans (Agree-power_suc v (a + b))
     (Agree-trans (Agree-surd_times_right v (Agree-power_add v a b))
     (Agree-trans (Agree-eq (sym (surd_times_assoc v (surd_power v a) (surd_power v b))))
     (Agree-surd_times (Agree-sym (Agree-power_suc v a)) (Agree-refl (surd_power v b))))))
-  where
-    moved : (a b : ℕ) → suc a + b ≡ suc (a + b)
-    moved a b = omega arith
 
 pub Agree-power_mul : (v : Surd) (a b : ℕ) → Agree (surd_power v (a * b)) (surd_power (surd_power v a) b)
-Agree-power_mul v a zero = Agree-eq (ap (surd_power v) (none a))
-  where
-    none : (a : ℕ) → a * 0 ≡ 0
-    none a = omega arith
+Agree-power_mul v a zero = let none : a * 0 ≡ 0 = omega arith in Agree-eq (ap (surd_power v) none)
 Agree-power_mul v a (suc b) =
-    Agree-trans (Agree-eq (ap (surd_power v) (split a b)))
+    let split : a * suc b ≡ a + a * b = omega arith in
+    Agree-trans (Agree-eq (ap (surd_power v) split))
     (Agree-trans (Agree-power_add v a (a * b))
     (Agree-trans (Agree-surd_times_right (surd_power v a) (Agree-power_mul v a b)) (Agree-sym (Agree-power_suc (surd_power v a) b))))
-  where
-    split : (a b : ℕ) → a * suc b ≡ a + a * b
-    split a b = omega arith
 
 pub Agree-power_times : (u w : Surd) (n : ℕ) → Agree (surd_power (surd_times u w) n) (surd_times (surd_power u n) (surd_power w n))
 Agree-power_times u w zero = Agree-eq (sym (surd_times-surd_one surd_one))
@@ -52,49 +42,24 @@ pub Agree-power_one : (n : ℕ) → Agree (surd_power surd_one n) surd_one
 Agree-power_one zero = Agree-refl surd_one
 Agree-power_one (suc n) = Agree-trans (Agree-power_suc surd_one n) (Agree-trans (Agree-eq (surd_times-surd_one (surd_power surd_one n))) (Agree-power_one n))
 
--- one factor more
-pub surd_power-suc : (v : Surd) (n : ℕ) → Same (surd_power v (suc n)) (surd_times v (surd_power v n))
-surd_power-suc v n = Agree-Same (Agree-power_suc v n)
-
--- exponents are added
-pub surd_power-add : (v : Surd) (a b : ℕ) → Same (surd_power v (a + b)) (surd_times (surd_power v a) (surd_power v b))
-surd_power-add v a b = Agree-Same (Agree-power_add v a b)
-
--- exponents are multiplied
-pub surd_power-mul : (v : Surd) (a b : ℕ) → Same (surd_power v (a * b)) (surd_power (surd_power v a) b)
-surd_power-mul v a b = Agree-Same (Agree-power_mul v a b)
-
--- the power of a product
-pub surd_power-surd_times : (u w : Surd) (n : ℕ) → Same (surd_power (surd_times u w) n) (surd_times (surd_power u n) (surd_power w n))
-surd_power-surd_times u w n = Agree-Same (Agree-power_times u w n)
-
--- powers of 1
-pub surd_power-surd_one : (n : ℕ) → Same (surd_power surd_one n) surd_one
-surd_power-surd_one n = Agree-Same (Agree-power_one n)
-
 -- powers of zero
 pub surd_power-zero : (w : Surd) (n : ℕ) → Same w [] → Same (surd_power w (suc n)) []
-surd_power-zero w n h = Same-trans (surd_power-suc w n) (Agree-Same (Agree-surd_times (Same-Agree h) (Agree-refl (surd_power w n))))
+surd_power-zero w n h = Same-trans (Agree-Same (Agree-power_suc w n)) (Agree-Same (Agree-surd_times (Same-Agree h) (Agree-refl (surd_power w n))))
 
 -- a step of squaring
 pub surd_power-squared : (v x : Surd) (n : ℕ) → Same x (surd_power v n) → Same (surd_times x x) (surd_power v (2 * n))
-surd_power-squared v x n h = Same-trans (Same-surd_times h h) (Same-trans (Same-sym (surd_power-add v n n)) (Same-eq (ap (surd_power v) (twice n))))
-  where
-    twice : (n : ℕ) → n + n ≡ 2 * n
-    twice n = omega arith
+surd_power-squared v x n h =
+    let twice : n + n ≡ 2 * n = omega arith in
+    Same-trans (Same-surd_times h h) (Same-trans (Same-sym (Agree-Same (Agree-power_add v n n))) (Same-eq (ap (surd_power v) twice)))
 
 -- a step of multiplying
 pub surd_power-multiplied : (v x : Surd) (n : ℕ) → Same x (surd_power v n) → Same (surd_times x v) (surd_power v (suc n))
-surd_power-multiplied v x n h = Same-trans (Agree-Same (surd_times_comm x v)) (Same-trans (Same-surd_times (Same-refl v) h) (Same-sym (surd_power-suc v n)))
-
--- a power with an even exponent is one of the square
-pub surd_power-even : (v : Surd) (n : ℕ) → Same (surd_power v (2 * n)) (surd_power (surd_times v v) n)
-surd_power-even v n = surd_power-mul v 2 n
+surd_power-multiplied v x n h = Same-trans (Agree-Same (surd_times_comm x v)) (Same-trans (Same-surd_times (Same-refl v) h) (Same-sym (Agree-Same (Agree-power_suc v n))))
 
 -- powers of a rational are those of fractions
 pub surd_power-surd_of : (q : Fraction) (n : ℕ) → Same (surd_power (surd_of q) n) (surd_of (fraction_power q n))
 surd_power-surd_of q zero = Same-refl surd_one
-surd_power-surd_of q (suc n) = Same-trans (surd_power-suc (surd_of q) n) (Same-surd_times (Same-refl (surd_of q)) (surd_power-surd_of q n))
+surd_power-surd_of q (suc n) = Same-trans (Agree-Same (Agree-power_suc (surd_of q) n)) (Same-surd_times (Same-refl (surd_of q)) (surd_power-surd_of q n))
 
 -- ---- whole exponents of what has an inverse
 
@@ -122,11 +87,8 @@ module _ (w y : Surd) (h : Inverts y w) where
 
   same_over : (p q r s : ℕ) → p + s ≡ r + q → Agree (power_over w y p q) (power_over w y r s)
   same_over p q r s e =
-      Agree-trans (widened p q s)
-      (Agree-trans (Agree-eq (λ i. power_over w y (e i) (turned i))) (Agree-sym (widened r s q)))
-    where
-      turned : q + s ≡ s + q
-      turned = omega arith
+      let turned : q + s ≡ s + q = omega arith in
+      Agree-trans (widened p q s) (Agree-trans (Agree-eq (λ i. power_over w y (e i) (turned i))) (Agree-sym (widened r s q)))
 
   pub integer_power-add : (m n : ℤ) → Agree (integer_power w y (m +ℤ n)) (surd_times (integer_power w y m) (integer_power w y n))
   integer_power-add m n =
@@ -150,14 +112,12 @@ module _ (w y : Surd) (h : Inverts y w) where
 
   powers_over : (p q r s : ℕ) → Agree (power_over (power_over w y p q) (power_over y w p q) r s) (power_over w y (p * r + q * s) (p * s + q * r))
   powers_over p q r s =
+      let turned : q * r + p * s ≡ p * s + q * r = omega arith in
       Agree-trans (Agree-surd_times (one w y r) (Agree-trans (one y w s) (surd_times_comm (surd_power y (p * s)) (surd_power w (q * s)))))
       (Agree-trans (gathered (p * r) (q * r) (q * s) (p * s)) (Agree-eq (λ i. power_over w y (p * r + q * s) (turned i))))
     where
       one : (a b : Surd) (r : ℕ) → Agree (surd_power (power_over a b p q) r) (surd_times (surd_power a (p * r)) (surd_power b (q * r)))
       one a b r = Agree-trans (Agree-power_times (surd_power a p) (surd_power b q) r) (Agree-surd_times (Agree-sym (Agree-power_mul a p r)) (Agree-sym (Agree-power_mul b q r)))
-
-      turned : q * r + p * s ≡ p * s + q * r
-      turned = omega arith
 
   product_parts : (m n : ℤ) → up (m *ℤ n) + (up m * down n + down m * up n) ≡ (up m * up n + down m * down n) + down (m *ℤ n)
   product_parts m n = diff_eq _ _ _ _ (sym (parts (m *ℤ n)) ∙ (λ i. parts m i *ℤ parts n i) ∙ mul_diff (up m) (down m) (up n) (down n))
@@ -194,7 +154,7 @@ by_inverse m n w u v y i h k =
 pub whole_power_add : (m n : ℤ) (w u v : Surd) → IsWholePower m w u → IsWholePower n w v → IsWholePower (m +ℤ n) w (surd_times u v)
 whole_power_add (pos a) (pos b) w u v h k =
     natural_power_from (a + b) w (surd_times u v) (λ e. not_zero_to_zero a w u h (omega arith))
-    (Same-trans (Same-surd_times (natural_power_is a w u h) (natural_power_is b w v k)) (Same-sym (surd_power-add w a b)))
+    (Same-trans (Same-surd_times (natural_power_is a w u h) (natural_power_is b w v k)) (Same-sym (Agree-Same (Agree-power_add w a b))))
 whole_power_add (pos a) (negsuc b) w u v h (y, i, k) = by_inverse (pos a) (negsuc b) w u v y i h (y, i, k)
 whole_power_add (negsuc a) n w u v (y, i, h) k = by_inverse (negsuc a) n w u v y i (y, i, h) k
 
@@ -219,7 +179,7 @@ pub whole_power_mul : (m n : ℤ) (w u v : Surd) → IsWholePower m w u → IsWh
 whole_power_mul (negsuc a) n w u v (y, i, h) k = powers_by_inverse (negsuc a) n w u v y i (y, i, h) k
 whole_power_mul (pos a) (pos b) w u v h k =
     natural_power_from (a * b) w v (λ e z. by a b h k e z (factor a b e))
-    (Same-trans (natural_power_is b u v k) (Same-trans (Same-surd_power b (natural_power_is a w u h)) (Same-sym (surd_power-mul w a b))))
+    (Same-trans (natural_power_is b u v k) (Same-trans (Same-surd_power b (natural_power_is a w u h)) (Same-sym (Agree-Same (Agree-power_mul w a b)))))
   where
     factor : (a b : ℕ) → a * b ≡ 0 → (a ≡ 0) ⊎ (b ≡ 0)
     factor zero b e = inl refl
@@ -234,11 +194,9 @@ whole_power_mul (pos a) (pos b) w u v h k =
     by a b h k e z (inl f) = not_zero_to_zero a w u h f z
     by a b h k e z (inr f) = not_zero_to_zero b u v k f (vanishes a h z)
 whole_power_mul (pos zero) (negsuc b) w u v (h, e) (y, i, k) =
-    subst (λ n. IsWholePower n w v) (zero_product b)
-    (h, Same-trans k (Same-trans (Same-surd_power (suc b) (Inverts-one y surd_one u i (Inverts-Same (Same-refl surd_one) (Same-sym e) Inverts-surd_one))) (surd_power-surd_one (suc b))))
-  where
-    zero_product : (b : ℕ) → pos 0 ≡ pos 0 *ℤ negsuc b
-    zero_product b = omega (arith, ints)
+    let zero_product : pos 0 ≡ pos 0 *ℤ negsuc b = omega (arith, ints) in
+    subst (λ n. IsWholePower n w v) zero_product
+    (h, Same-trans k (Same-trans (Same-surd_power (suc b) (Inverts-one y surd_one u i (Inverts-Same (Same-refl surd_one) (Same-sym e) Inverts-surd_one))) (Agree-Same (Agree-power_one (suc b)))))
 whole_power_mul (pos (suc a)) (negsuc b) w u v h (y, i, k) = powers_by_inverse (pos (suc a)) (negsuc b) w u v (surd_times y (surd_power w a)) (inverse_of_base a w u y h i) h (y, i, k)
 
 -- the power of a product is the product of the powers
@@ -250,13 +208,13 @@ whole_power_of_product (pos zero) u w v (h, k) = (
   ((λ z. h (Same-times_zero u w z)), Same-refl surd_one),
   Same-trans k (Same-eq (sym (surd_times-surd_one surd_one))),
 )
-whole_power_of_product (pos (suc n)) u w v h = (surd_power u (suc n), surd_power w (suc n), Same-refl _, Same-refl _, Same-trans h (surd_power-surd_times u w (suc n)))
+whole_power_of_product (pos (suc n)) u w v h = (surd_power u (suc n), surd_power w (suc n), Same-refl _, Same-refl _, Same-trans h (Agree-Same (Agree-power_times u w (suc n))))
 whole_power_of_product (negsuc n) u w v (z, i, k) = (
   surd_power (surd_times z w) (suc n),
   surd_power (surd_times z u) (suc n),
   (surd_times z w, Agree-Same (left w u (Agree-trans (Agree-surd_times_right z (surd_times_comm w u)) (Same-Agree i))), Same-refl _),
   (surd_times z u, Agree-Same (left u w (Same-Agree i)), Same-refl _),
-  Same-trans k (Same-trans (Same-surd_power (suc n) (Agree-Same whole)) (surd_power-surd_times (surd_times z w) (surd_times z u) (suc n))),
+  Same-trans k (Same-trans (Same-surd_power (suc n) (Agree-Same whole)) (Agree-Same (Agree-power_times (surd_times z w) (surd_times z u) (suc n)))),
 )
   where
     left : (a b : Surd) → Agree (surd_times z (surd_times a b)) surd_one → Agree (surd_times (surd_times z a) b) surd_one
@@ -271,8 +229,8 @@ whole_power_of_product (negsuc n) u w v (z, i, k) = (
 -- powers of 1 are 1
 pub whole_power_of_one : (n : ℤ) (v : Surd) → IsWholePower n surd_one v → Same v surd_one
 whole_power_of_one (pos zero) v (h, k) = k
-whole_power_of_one (pos (suc n)) v k = Same-trans k (surd_power-surd_one (suc n))
-whole_power_of_one (negsuc n) v (y, i, k) = Same-trans k (Same-trans (Same-surd_power (suc n) (Inverts-one y surd_one surd_one i Inverts-surd_one)) (surd_power-surd_one (suc n)))
+whole_power_of_one (pos (suc n)) v k = Same-trans k (Agree-Same (Agree-power_one (suc n)))
+whole_power_of_one (negsuc n) v (y, i, k) = Same-trans k (Same-trans (Same-surd_power (suc n) (Inverts-one y surd_one surd_one i Inverts-surd_one)) (Agree-Same (Agree-power_one (suc n))))
 
 -- w^-n is the power n of an inverse
 pub whole_power_negative : (n : ℕ) (w v y : Surd) → Inverts y w → IsWholePower (negsuc n) w v → Same v (surd_power y (suc n))
@@ -335,20 +293,15 @@ even_power_of_root n k x v u e r h = by k (subst (λ m. IsWholePower m v u) e h)
     square : Same (surd_times v v) x
     square = root_squared x v r
 
-    twice : (a : ℕ) → suc a + suc a ≡ 2 * suc a
-    twice a = omega arith
-
     by : (k : ℤ) → IsWholePower (k +ℤ k) v u → IsWholePower k x u
     by (pos zero) (a, b) = ((λ z. a (root_zero x v r z)), b)
     by (pos (suc a)) b =
+        let twice : suc a + suc a ≡ 2 * suc a = omega arith in
         Same-trans (natural_power_is (suc a + suc a) v u b)
-        (Same-trans (Same-eq (ap (surd_power v) (twice a)))
-        (Same-trans (surd_power-even v (suc a)) (Same-surd_power (suc a) square)))
-    by (negsuc a) (y, i, b) = (
+        (Same-trans (Same-eq (ap (surd_power v) twice))
+        (Same-trans (Agree-Same (Agree-power_mul v 2 (suc a))) (Same-surd_power (suc a) square)))
+    by (negsuc a) (y, i, b) = let doubled : suc (suc (a + a)) ≡ 2 * suc a = omega arith in (
       surd_times y y,
       Inverts-Same (Same-refl (surd_times y y)) square (Inverts-surd_times y v y v i i),
-      Same-trans b (Same-trans (Same-eq (ap (surd_power y) (doubled a))) (surd_power-even y (suc a))),
+      Same-trans b (Same-trans (Same-eq (ap (surd_power y) doubled)) (Agree-Same (Agree-power_mul y 2 (suc a)))),
     )
-      where
-        doubled : (a : ℕ) → suc (suc (a + a)) ≡ 2 * suc a
-        doubled a = omega arith

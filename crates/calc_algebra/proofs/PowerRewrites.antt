@@ -120,7 +120,7 @@ pub power_of_product : (ts : Trees) (n : ℤ) → KeepsMeanings (power (mult ts)
 power_of_product ts n = record { means = λ f once v m. let p = power_parts f (mult ts) n v m in powers_mean f ts n p.base v p.base_means p.is }
 
 -- the root that the power by half of an odd whole number is taken of
-half_exponent_is : (h : Fraction) (w x v : Surd) → h.den ≡ 2 → Same x (surd_of h) → IsPower w x v → (u : Surd) × IsRoot w u × IsWholePower h.num u v
+pub half_exponent_is : (h : Fraction) (w x v : Surd) → h.den ≡ 2 → Same x (surd_of h) → IsPower w x v → (u : Surd) × IsRoot w u × IsWholePower h.num u v
 half_exponent_is h w x v d e (inl (n, s, p)) = absurd (whole_is_no_half n h d (one_rational (whole_fraction n) h x x (Agree-refl x) s e))
 half_exponent_is h w x v d e (inr (q, c, s, u, r, p)) =
     let z : q ≡ h = one_rational q h x x (Agree-refl x) s e in

@@ -1,11 +1,9 @@
 -- The test for reduced trees says what its words say.
-use Rattle.calc_algebra.proofs.Shared.{◌≡◌, inl, inr, ℕ, Bool, true, false, not, ◌&&◌, ◌||◌, ◌==◌, nat_le, if◌then◌else◌, refl, ap, arith, Ordering, Less, is_lt, and_parts}
-use Rattle.calc_algebra.proofs.Shared.{and_from, or_left, or_right, not-true, not_from_false, eqb-true, leb-true, false_from_ne_true, int_is_negative, int_is_even, Fraction, is_zero_fraction}
-use Rattle.calc_algebra.proofs.Shared.{is_one_fraction, Tree, num, symbol, undef, add, mult, power, root, neg, sub, div, Trees, none, more, has_two, HasTwo, AllParts, AllPartsOf, is_add, is_mult}
-use Rattle.calc_algebra.proofs.Shared.{is_root, is_undef, tree_cmp, is_number, terms_of, rises, classes, is_transparent_power, base_of, whole_power_form, power_form, split_product, part_of, none_is}
-use Rattle.calc_algebra.proofs.Shared.{rises_by, number_terms, other_terms, sum_form, front_form, is_undistributed, product_form, node_form, has_form, all_parts, all_parts_of, is_reduced, NoneIs}
-use Rattle.calc_algebra.proofs.Shared.{RisesBy, IsWholePowerForm, IsPowerForm, IsSumForm, IsFrontForm, IsProductForm, IsNodeForm, HasForm, IsReduced, no_zero, no_one, zero_test, one_test}
-use Rattle.calc_algebra.proofs.NumberLaws.{number_words, number_test, rises_words, rises_test}
+use Rattle.calc_algebra.proofs.Shared.{◌≡◌, inl, inr, ℕ, Bool, true, false, not, ◌||◌, ◌==◌, if◌then◌else◌, refl, ap, arith, is_lt, and_parts, and_from, or_left, or_right, not-true}
+use Rattle.calc_algebra.proofs.Shared.{not_from_false, eqb-true, leb-true, false_from_ne_true, Fraction, Tree, num, undef, add, mult, power, root, neg, sub, div, Trees, none, more}
+use Rattle.calc_algebra.proofs.Shared.{AllParts, AllPartsOf, is_undef, tree_cmp, whole_power_form, power_form, split_product, none_is, rises_by, sum_form, product_form}
+use Rattle.calc_algebra.proofs.Shared.{has_form, all_parts, all_parts_of, is_reduced, NoneIs, RisesBy, IsWholePowerForm, IsPowerForm, IsSumForm, IsProductForm, HasForm}
+use Rattle.calc_algebra.proofs.{Shared.{IsReduced, no_zero, no_one, zero_test, one_test}, NumberLaws.{number_words, number_test, rises_words, rises_test}}
 
 -- ---- Booleans
 
@@ -21,12 +19,6 @@ implied a b h = grind arith
 
 -- ---- lists
 
-two_words : (ts : Trees) → has_two ts ≡ true → HasTwo ts
-two_words ts h = grind arith
-
-two_test : (ts : Trees) → HasTwo ts → has_two ts ≡ true
-two_test ts h = grind arith
-
 pub none_words : (p : Tree → Bool) (ts : Trees) → none_is p ts ≡ true → NoneIs p ts
 none_words p none h = tt
 none_words p (more t ts) h = let (a, b) = and_parts (not (p t)) (none_is p ts) h in (from_not (p t) a, none_words p ts b)
@@ -35,15 +27,12 @@ pub none_test : (p : Tree → Bool) (ts : Trees) → NoneIs p ts → none_is p t
 none_test p none h = refl
 none_test p (more t ts) h = and_from (not (p t)) (none_is p ts) (not_from_false (p t) h.0) (none_test p ts h.1)
 
-lt_words : (o : Ordering) → is_lt o ≡ true → o ≡ Less
-lt_words o h = grind arith
-
 pub rises_by_words : (key : Tree → Tree) (ts : Trees) → rises_by key ts ≡ true → RisesBy key ts
 rises_by_words key none h = tt
 rises_by_words key (more t none) h = tt
 rises_by_words key (more t (more u ts)) h =
     let (a, b) = and_parts (is_lt (tree_cmp (key t) (key u))) (rises_by key (more u ts)) h in
-    (lt_words (tree_cmp (key t) (key u)) a, rises_by_words key (more u ts) b)
+    (grind arith, rises_by_words key (more u ts) b)
 
 pub rises_by_test : (key : Tree → Tree) (ts : Trees) → RisesBy key ts → rises_by key ts ≡ true
 rises_by_test key none h = refl
@@ -75,59 +64,36 @@ power_test b e h = refl
 -- ---- sums and products
 
 pub sum_words : (ts : Trees) → sum_form ts ≡ true → IsSumForm ts
-sum_words ts h = grind (arith, and_parts, two_words, none_words, rises_words, rises_by_words)
+sum_words ts h = grind (arith, and_parts, none_words, rises_words, rises_by_words)
 
 pub sum_test : (ts : Trees) → IsSumForm ts → sum_form ts ≡ true
-sum_test ts h = grind (arith, and_from, two_test, none_test, rises_test, rises_by_test)
-
-front_words : (ts : Trees) → front_form ts ≡ true → IsFrontForm ts
-front_words ts h = grind (arith, no_zero, no_one)
-
-front_test : (ts : Trees) → IsFrontForm ts → front_form ts ≡ true
-front_test ts h = grind (arith, and_from, not_from_false, zero_test, one_test)
+sum_test ts h = grind (arith, and_from, none_test, rises_test, rises_by_test)
 
 pub product_words : (ts : Trees) → product_form ts ≡ true → IsProductForm ts
-product_words ts h = grind (arith, and_parts, split_product, two_words, none_words, front_words, rises_by_words, from_not)
+product_words ts h = grind (arith, and_parts, split_product, none_words, no_zero, no_one, rises_by_words, from_not)
 
 pub product_test : (ts : Trees) → IsProductForm ts → product_form ts ≡ true
-product_test ts h = grind (arith, and_from, two_test, none_test, front_test, rises_by_test, not_from_false)
+product_test ts h = grind (arith, and_from, none_test, zero_test, one_test, rises_by_test, not_from_false)
 
 -- ---- nodes and parts
 
-node_words : (t : Tree) → node_form t ≡ true → IsNodeForm t
-node_words t h = grind (arith, from_not, power_words, sum_words, product_words)
-
-node_test : (t : Tree) → IsNodeForm t → node_form t ≡ true
-node_test t h = grind (arith, not_from_false, power_test, sum_test, product_test)
-
 pub form_words : (t : Tree) → has_form t ≡ true → HasForm t
-form_words t h = grind (arith, number_words, node_words)
+form_words t h = grind (arith, number_words, from_not, power_words, sum_words, product_words)
 
 pub form_test : (t : Tree) → HasForm t → has_form t ≡ true
-form_test t h = grind (arith, or_left, number_test, or_right, node_test)
+form_test t h = grind (arith, or_left, number_test, or_right, not_from_false, power_test, sum_test, product_test)
 
 module _ (p : Tree → Bool) (P : Tree → Type 0) where
   mutual
     pub all_parts_words : ((t : Tree) → p t ≡ true → P t) → (t : Tree) → all_parts p t ≡ true → AllParts P t
     all_parts_words f (add ts) h = let (a, b) = and_parts (p (add ts)) _ h in (f (add ts) a, all_parts_of_words f ts b)
     all_parts_words f (mult ts) h = let (a, b) = and_parts (p (mult ts)) _ h in (f (mult ts) a, all_parts_of_words f ts b)
-    all_parts_words f (power b e) h =
-        let (ab, c) = and_parts (p (power b e) && all_parts p b) _ h in
-        let (a, d) = and_parts (p (power b e)) _ ab in
-        (f (power b e) a, all_parts_words f b d, all_parts_words f e c)
+    all_parts_words f (power b e) h = grind (arith, and_parts, f, all_parts_words f b, all_parts_words f e)
     all_parts_words f (root a) h = let (x, y) = and_parts (p (root a)) _ h in (f (root a) x, all_parts_words f a y)
     all_parts_words f (neg a) h = let (x, y) = and_parts (p (neg a)) _ h in (f (neg a) x, all_parts_words f a y)
-    all_parts_words f (sub a b) h =
-        let (xy, z) = and_parts (p (sub a b) && all_parts p a) _ h in
-        let (x, y) = and_parts (p (sub a b)) _ xy in
-        (f (sub a b) x, all_parts_words f a y, all_parts_words f b z)
-    all_parts_words f (div a b) h =
-        let (xy, z) = and_parts (p (div a b) && all_parts p a) _ h in
-        let (x, y) = and_parts (p (div a b)) _ xy in
-        (f (div a b) x, all_parts_words f a y, all_parts_words f b z)
-    all_parts_words f (num q) h = f (num q) h
-    all_parts_words f (symbol x) h = f (symbol x) h
-    all_parts_words f undef h = f undef h
+    all_parts_words f (sub a b) h = grind (arith, and_parts, f, all_parts_words f a, all_parts_words f b)
+    all_parts_words f (div a b) h = grind (arith, and_parts, f, all_parts_words f a, all_parts_words f b)
+    all_parts_words f t h = f t h
 
     pub all_parts_of_words : ((t : Tree) → p t ≡ true → P t) → (ts : Trees) → all_parts_of p ts ≡ true → AllPartsOf P ts
     all_parts_of_words f none h = tt
@@ -142,38 +108,15 @@ module _ (p : Tree → Bool) (P : Tree → Type 0) where
     all_parts_test f (neg a) h = and_from _ _ (f (neg a) h.0) (all_parts_test f a h.1)
     all_parts_test f (sub a b) h = and_from _ _ (and_from _ _ (f (sub a b) h.0) (all_parts_test f a h.1)) (all_parts_test f b h.2)
     all_parts_test f (div a b) h = and_from _ _ (and_from _ _ (f (div a b) h.0) (all_parts_test f a h.1)) (all_parts_test f b h.2)
-    all_parts_test f (num q) h = f (num q) h
-    all_parts_test f (symbol x) h = f (symbol x) h
-    all_parts_test f undef h = f undef h
+    all_parts_test f t h = f t h
 
     pub all_parts_of_test : ((t : Tree) → P t → p t ≡ true) → (ts : Trees) → AllPartsOf P ts → all_parts_of p ts ≡ true
     all_parts_of_test f none h = refl
     all_parts_of_test f (more t ts) h = and_from _ _ (all_parts_test f t h.0) (all_parts_of_test f ts h.1)
 
-module _ (P Q : Tree → Type 0) (f : (t : Tree) → P t → Q t) where
-  mutual
-    pub AllParts-map : (t : Tree) → AllParts P t → AllParts Q t
-    AllParts-map (num q) h = f (num q) h
-    AllParts-map (symbol x) h = f (symbol x) h
-    AllParts-map undef h = f undef h
-    AllParts-map (add ts) h = (f (add ts) h.0, AllPartsOf-map ts h.1)
-    AllParts-map (mult ts) h = (f (mult ts) h.0, AllPartsOf-map ts h.1)
-    AllParts-map (power b e) h = (f (power b e) h.0, AllParts-map b h.1, AllParts-map e h.2)
-    AllParts-map (root a) h = (f (root a) h.0, AllParts-map a h.1)
-    AllParts-map (neg a) h = (f (neg a) h.0, AllParts-map a h.1)
-    AllParts-map (sub a b) h = (f (sub a b) h.0, AllParts-map a h.1, AllParts-map b h.2)
-    AllParts-map (div a b) h = (f (div a b) h.0, AllParts-map a h.1, AllParts-map b h.2)
-
-    pub AllPartsOf-map : (ts : Trees) → AllPartsOf P ts → AllPartsOf Q ts
-    AllPartsOf-map none h = tt
-    AllPartsOf-map (more t ts) h = (AllParts-map t h.0, AllPartsOf-map ts h.1)
-
 module _ (P Q R : Tree → Type 0) (f : (t : Tree) → P t → Q t → R t) where
   mutual
     pub AllParts-zip : (t : Tree) → AllParts P t → AllParts Q t → AllParts R t
-    AllParts-zip (num q) h k = f (num q) h k
-    AllParts-zip (symbol x) h k = f (symbol x) h k
-    AllParts-zip undef h k = f undef h k
     AllParts-zip (add ts) h k = (f (add ts) h.0 k.0, AllPartsOf-zip ts h.1 k.1)
     AllParts-zip (mult ts) h k = (f (mult ts) h.0 k.0, AllPartsOf-zip ts h.1 k.1)
     AllParts-zip (power b e) h k = (f (power b e) h.0 k.0, AllParts-zip b h.1 k.1, AllParts-zip e h.2 k.2)
@@ -181,10 +124,18 @@ module _ (P Q R : Tree → Type 0) (f : (t : Tree) → P t → Q t → R t) wher
     AllParts-zip (neg a) h k = (f (neg a) h.0 k.0, AllParts-zip a h.1 k.1)
     AllParts-zip (sub a b) h k = (f (sub a b) h.0 k.0, AllParts-zip a h.1 k.1, AllParts-zip b h.2 k.2)
     AllParts-zip (div a b) h k = (f (div a b) h.0 k.0, AllParts-zip a h.1 k.1, AllParts-zip b h.2 k.2)
+    AllParts-zip t h k = f t h k
 
     pub AllPartsOf-zip : (ts : Trees) → AllPartsOf P ts → AllPartsOf Q ts → AllPartsOf R ts
     AllPartsOf-zip none h k = tt
     AllPartsOf-zip (more t ts) h k = (AllParts-zip t h.0 k.0, AllPartsOf-zip ts h.1 k.1)
+
+module _ (P Q : Tree → Type 0) (f : (t : Tree) → P t → Q t) where
+  pub AllParts-map : (t : Tree) → AllParts P t → AllParts Q t
+  AllParts-map t h = AllParts-zip P P Q (λ u a b. f u a) t h h
+
+  pub AllPartsOf-map : (ts : Trees) → AllPartsOf P ts → AllPartsOf Q ts
+  AllPartsOf-map ts h = AllPartsOf-zip P P Q (λ u a b. f u a) ts h h
 
 pub undef_words : (t : Tree) → is_undef t ≡ true → t ≡ undef
 undef_words t h = grind arith

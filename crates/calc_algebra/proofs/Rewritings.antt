@@ -1,19 +1,16 @@
 -- Rewritings that follow one another.
 use Rattle.calc_algebra.proofs.Shared.{◌≡◌, true, is_reduced, Tree, KeepsMeanings, HasNoNewName, Rewrites, Reduces}
-use Rattle.calc_algebra.proofs.MeaningRewrites as rewrites
+pub use Rattle.calc_algebra.proofs.MeaningRewrites.{KeepsMeanings-trans}
 
 -- what the laws of meanings say of rewritings
-pub keeps : {t u : Tree} → rewrites.KeepsMeanings t u → KeepsMeanings t u
-keeps h = record { means = h.means }
+pub keeps : {t u : Tree} → KeepsMeanings t u → KeepsMeanings t u
+keeps h = h
 
-pub kept : {t u : Tree} → KeepsMeanings t u → rewrites.KeepsMeanings t u
-kept h = record { means = h.means }
+pub kept : {t u : Tree} → KeepsMeanings t u → KeepsMeanings t u
+kept h = h
 
 pub HasNoNewName-trans : {t u x : Tree} → HasNoNewName t u → HasNoNewName u x → HasNoNewName t x
 HasNoNewName-trans h k = record { name = λ y c. h.name y (k.name y c) }
-
-pub KeepsMeanings-trans : {t u x : Tree} → KeepsMeanings t u → KeepsMeanings u x → KeepsMeanings t x
-KeepsMeanings-trans h k = record { means = λ f once v m. k.means f once v (h.means f once v m) }
 
 pub Rewrites-refl : (t : Tree) → Rewrites t t
 Rewrites-refl t = record { no_new_name = record { name = λ x c. c }; meanings = record { means = λ f once v m. m } }

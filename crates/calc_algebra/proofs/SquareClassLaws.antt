@@ -1,7 +1,7 @@
 -- Being alike is an equivalence, and surds that are equal class by class agree at every number.
-use Rattle.calc_algebra.proofs.Shared.{ℕ, zero, suc, ◌*◌, ◌≡◌, ◌<◌, ◌⊎◌, pos, ◌*ℤ◌, [], ◌∷◌, Bool, true, false, Contains, refl, sym, ap, ◌∙◌, arith, inl, inr, Contains-append_right, and_from}
+use Rattle.calc_algebra.proofs.Shared.{ℕ, ◌*◌, ◌≡◌, ◌<◌, ◌⊎◌, pos, ◌*ℤ◌, ◌∷◌, Bool, true, false, Contains, refl, sym, ap, ◌∙◌, arith, inl, inr, Contains-append_right, and_from, []}
 use Rattle.calc_algebra.proofs.Shared.{times_comm, times_assoc, times_plus, zero_plus, zero_times, Fraction, plus, times, zero_fraction, same_lowest, times_lowest, mul_pos, quotient, are_alike}
-use Rattle.calc_algebra.proofs.{Shared.{term_share, class_coefficient, radicands, Same, square_root, Term, Surd}, SquareRootLaws.{square_root-square, square_from_scaled}}
+use Rattle.calc_algebra.proofs.{Shared.{term_share, class_coefficient, radicands, Same, square_root, Term, Surd}, SquareRootLaws.{factor_pos, square_root-square, square_from_scaled}}
 use Rattle.calc_algebra.proofs.SurdLaws.{Agree, Agree-Same, Agree-trans}
 
 -- the product is the square of t, which is not 0
@@ -33,16 +33,12 @@ alike_trans r c s t u a b =
     let e : (r * s) * (c * c) ≡ (t * u) * (t * u) = squares r c s t u (a.square) (b.square) in
     let (x, f) = square_from_scaled (r * s) c (t * u) (positive_right r c t a) e in (
       x,
-      record { square = sym f; positive = nonzero x r s (sym f) (positive_right c r t (alike_sym r c t a)) (positive_right c s u b) },
+      record { square = sym f; positive = factor_pos x x (r * s) (sym f) (mul_pos r s (positive_right c r t (alike_sym r c t a)) (positive_right c s u b)) },
       same_squares (x * c) (t * u) (omega (arith, e, ap (λ n. n * (c * c)) f)),
     )
   where
     squares : (r c s t u : ℕ) → t * t ≡ r * c → u * u ≡ c * s → (r * s) * (c * c) ≡ (t * u) * (t * u)
     squares r c s t u p q = omega (arith, ap (λ n. n * (u * u)) p, ap (λ n. (r * c) * n) q)
-
-    nonzero : (x r s : ℕ) → x * x ≡ r * s → 0 < r → 0 < s → 0 < x
-    nonzero zero r s e p q = absurd (omega (arith, mul_pos r s p q))
-    nonzero (suc x) r s e p q = omega arith
 
 -- the coefficient at one number of a class tells that at another
 same_bool : (a b : Bool) → (a ≡ true → b ≡ true) → (b ≡ true → a ≡ true) → a ≡ b
@@ -112,5 +108,13 @@ Same-Agree {v} {w} h = record { at = at }
     at : (s : ℕ) → class_coefficient v s ≡ class_coefficient w s
     at s = first s (find v s)
 
+pub Same-refl : (v : Surd) → Same v v
+Same-refl v = record { of_first = λ s c. refl; of_second = λ s c. refl }
+
+pub Same-sym : {v w : Surd} → Same v w → Same w v
+Same-sym h = record { of_first = λ s c. sym (h.of_second s c); of_second = λ s c. sym (h.of_first s c) }
+
 pub Same-trans : {u v w : Surd} → Same u v → Same v w → Same u w
 Same-trans a b = Agree-Same (Agree-trans (Same-Agree a) (Same-Agree b))
+
+pub ruleset sameness = (Same-trans, Same-Agree, Agree-Same)

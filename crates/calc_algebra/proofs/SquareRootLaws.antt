@@ -1,6 +1,6 @@
 -- Square roots rounded down, and when a number is a square.
 use Rattle.calc_algebra.proofs.Shared.{ℕ, zero, suc, ◌+◌, ◌*◌, ◌/◌, ◌%◌, ◌-◌, ◌≡◌, ◌≤◌, ◌<◌, Bool, true, false, nat_le, refl, ap, ◌∙◌, arith, leb-true}
-use Rattle.calc_algebra.proofs.Shared.{leb-false, next_square_root, square_root_in, square_root, IsSquareRoot}
+use Rattle.calc_algebra.proofs.Shared.{mul_pos, leb-false, next_square_root, square_root_in, square_root, IsSquareRoot}
 
 next_square_root_is : (n r : ℕ) → IsSquareRoot (n / 4) r → IsSquareRoot n (next_square_root n r)
 next_square_root_is n r h = by (nat_le ((2 * r + 1) * (2 * r + 1)) n) refl
@@ -29,8 +29,8 @@ one_square_root n r s h k = grind arith
 pub square_root-square : (t : ℕ) → square_root (t * t) ≡ t
 square_root-square t = one_square_root (t * t) _ t (square_root_is (t * t)) (record { within = omega arith; above = omega arith })
 
-mul_pos : (q s : ℕ) → 0 < q → 0 < s → 0 < q * s
-mul_pos q s h k = grind arith
+pub factor_pos : (a b n : ℕ) → a * b ≡ n → 0 < n → 0 < b
+factor_pos a b n e h = grind arith
 
 pub mul_cancel : (x y s : ℕ) → 0 < s → x * s ≡ y * s → x ≡ y
 mul_cancel x y s p h = grind arith

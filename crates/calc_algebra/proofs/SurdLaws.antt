@@ -1,8 +1,9 @@
 -- Sums, multiples, products and powers of surds, up to equality at every number.
-use Rattle.calc_algebra.proofs.Shared.{ℕ, zero, suc, ◌*◌, ◌≡◌, ◌≤◌, ◌<◌, pos, ◌*ℤ◌, [], ◌∷◌, ◌++◌, map, Bool, true, false, ◌==◌, ◌&&◌, nat_le, if◌then◌else◌, refl, sym, ap, ◌∙◌, arith, append_assoc}
+use Rattle.calc_algebra.proofs.Shared.{ℕ, zero, suc, ◌*◌, ◌≡◌, ◌<◌, pos, ◌∷◌, ◌++◌, map, Bool, true, ◌==◌, ◌&&◌, nat_le, if◌then◌else◌, refl, sym, ap, ◌∙◌, arith, append_assoc, []}
 use Rattle.calc_algebra.proofs.Shared.{append-nil, eqb-true, leb-true, and_parts, times_comm, times_assoc, times_plus, zero_plus, zero_times, one_times, Fraction, lowest, plus, times, zero_fraction}
 use Rattle.calc_algebra.proofs.Shared.{one_fraction, plus_comm, plus_assoc, same_lowest, times_lowest, mul_pos, quotient, square_root, surd_of, Term, Surd, term, surd_one, term_scale, surd_scale}
 use Rattle.calc_algebra.proofs.Shared.{term_times, surd_times, surd_power, are_alike, term_share, class_coefficient, Same, mul_assoc, mul_comm, one-mul}
+pub use Rattle.std.proofs.lemmas.List.{map-append as map-append'}
 
 -- the same at every number, whether it occurs or not
 pub record Agree (v w : Surd) : Type 0 where
@@ -52,9 +53,6 @@ pub Agree-surd_scale : (c : Fraction) {v w : Surd} → Agree v w → Agree (surd
 Agree-surd_scale c {v} {w} a = record { at = λ s. class_coefficient-surd_scale c v s ∙ ap (times c) (a.at s) ∙ sym (class_coefficient-surd_scale c w s) }
 
 -- ---- products
-pub map-append' : (f : Term → Term) (v w : Surd) → map f (v ++ w) ≡ map f v ++ map f w
-map-append' f [] w = refl
-map-append' f (t ∷ v) w = ap (λ x. f t ∷ x) (map-append' f v w)
 
 pub surd_times-append : (u v w : Surd) → surd_times (u ++ v) w ≡ surd_times u w ++ surd_times v w
 surd_times-append [] v w = refl
@@ -188,3 +186,5 @@ inverse_power (suc n) y w h = inverse_times y w (surd_power y (suc n)) (surd_pow
 -- a product with one rational is a multiple
 pub surd_times-surd_of : (c : Fraction) (u : Surd) → Agree (surd_times (surd_of c) u) (surd_scale c u)
 surd_times-surd_of c u = grind (arith, Agree-eq, append-nil, one-mul)
+
+pub ruleset ring = (Agree-Same, Agree-eq, append_comm, surd_times_comm, surd_times_assoc, surd_times-surd_one, surd_times-append)

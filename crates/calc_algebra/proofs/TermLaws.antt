@@ -1,10 +1,10 @@
 -- Surds term by term: what respects sameness, terms of one class joined, squares taken out, products of two terms, and the order of terms.
-use Rattle.calc_algebra.proofs.Shared.{◌≡◌, ℕ, zero, suc, ◌*◌, ◌<◌, pos, [], ◌∷◌, ◌++◌, Bool, true, false, if◌then◌else◌, refl, sym, ap, ◌∙◌, arith, append_assoc, times_comm, times_assoc, times_plus}
+use Rattle.calc_algebra.proofs.Shared.{◌≡◌, ℕ, zero, suc, ◌*◌, ◌<◌, pos, ◌∷◌, ◌++◌, Bool, true, false, if◌then◌else◌, refl, sym, ap, ◌∙◌, arith, append_assoc, times_comm, times_assoc, times_plus, []}
 use Rattle.calc_algebra.proofs.Shared.{zero_plus, zero_times, Fraction, lowest, plus, times, zero_fraction, plus_assoc, times_lowest, mul_pos, quotient, whole_fraction, are_alike, term_share, Same}
-use Rattle.calc_algebra.proofs.{Shared.{square_root, Term, Surd, term, surd_scale, surd_times, surd_power, false_from_ne_true, one-mul}, SquareRootLaws.{square_root-square, square_from_scaled}}
-use Rattle.calc_algebra.proofs.SurdLaws.{Agree, Agree-refl, Agree-sym, Agree-trans, Agree-eq, Agree-Same, Agree-append, append_comm, Agree-surd_scale, Agree-surd_times, Agree-surd_power, times_zero}
-use Rattle.calc_algebra.proofs.SquareClassLaws.{Alike, alike_from, alike_true, Same-Agree}
-pub use Rattle.calc_algebra.proofs.{NumberValues.{Same-refl}, SquareClassLaws.{positive_right as alike_right}}
+use Rattle.calc_algebra.proofs.Shared.{square_root, Term, Surd, term, surd_scale, surd_times, surd_power, false_from_ne_true, one-mul}
+use Rattle.calc_algebra.proofs.{SquareRootLaws.{factor_pos, square_root-square, square_from_scaled}, SurdLaws.{Agree, Agree-refl, Agree-sym, Agree-trans, Agree-eq, Agree-Same, Agree-append}}
+use Rattle.calc_algebra.proofs.{SurdLaws.{append_comm, Agree-surd_scale, Agree-surd_times, Agree-surd_power, times_zero}, SquareClassLaws.{Alike, alike_from, alike_true, Same-Agree}}
+pub use Rattle.calc_algebra.proofs.SquareClassLaws.{Same-refl, positive_right as alike_right}
 
 -- ---- sameness is respected
 
@@ -33,36 +33,22 @@ pub Same-append_comm : (v w : Surd) → Same (v ++ w) (w ++ v)
 Same-append_comm v w = Agree-Same (append_comm v w)
 
 -- a term goes to the front
-pub Agree-to_front : (v : Surd) (t : Term) (w : Surd) → Agree (v ++ (t ∷ w)) (t ∷ (v ++ w))
-Agree-to_front v t w =
-    Agree-trans (Agree-eq (sym (append_assoc v (t ∷ []) w)))
-    (Agree-append (append_comm v (t ∷ [])) (Agree-refl w))
-
 pub Same-to_front : (v : Surd) (t : Term) (w : Surd) → Same (v ++ (t ∷ w)) (t ∷ (v ++ w))
-Same-to_front v t w = Agree-Same (Agree-to_front v t w)
+Same-to_front v t w = Agree-Same (Agree-trans (Agree-eq (sym (append_assoc v (t ∷ []) w))) (Agree-append (append_comm v (t ∷ [])) (Agree-refl w)))
 
 -- ---- the share of one term
 
-share_at : (b : Bool) (q : Fraction) (n t s : ℕ) → b ≡ true → n ≡ t → (if b then times q (quotient n s) else zero_fraction) ≡ times q (quotient t s)
-share_at b q n t s h e = grind arith
-
 -- the share of a term that is alike
 pub share_alike : (q : Fraction) (r s t : ℕ) → Alike r s t → term_share (term q r) s ≡ times q (quotient t s)
-share_alike q r s t a = share_at (are_alike r s) q (square_root (r * s)) t s (alike_true r s t a) (ap square_root (sym (a.square)) ∙ square_root-square t)
-
-share_off : (b : Bool) (x : Fraction) → b ≡ false → (if b then x else zero_fraction) ≡ zero_fraction
-share_off b x h = grind arith
+share_alike q r s t a = rw (alike_true r s t a, ← a.square, square_root-square t) refl
 
 -- the share of a term that is not
 pub share_apart : (q : Fraction) (r s : ℕ) → are_alike r s ≡ false → term_share (term q r) s ≡ zero_fraction
-share_apart q r s h = share_off (are_alike r s) (times q (quotient (square_root (r * s)) s)) h
-
-share_zero : (b : Bool) (x : Fraction) → (if b then times zero_fraction x else zero_fraction) ≡ zero_fraction
-share_zero b x = grind (arith, zero_times)
+share_apart q r s h = rw h refl
 
 -- a term with coefficient 0 gives nothing
 pub share_of_zero : (r s : ℕ) → term_share (term zero_fraction r) s ≡ zero_fraction
-share_of_zero r s = share_zero (are_alike r s) (quotient (square_root (r * s)) s)
+share_of_zero r s = grind (arith, zero_times)
 
 share_sum : (b : Bool) (p q x : Fraction) → plus (if b then times p x else zero_fraction) (if b then times q x else zero_fraction) ≡ (if b then times (plus p q) x else zero_fraction)
 share_sum b p q x = grind (arith, times_comm, times_plus, zero_plus)
@@ -85,11 +71,8 @@ no_class_of_zero : (s : ℕ) → are_alike 0 s ≡ false
 no_class_of_zero s = false_from_ne_true (are_alike 0 s) (λ h. let a = alike_from 0 s h in absurd (omega (arith, a.square, mul_pos (square_root (0 * s)) (square_root (0 * s)) (a.positive) (a.positive))))
 
 -- a term with radicand 0 is nothing
-pub Agree-zero_radicand : (q : Fraction) → Agree (term q 0 ∷ []) []
-Agree-zero_radicand q = record { at = λ s. ap (λ x. plus x zero_fraction) (share_apart q 0 s (no_class_of_zero s)) ∙ zero_plus zero_fraction }
-
 pub zero_radicand : (q : Fraction) → Same (term q 0 ∷ []) []
-zero_radicand q = Agree-Same (Agree-zero_radicand q)
+zero_radicand q = Agree-Same (record { at = λ s. ap (λ x. plus x zero_fraction) (share_apart q 0 s (no_class_of_zero s)) ∙ zero_plus zero_fraction })
 
 whole_times_quotient : (s u x : ℕ) → 0 < x → times (whole_fraction (pos s)) (quotient u x) ≡ quotient (s * u) x
 whole_times_quotient s u x h = times_lowest (pos s) (pos u) 1 x (omega arith) h ∙ ap (lowest (pos (s * u))) (one-mul x)
@@ -100,11 +83,8 @@ square_alike s t x u h a = record { square = omega (arith, ap (λ n. s * s * n) 
 square_in_class : (s t x m : ℕ) → 0 < s → Alike (s * s * t) x m → are_alike t x ≡ true
 square_in_class s t x m h a =
     let (u, f) = square_from_scaled (t * x) s m h (omega (arith, a.square)) in
-    alike_true t x u (record { square = omega (arith, f); positive = nonzero u t x s m f a.square a.positive })
-  where
-    nonzero : (u t x s m : ℕ) → t * x ≡ u * u → m * m ≡ s * s * t * x → 0 < m → 0 < u
-    nonzero zero t x s m e f h = absurd (omega (arith, ap (λ n. s * s * n) e, mul_pos m m h h))
-    nonzero (suc u) t x s m e f h = omega arith
+    let p : 0 < t * x = factor_pos (s * s) (t * x) (m * m) (omega (arith, a.square)) (mul_pos m m a.positive a.positive) in
+    alike_true t x u (record { square = omega (arith, f); positive = factor_pos u u (t * x) (omega (arith, f)) p })
 
 square_apart : (s t x : ℕ) → 0 < s → are_alike t x ≡ false → are_alike (s * s * t) x ≡ false
 square_apart s t x h e = false_from_ne_true (are_alike (s * s * t) x) (λ k.
@@ -128,7 +108,7 @@ pub Agree-extracted : (q : Fraction) (s t : ℕ) → Agree (term q (s * s * t) �
 unfolding zero_fraction
 Agree-extracted q zero t =
     Agree-trans (Agree-eq (ap (λ r. term q r ∷ []) (omega arith)))
-    (Agree-trans (Agree-zero_radicand q)
+    (Agree-trans (Same-Agree (zero_radicand q))
     (Agree-trans (Agree-sym (Agree-zero_term t)) (Agree-eq (ap (λ c. term c t ∷ []) (sym (times_zero q))))))
 Agree-extracted q (suc s) t = Agree-term _ _ (λ x. share_extracted q (suc s) t x (omega arith))
 
@@ -138,12 +118,9 @@ extracted q r s t e = Agree-Same (Agree-trans (Agree-eq (ap (λ r. term q r ∷ 
 
 -- ---- terms of one class are joined
 
-pub Agree-joined : (p q : Fraction) (r : ℕ) → Agree (term p r ∷ term q r ∷ []) (term (plus p q) r ∷ [])
-Agree-joined p q r = record { at = λ s. sym (plus_assoc (term_share (term p r) s) (term_share (term q r) s) zero_fraction) ∙ ap (λ x. plus x zero_fraction) (share_sum (are_alike r s) p q (quotient (square_root (r * s)) s)) }
-
 -- two terms with one radicand
 pub joined_radicand : (p q : Fraction) (r : ℕ) → Same (term p r ∷ term q r ∷ []) (term (plus p q) r ∷ [])
-joined_radicand p q r = Agree-Same (Agree-joined p q r)
+joined_radicand p q r = Agree-Same (record { at = λ s. sym (plus_assoc (term_share (term p r) s) (term_share (term q r) s) zero_fraction) ∙ ap (λ x. plus x zero_fraction) (share_sum (are_alike r s) p q (quotient (square_root (r * s)) s)) })
 
 -- two terms of one class: with r = g * a * a and s = g * b * b, c * √r + d * √s is (c * a + d * b) * √g
 pub joined : (c d : Fraction) (r s g a b : ℕ) → r ≡ g * a * a → s ≡ g * b * b
@@ -151,9 +128,11 @@ pub joined : (c d : Fraction) (r s g a b : ℕ) → r ≡ g * a * a → s ≡ g 
 joined c d r s g a b e f =
     Agree-Same (Agree-trans
     (Agree-append {v = term c r ∷ []} (Same-Agree (extracted c r a g (omega arith))) (Same-Agree (extracted d s b g (omega arith))))
-    (Agree-joined (times c (whole_fraction (pos a))) (times d (whole_fraction (pos b))) g))
+    (Same-Agree (joined_radicand (times c (whole_fraction (pos a))) (times d (whole_fraction (pos b))) g)))
 
 -- ---- products of two terms
 
 pub surd_times-terms : (q c : Fraction) (r s : ℕ) → surd_times (term q r ∷ []) (term c s ∷ []) ≡ term (times q c) (r * s) ∷ []
 surd_times-terms q c r s = refl
+
+pub ruleset respected = (Same-append, Same-surd_scale, Same-surd_times, Same-surd_power)

@@ -1,54 +1,16 @@
 -- The order of trees is total, and Equal exactly for identical trees.
-use Rattle.calc_algebra.proofs.Shared.{ℕ, ◌+◌, ◌*◌, ◌≡◌, ℤ, pos, ◌*ℤ◌, ◌<ℤ◌, ◌<◌, List, [], ◌∷◌, false, ◌&&◌, nat_eq, refl, sym, ap, ◌∙◌, arith}
-use Rattle.calc_algebra.proofs.Shared.{Ordering, Less, Equal, nat_cmp, int_cmp, ordering_then, ordering_reverse, MatchOrdering, ints, Fraction, same_fraction, den_pos, fraction_cmp, tree_cmp}
-use Rattle.calc_algebra.proofs.Shared.{trees_cmp, root_code, Tree, num, symbol, undef, add, mult, power, root, neg, sub, div, Trees, none, more, slice_cmp, nat_list_cmp_total, int_cmp_total}
-use Rattle.calc_algebra.proofs.Shared.{nat_cmp_total, tied_itself, ranked, int_ranked, IsTotalOrder, up, down}
-
-then_equal : (a b : Ordering) → a ≡ Equal → b ≡ Equal → ordering_then a b ≡ Equal
-then_equal a b p q = rw (p, q) refl
-
-pub fraction_cmp_refl : (p : Fraction) → fraction_cmp p p ≡ Equal
-fraction_cmp_refl p = tied_itself int_cmp_total (p.num *ℤ pos p.den)
-
-bytes_refl : (x : List ℕ) → slice_cmp nat_cmp x x ≡ Equal
-bytes_refl [] = refl
-bytes_refl (x ∷ xs) = then_equal _ _ (tied_itself nat_cmp_total x) (bytes_refl xs)
-
-mutual
-  pub tree_cmp_refl : (t : Tree) → tree_cmp t t ≡ Equal
-  tree_cmp_refl (num q) = fraction_cmp_refl q
-  tree_cmp_refl (symbol x) = bytes_refl x
-  tree_cmp_refl undef = refl
-  tree_cmp_refl (add ts) = trees_cmp_refl ts
-  tree_cmp_refl (mult ts) = trees_cmp_refl ts
-  tree_cmp_refl (power a b) = then_equal _ _ (tree_cmp_refl a) (tree_cmp_refl b)
-  tree_cmp_refl (root a) = tree_cmp_refl a
-  tree_cmp_refl (neg a) = tree_cmp_refl a
-  tree_cmp_refl (sub a b) = then_equal _ _ (tree_cmp_refl a) (tree_cmp_refl b)
-  tree_cmp_refl (div a b) = then_equal _ _ (tree_cmp_refl a) (tree_cmp_refl b)
-
-  pub trees_cmp_refl : (ts : Trees) → trees_cmp ts ts ≡ Equal
-  trees_cmp_refl none = refl
-  trees_cmp_refl (more t ts) = then_equal _ _ (tree_cmp_refl t) (trees_cmp_refl ts)
+use Rattle.calc_algebra.proofs.Shared.{ℕ, ◌+◌, ◌*◌, ◌≡◌, ℤ, pos, ◌*ℤ◌, ◌<ℤ◌, ◌<◌, false, ◌&&◌, nat_eq, refl, sym, ap, ◌∙◌, arith, Ordering, Less, Equal, int_cmp, ordering_then}
+use Rattle.calc_algebra.proofs.Shared.{ordering_reverse, MatchOrdering, ints, Fraction, same_fraction, den_pos, fraction_cmp, tree_cmp, trees_cmp, root_code, Tree, num, symbol, undef, add, mult}
+use Rattle.std.proofs.lemmas.Map.Lookups.{exact_bytes, exact_signed}
+use Rattle.calc_algebra.proofs.Shared.{power, root, neg, sub, div, Trees, none, more, nat_list_cmp_total, int_cmp_total, tied_itself, int_ranked, IsTotalOrder, up, down}
 
 both_equal : (a b : Ordering) → ordering_then a b ≡ Equal → (a ≡ Equal) × (b ≡ Equal)
 both_equal a b h = grind arith
 
-is_equal : (A B C : Type 0) (r : Ordering) → MatchOrdering r A B C → r ≡ Equal → B
-is_equal A B C r m h = rw h at m
-
-fraction_cmp_equal : (p q : Fraction) → fraction_cmp p q ≡ Equal → p ≡ q
-fraction_cmp_equal p q h = same_fraction p q (let x = p.num *ℤ pos q.den in let y = q.num *ℤ pos p.den in is_equal (x <ℤ y) (x ≡ y) (y <ℤ x) _ (int_ranked x y _ refl) h)
-
-bytes_equal : (x y : List ℕ) → slice_cmp nat_cmp x y ≡ Equal → x ≡ y
-bytes_equal [] [] h = refl
-bytes_equal (x ∷ xs) (y ∷ ys) h = let (p, q) = both_equal _ _ h in let e = is_equal (x < y) (x ≡ y) (y < x) _ (ranked x y _ refl) p in λ i. e i ∷ bytes_equal xs ys q i
-bytes_equal _ _ h = cc
-
 mutual
   pub tree_cmp_equal : (t u : Tree) → tree_cmp t u ≡ Equal → t ≡ u
-  tree_cmp_equal (num p) (num q) h = ap num (fraction_cmp_equal p q h)
-  tree_cmp_equal (symbol x) (symbol y) h = ap symbol (bytes_equal x y h)
+  tree_cmp_equal (num p) (num q) h = ap num (same_fraction p q (exact_signed _ _ h))
+  tree_cmp_equal (symbol x) (symbol y) h = ap symbol (exact_bytes x y h)
   tree_cmp_equal undef undef h = refl
   tree_cmp_equal (add ts) (add us) h = ap add (trees_cmp_equal ts us h)
   tree_cmp_equal (mult ts) (mult us) h = ap mult (trees_cmp_equal ts us h)
@@ -150,8 +112,11 @@ mutual
   trees_chain (more t ts) (more u us) (more z zs) h k = chain_then _ _ _ _ _ _ (tree_chain t u z) (equal_left t u z) (equal_right t u z) (trees_chain ts us zs) h k
   trees_chain _ _ _ h k = cc
 
-pub tree_cmp_same : (t u : Tree) → t ≡ u → tree_cmp t u ≡ Equal
-tree_cmp_same t u e = ap (tree_cmp t) (sym e) ∙ tree_cmp_refl t
-
 pub tree_cmp_total : IsTotalOrder tree_cmp
 tree_cmp_total = record { antisymm = tree_cmp_turned; trans = tree_chain; congr = equal_left }
+
+pub tree_cmp_refl : (t : Tree) → tree_cmp t t ≡ Equal
+tree_cmp_refl t = tied_itself tree_cmp_total t
+
+pub tree_cmp_same : (t u : Tree) → t ≡ u → tree_cmp t u ≡ Equal
+tree_cmp_same t u e = ap (tree_cmp t) (sym e) ∙ tree_cmp_refl t

@@ -1,4 +1,5 @@
 //! Worked examples of the definitions, each the contract of a function without a body.
+#![tactic(auto, unfolding(crate::specs::Reduced::is_reduced, crate::specs::Numbers::is_number, crate::specs::Clean::is_clean, crate::specs::Clean::left_of, crate::specs::SquareRoots::square_root, calc_terms::specs::Gcd::gcd, calc_terms::specs::Fractions::lowest, calc_terms::specs::Fractions::one_fraction, calc_terms::specs::Fractions::zero_fraction))]
 
 ghost use Rattle.std.specs.Prelude.{◌≡◌, pos, negsuc, [], ◌∷◌, true, false, codes};
 ghost use Rattle.std.specs.declared.cmp.Ordering.TheVariants.{Less, Equal};
