@@ -88,10 +88,7 @@ one_square_free d h x = absurd (omega (arith, squared d h, le_of_dvd {m = d * d}
 -- ---- square-free radicands
 
 cancelled : (g a b s : ℕ) → 0 < g → (g * b) * (g * b) ≡ (g * a) * s → g * b * b ≡ a * s
-cancelled g a b s h e = by (g * b * b) (a * s) (omega (arith, e))
-  where
-    by : (x y : ℕ) → g * x ≡ g * y → x ≡ y
-    by x y f = grind arith
+cancelled g a b s h e = mul_cancel (g * b * b) (a * s) g h (omega (arith, e))
 
 alike_square_free_is : (r s t : ℕ) → Alike r s t → IsSquareFree r → IsSquareFree s → r ≡ s
 alike_square_free_is r s t h u v =
@@ -102,11 +99,7 @@ alike_square_free_is r s t h u v =
     by g (r / g) (t / g) ea eb (divided r t g (factor_pos (t / g) g t (omega (arith, eb)) h.positive) is)
   where
     one : (n : ℕ) → 0 < n → (1 < n → ⊥) → n ≡ 1
-    one n p q = pick (order n 1)
-      where
-        pick : (n ≤ 1) ⊎ (1 < n) → n ≡ 1
-        pick (inl l) = omega arith
-        pick (inr l) = absurd (q l)
+    one n p q = omega arith
 
     by : (g a b : ℕ) → g * a ≡ r → g * b ≡ t → IsGcd a b 1 → r ≡ s
     by g a b ea eb (x, y, best) =

@@ -11,13 +11,10 @@ whole_plus m n = grind (arith, plus_lowest, ints)
 pub whole_times : (m n : ℤ) → times (whole_fraction m) (whole_fraction n) ≡ whole_fraction (m *ℤ n)
 whole_times m n = times_lowest m n 1 1 (omega arith) (omega arith)
 
-IsRoot-Same : {w w' : Surd} (u : Surd) → Same w w' → IsRoot w u → IsRoot w' u
-IsRoot-Same u a (q, i, h) = (q, Same-trans (Same-sym a) i, h)
-
 -- the same base, exponent and value
 pub IsPower-Same : {w w' x x' v v' : Surd} → Same w w' → Same x x' → Same v v' → IsPower w x v → IsPower w' x' v'
 IsPower-Same a b c (inl (n, s, h)) = inl (n, Same-trans (Same-sym b) s, IsWholePower-Same n a c h)
-IsPower-Same a b c (inr (h, d, s, u, r, p)) = inr (h, d, Same-trans (Same-sym b) s, u, IsRoot-Same u a r, IsWholePower-Same h.num (Same-refl u) c p)
+IsPower-Same a b c (inr (h, d, s, u, (q, i, k), p)) = inr (h, d, Same-trans (Same-sym b) s, u, (q, Same-trans (Same-sym a) i, k), IsWholePower-Same h.num (Same-refl u) c p)
 
 -- a power of the root of w is a power of w, with half the exponent
 root_power : (n : ℤ) (w u v : Surd) → IsRoot w u → IsWholePower n u v → IsPower w (surd_of (lowest n 2)) v

@@ -6,9 +6,6 @@ gcd_two : (a r : ℕ) → a % 2 ≡ r → gcd a 2 ≡ gcd_in 1 2 r
 unfolding gcd
 gcd_two a r e = ap (gcd_in 1 2) e
 
-even_abs : (z : ℤ) → int_is_even z ≡ true → nat_abs z % 2 ≡ 0
-even_abs z h = grind arith
-
 odd_abs : (z : ℤ) → int_is_even z ≡ false → nat_abs z % 2 ≡ 1
 odd_abs z h = grind arith
 
@@ -17,7 +14,7 @@ one_is_not_two a b h k e = absurd (omega arith)
 
 -- a numerator over 2 is odd
 pub half_is_odd : (h : Fraction) → h.den ≡ 2 → int_is_even h.num ≡ false
-half_is_odd h d = grind (arith, one_is_not_two, gcd_two, even_abs)
+half_is_odd h d = grind (arith, one_is_not_two, gcd_two)
 
 pub odd_holds : (n : ℤ) → int_is_even n ≡ false → Holds (is_lowest n 2)
 odd_holds n o = held (nat_lt 0 2) (gcd (nat_abs n) 2 == 1) refl (eq-eqb (gcd (nat_abs n) 2) 1 (gcd_two (nat_abs n) 1 (odd_abs n o)))

@@ -198,16 +198,14 @@ term_of_class b r s t a h =
     back : b ≡ times (times b (quotient 1 r)) (whole_fraction (pos r))
     back = sym (times_assoc b (quotient 1 r) (whole_fraction (pos r)) ∙ ap (times b) (whole_part_of r h) ∙ times_comm b one_fraction ∙ one_times b)
 
-HasInverse : Surd → Type 0
+abbrev HasInverse : Surd → Type 0
 HasInverse w = (y : Surd) × Inverts y w
 
 moved : (w w' : Surd) → Same w w' → HasInverse w' → HasInverse w
-unfolding HasInverse
 moved w w' h (y, i) = (y, Inverts-Same (Same-refl y) (Same-sym h) i)
 
 -- what is the same as one term, and not zero, has an inverse
 one_term_inverse : (w : Surd) (a : Fraction) (r : ℕ) → Same w (term a r ∷ []) → ¬ (Same w []) → HasInverse w
-unfolding HasInverse
 one_term_inverse w a zero h n = absurd (n (Same-trans h (zero_radicand a)))
 one_term_inverse w a (suc r) h n = by (is_zero_fraction a) refl
   where
@@ -216,7 +214,6 @@ one_term_inverse w a (suc r) h n = by (is_zero_fraction a) refl
     by false e = moved w (term a (suc r) ∷ []) h (inverse_of_term a (suc r), term_has_inverse a (suc r) (no_zero a (not_from_false _ e)) (omega arith))
 
 two_terms_inverse : (w : Surd) (a b : Fraction) (r s : ℕ) → Same w (term a r ∷ term b s ∷ []) → ¬ (Same w []) → HasInverse w
-unfolding HasInverse
 two_terms_inverse w a b zero s h n = one_term_inverse w b s (Same-trans h (Same-append {v = term a 0 ∷ []} {v' = []} (zero_radicand a) (Same-refl (term b s ∷ [])))) n
 two_terms_inverse w a b (suc r) zero h n = one_term_inverse w a (suc r) (Same-trans h (Same-append {v = term a (suc r) ∷ []} {v' = term a (suc r) ∷ []} (Same-refl (term a (suc r) ∷ [])) (zero_radicand b))) n
 two_terms_inverse w a b (suc r) (suc s) h n = by (is_zero_fraction a) refl (are_alike (suc r) (suc s)) refl
@@ -234,14 +231,12 @@ two_terms_inverse w a b (suc r) (suc s) h n = by (is_zero_fraction a) refl (are_
 
 -- what has at most two terms, and is not zero, has an inverse
 pub two_terms_have_inverse : (w : Surd) → length w ≤ 2 → ¬ (Same w []) → (y : Surd) × Inverts y w
-unfolding HasInverse
 two_terms_have_inverse [] l n = absurd (n (Same-refl []))
 two_terms_have_inverse (t ∷ []) l n = one_term_inverse (t ∷ []) t.coefficient t.radicand (Same-refl _) n
 two_terms_have_inverse (t ∷ u ∷ []) l n = two_terms_inverse (t ∷ u ∷ []) t.coefficient u.coefficient t.radicand u.radicand (Same-refl _) n
 two_terms_have_inverse (t ∷ u ∷ x ∷ w) l n = absurd (omega arith)
 
 pub short_has_inverse : (v : Surd) → IsShort v → ¬ (Same v []) → (y : Surd) × Inverts y v
-unfolding HasInverse
 short_has_inverse v (w, h, l) n = moved v w h (two_terms_have_inverse w l (λ z. n (Same-trans h z)))
 
 pub ruleset inverses = (Inverts-one, Inverts-not_zero, short_has_inverse)

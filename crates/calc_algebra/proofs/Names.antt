@@ -1,6 +1,6 @@
 -- The names in trees, and in lists of trees.
-use Rattle.calc_algebra.proofs.Shared.{ℕ, ◌≡◌, ◌⊎◌, inl, inr, true, List, ◌++◌, refl, sym, ap, ◌∙◌, subst, append_assoc, arith, Contains, Contains-append_left, Contains-append_right, []}
-use Rattle.calc_algebra.proofs.{Shared.{Contains-append_cases, IsNumber, IsTerm, AreTerms, is_number, Tree, Trees, none, more, append, names, names_of, HasNoNewName}, MeaningRewrites.{Permuted}}
+use Rattle.calc_algebra.proofs.Shared.{IsNumber, ℕ, ◌≡◌, ◌⊎◌, inl, inr, true, List, ◌++◌, refl, sym, ap, ◌∙◌, subst, append_assoc, arith, Contains, Contains-append_left, Contains-append_right, []}
+use Rattle.calc_algebra.proofs.{Shared.{Contains-append_cases, IsTerm, AreTerms, is_number, Tree, Trees, none, more, append, names, names_of, HasNoNewName}, MeaningRewrites.{Permuted}}
 use Rattle.calc_algebra.proofs.{MeaningRewrites.{permuted_none, permuted_more, permuted_swap, permuted_trans}, NumberLaws.{number_words}, MeaningLaws.{none_in}}
 
 -- each name in the second list is one in the first

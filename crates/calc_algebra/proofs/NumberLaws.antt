@@ -1,7 +1,7 @@
 -- The tests for clean radicands and for Numbers say what their words say, both ways.
 use Rattle.calc_algebra.proofs.Shared.{◌≡◌, ℕ, zero, suc, ◌+◌, ◌*◌, ◌%◌, ◌≤◌, ◌<◌, ◌⊎◌, inl, inr, Bool, true, false, not, ◌&&◌, ◌||◌, refl, sym, ap, ◌∙◌, arith, ◌∷◌, nat_lt, ◌==◌, length, []}
 use Rattle.calc_algebra.proofs.Shared.{mod-eq-zero_of_dvd, dvd_of_mod-eq-zero, and_from, not_from_false, le-leb, lt-ltb, eq-eqb, and_parts, ltb-true, leb-true, eqb-true, not-true, no_zero, no_one}
-use Rattle.calc_algebra.proofs.Shared.{zero_test, one_test, left_of, is_clean, IsClean, no_square_divides, Fraction, IsRadicand, IsTerm, IsNumber, AreTerms, IsBelowAll, Rises, terms_of, is_radicand}
+use Rattle.calc_algebra.proofs.Shared.{zero_test, one_test, left_of, is_clean, IsClean, no_square_divides, IsTerm, IsNumber, AreTerms, IsBelowAll, Rises, terms_of}
 use Rattle.calc_algebra.proofs.Shared.{is_term, rises, is_number, are_terms, is_below_all, are_numbers, are_alike, square_root, Term, Surd, Tree, num, add, mult, root, Trees, none, more, undef}
 use Rattle.calc_algebra.proofs.{Shared.{has_undef, is_undef, ◌∣◌}, SquareRootLaws.{square_root-square}}
 
@@ -61,11 +61,8 @@ clean_test r h =
     by true false e f = refl
     by false y e f = refl
 
-radicand_words : (q : Fraction) → is_radicand q ≡ true → IsRadicand q
-radicand_words q h = grind (arith, clean_words)
-
 pub term_words : (t : Tree) → is_term t ≡ true → IsTerm t
-term_words t h = grind (arith, no_zero, radicand_words, no_one)
+term_words t h = grind (arith, no_zero, clean_words, no_one)
 
 terms_words : (ts : Trees) → are_terms ts ≡ true → AreTerms ts
 terms_words none h = tt
@@ -92,11 +89,8 @@ number_words _ h = cc
 
 -- ---- from the words to the test
 
-radicand_test : (q : Fraction) → IsRadicand q → is_radicand q ≡ true
-radicand_test q h = grind (arith, and_from, clean_test)
-
 pub term_test : (t : Tree) → IsTerm t → is_term t ≡ true
-term_test t h = grind (arith, not_from_false, zero_test, radicand_test, and_from, one_test)
+term_test t h = grind (arith, not_from_false, zero_test, clean_test, and_from, one_test)
 
 terms_test : (ts : Trees) → AreTerms ts → are_terms ts ≡ true
 terms_test none h = refl

@@ -1,7 +1,7 @@
 -- The shapes of a Number, and that it is told by its value.
 use Rattle.calc_algebra.proofs.Shared.{◌≡◌, ◌≢◌, ℕ, ◌≤◌, ◌⊎◌, inl, inr, pos, ◌∷◌, Bool, true, false, if◌then◌else◌, length, refl, ap, ◌∙◌, arith, []}
 use Rattle.calc_algebra.proofs.Shared.{not_from_false, IsClean, Fraction, lowest, zero_fraction, one_fraction, is_zero_fraction, lowest_parts, whole_fraction, IsNumber, IsTerm, AreTerms, value}
-use Rattle.calc_algebra.proofs.Shared.{term_of, terms_of, natural_of, Term, Surd, term, surd_of, Tree, num, add, mult, root, Trees, none, more, zero_is, no_zero}
+use Rattle.calc_algebra.proofs.Shared.{term_of, terms_of, natural_of, term, surd_of, Tree, num, add, mult, root, Trees, none, more, zero_is, no_zero}
 
 -- ---- terms as trees
 
@@ -50,24 +50,18 @@ as_term (mult (more (num q) (more (root (num r)) none))) (y, z, (d, n, e, l, c))
 }))
 as_term t h = absurd h
 
-by_term : (t u : Tree) → term_of t ≡ term_of u → AsTerm t → AsTerm u → t ≡ u
-by_term t u e h k = grind arith
-
 -- a term is told by its coefficient and its radicand
 pub one_term : (t u : Tree) → IsTerm t → IsTerm u → term_of t ≡ term_of u → t ≡ u
-one_term t u h k e = by_term t u e (as_term t h) (as_term u k)
-
-first_is : {t u : Term} {v w : Surd} → t ∷ v ≡ u ∷ w → t ≡ u
-first_is e = cc
-
-rest_is : {t u : Term} {v w : Surd} → t ∷ v ≡ u ∷ w → v ≡ w
-rest_is e = cc
+one_term t u h k e = grind (arith, as_term)
 
 pub one_list_of_terms : (ts us : Trees) → AreTerms ts → AreTerms us → terms_of ts ≡ terms_of us → ts ≡ us
 one_list_of_terms none none h k e = refl
 one_list_of_terms none (more u us) h k e = cc
 one_list_of_terms (more t ts) none h k e = cc
-one_list_of_terms (more t ts) (more u us) (h, hs) (k, ks) e = λ i. more (one_term t u h k (first_is e) i) (one_list_of_terms ts us hs ks (rest_is e) i)
+one_list_of_terms (more t ts) (more u us) (h, hs) (k, ks) e =
+    let first : term_of t ≡ term_of u = cc in
+    let rest : terms_of ts ≡ terms_of us = cc in
+    λ i. more (one_term t u h k first i) (one_list_of_terms ts us hs ks rest i)
 
 -- ---- Numbers
 
@@ -101,9 +95,6 @@ as_number (root a) h = inr (inl (record { one = h; value_is = refl }))
 as_number (mult ts) h = inr (inl (record { one = h; value_is = refl }))
 as_number t h = absurd h
 
-by_value : (t u : Tree) → value t ≡ value u → AsNumber t → AsNumber u → t ≡ u
-by_value t u e h k = grind (arith, one_term, first_is, one_list_of_terms)
-
 -- a Number is told by its value
 pub one_number_of_value : (t u : Tree) → IsNumber t → IsNumber u → value t ≡ value u → t ≡ u
-one_number_of_value t u h k e = by_value t u e (as_number t h) (as_number u k)
+one_number_of_value t u h k e = grind (arith, as_number, one_term, one_list_of_terms)

@@ -38,11 +38,10 @@ plus_cancel a b c e = sym (back b) ∙ ap (plus (negative a)) e ∙ back c
     back : (x : Fraction) → plus (negative a) (plus a x) ≡ x
     back x = sym (plus_assoc (negative a) a x) ∙ ap (λ y. plus y x) (plus_comm (negative a) a ∙ plus_negative a) ∙ zero_plus x
 
-Order : ℕ → ℕ → Type 0
+abbrev Order : ℕ → ℕ → Type 0
 Order r s = (r < s) ⊎ ((r ≡ s) ⊎ (s < r))
 
 in_order : (r s : ℕ) → Order r s
-unfolding Order
 in_order r s = grind arith
 
 -- nothing below the least radicand
@@ -52,7 +51,6 @@ not_leading t u v w s ss b x xx c a h =
 
 -- equal class by class, with radicands that rise, is equal term by term
 pub same_terms : (v w : Surd) → AreSimplest v → AreSimplest w → Rises v → Rises w → Agree v w → v ≡ w
-unfolding Order
 same_terms [] [] s x b c a = refl
 same_terms [] (u ∷ w) s (x, xx) b (c, cc') a = absurd (x.proper.not_zero (sym (first_coefficient u w x.proper c) ∙ sym (a.at u.radicand)))
 same_terms (t ∷ v) [] (s, ss) x (b, bb) c a = absurd (s.proper.not_zero (sym (first_coefficient t v s.proper b) ∙ a.at t.radicand))
@@ -76,9 +74,6 @@ AreSmall v = (r : ℕ) → Contains (radicands v) r → r < 10 ^ 12
 first_small : (t : Term) (v : Surd) → AreSmall (t ∷ v) → t.radicand < 10 ^ 12
 first_small t v h = h t.radicand (0, omega arith, refl)
 
-rest_small : (t : Term) (v : Surd) → AreSmall (t ∷ v) → AreSmall v
-rest_small t v h = λ r c. h r (Contains-append_right (t.radicand ∷ []) (radicands v) r c)
-
 pub term_simplest : (t : Tree) → IsTerm t → (term_of t).radicand < 10 ^ 12 → IsSimplest (term_of t)
 term_simplest t h s = record { proper = term_proper t h; square_free = by (as_term t h) }
   where
@@ -89,7 +84,7 @@ term_simplest t h s = record { proper = term_proper t h; square_free = by (as_te
 
 pub terms_simplest : (ts : Trees) → AreTerms ts → AreSmall (terms_of ts) → AreSimplest (terms_of ts)
 terms_simplest none h s = tt
-terms_simplest (more t ts) (h, hs) s = (term_simplest t h (first_small (term_of t) (terms_of ts) s), terms_simplest ts hs (rest_small (term_of t) (terms_of ts) s))
+terms_simplest (more t ts) (h, hs) s = (term_simplest t h (first_small (term_of t) (terms_of ts) s), terms_simplest ts hs (λ r c. s r (Contains-append_right ((term_of t).radicand ∷ []) (radicands (terms_of ts)) r c)))
 
 -- its terms are in simplest form, and their radicands rise
 record InForm (v : Surd) : Type 0 where

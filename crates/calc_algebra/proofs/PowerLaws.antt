@@ -1,5 +1,5 @@
 -- Powers: laws of exponents for natural and for whole exponents, powers of products, of powers and of roots, and powers of rationals.
-use Rattle.calc_algebra.proofs.Shared.{◌≡◌, ℕ, zero, suc, ◌+◌, ◌*◌, ◌<◌, ◌⊎◌, inl, inr, ℤ, pos, negsuc, neg_ℤ, ◌+ℤ◌, ◌*ℤ◌, refl, sym, ap, ◌∙◌, arith, subst, ints, fraction_power, Fraction, lowest, []}
+use Rattle.calc_algebra.proofs.Shared.{refl, ◌≡◌, ℕ, zero, suc, ◌+◌, ◌*◌, ◌<◌, ◌⊎◌, inl, inr, ℤ, pos, negsuc, neg_ℤ, ◌+ℤ◌, ◌*ℤ◌, sym, ap, ◌∙◌, arith, subst, ints, fraction_power, Fraction, lowest, []}
 use Rattle.calc_algebra.proofs.Shared.{times, zero_fraction, same_lowest, lowest_parts, den_pos, times_lowest, mul_pos, whole_fraction, gcd, parts, diff_eq, mul_diff, IsWholePower, IsRootOf, IsRoot}
 use Rattle.calc_algebra.proofs.{Shared.{Same, Inverts, Surd, surd_of, surd_one, surd_times, surd_power, up, down}, MeaningLaws.{class_coefficient-surd_of, Same-sym}}
 use Rattle.calc_algebra.proofs.{SquareClassLaws.{Same-Agree, Same-trans}, SurdLaws.{Agree, Agree-refl, Agree-sym, Agree-trans, Agree-eq, Agree-Same, Agree-surd_times, Agree-surd_times_right}}

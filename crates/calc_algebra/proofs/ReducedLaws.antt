@@ -10,13 +10,6 @@ use Rattle.calc_algebra.proofs.{Shared.{IsReduced, no_zero, no_one, zero_test, o
 pub from_not : (b : Bool) → not b ≡ true → b ≡ false
 from_not b h = not-true b h
 
--- a implies b
-implies : (a b : Bool) → (not a || b) ≡ true → a ≡ true → b ≡ true
-implies a b h e = grind arith
-
-implied : (a b : Bool) → (a ≡ true → b ≡ true) → (not a || b) ≡ true
-implied a b h = grind arith
-
 -- ---- lists
 
 pub none_words : (p : Tree → Bool) (ts : Trees) → none_is p ts ≡ true → NoneIs p ts
@@ -42,10 +35,10 @@ rises_by_test key (more t (more u ts)) h = and_from (is_lt (tree_cmp (key t) (ke
 -- ---- powers
 
 pub whole_power_words : (b : Tree) (n : Fraction) → whole_power_form b n ≡ true → IsWholePowerForm b n
-whole_power_words b n h = grind (arith, and_parts, no_zero, no_one, from_not, implies, leb-true)
+whole_power_words b n h = grind (arith, and_parts, no_zero, no_one, from_not, leb-true)
 
 pub whole_power_test : (b : Tree) (n : Fraction) → IsWholePowerForm b n → whole_power_form b n ≡ true
-whole_power_test b n h = grind (arith, and_from, not_from_false, zero_test, one_test, implied)
+whole_power_test b n h = grind (arith, and_from, not_from_false, zero_test, one_test)
 
 pub one_and_two : (n : ℕ) → n ≡ 1 → n ≡ 2 → ⊥
 one_and_two n e f = absurd (omega arith)

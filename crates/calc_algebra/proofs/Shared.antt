@@ -3,7 +3,7 @@ pub use Prim.Native.Nat.{◌∣◌}
 pub use Rattle.calc_algebra.specs.{BadAndEasy.{GivesZeroNoPower, HasValue, IsBad, IsBadNode, IsEasy, IsHalf, IsNegative, IsShort, IsWhole, IsZero}, Clean.{IsClean, IsTried, empty_product, left_from}}
 pub use Rattle.calc_algebra.specs.{Clean.{no_square_divides, one_factor_more, trial_limit, without}, Meanings.{Assignment, Binding, Gives, IsAssignment, IsPower, IsRoot, IsRootOf, IsWholePower}}
 pub use Rattle.calc_algebra.specs.{Meanings.{Means, MeansProduct, MeansSum, bound_names}, Numbers.{AreTerms, IsBelowAll, IsNumber, IsRadicand, IsTerm, Rises, are_numbers, are_terms, classes}}
-pub use Rattle.calc_algebra.specs.{Numbers.{is_below_all, is_radicand, is_term, natural_of, rises, term_of, terms_of, value}, Reduced.{HasForm, IsPowerForm, IsProductForm, IsReduced, IsSumForm}}
+pub use Rattle.calc_algebra.specs.{Numbers.{is_below_all, is_term, natural_of, rises, term_of, terms_of, value}, Reduced.{HasForm, IsPowerForm, IsProductForm, IsReduced, IsSumForm}}
 pub use Rattle.calc_algebra.specs.Reduced.{IsWholePowerForm, NoneIs, RisesBy, all_parts, all_parts_of, base_of, has_form, is_opaque_exponent, none_is, num_one, part_of, power_form, product_form}
 pub use Rattle.calc_algebra.specs.{Reduced.{product_tree, rises_by, split_product, sum_form, whole_power_form}, Rewritings.{HasNoNewName, KeepsMeanings, Reduces, Rewrites}, SquareClasses.{Inverts}}
 pub use Rattle.calc_algebra.specs.{SquareClasses.{Same, are_alike, class_coefficient, radicands, term_share}, SquareRoots.{IsSquareRoot, next_square_root, square_root_in}, Surds.{Surd, Term, surd_of}}

@@ -77,11 +77,10 @@ module _ (c s u : ℕ) (b : Alike c s u) where
   class_coefficient_moved [] = sym (zero_times (quotient u s))
   class_coefficient_moved (t ∷ v) = (λ i. plus (term_share_moved t i) (class_coefficient_moved v i)) ∙ sym (times_plus_right (term_share t c) (class_coefficient v c) (quotient u s))
 
-Found : Surd → ℕ → Type 0
+abbrev Found : Surd → ℕ → Type 0
 Found v s = (c : ℕ) × Contains (radicands v) c × (are_alike c s ≡ true)
 
 find : (v : Surd) (s : ℕ) → Found v s ⊎ (class_coefficient v s ≡ zero_fraction)
-unfolding Found
 find [] s = inr refl
 find (t ∷ v) s = by (are_alike t.radicand s) refl (find v s)
   where
@@ -91,7 +90,6 @@ find (t ∷ v) s = by (are_alike t.radicand s) refl (find v s)
     by false h (inr e) = inr (rw (h, e) (zero_plus zero_fraction))
 
 pub Same-Agree : {v w : Surd} → Same v w → Agree v w
-unfolding Found
 Same-Agree {v} {w} h = record { at = at }
   where
     through : (s c : ℕ) → class_coefficient v c ≡ class_coefficient w c → are_alike c s ≡ true → class_coefficient v s ≡ class_coefficient w s

@@ -1,8 +1,8 @@
 -- Sums, multiples, products and powers of surds, up to equality at every number.
 use Rattle.calc_algebra.proofs.Shared.{ℕ, zero, suc, ◌*◌, ◌≡◌, ◌<◌, pos, ◌∷◌, ◌++◌, map, Bool, true, ◌==◌, ◌&&◌, nat_le, if◌then◌else◌, refl, sym, ap, ◌∙◌, arith, append_assoc, []}
 use Rattle.calc_algebra.proofs.Shared.{append-nil, eqb-true, leb-true, and_parts, times_comm, times_assoc, times_plus, zero_plus, zero_times, one_times, Fraction, lowest, plus, times, zero_fraction}
-use Rattle.calc_algebra.proofs.Shared.{one_fraction, plus_comm, plus_assoc, same_lowest, times_lowest, mul_pos, quotient, square_root, surd_of, Term, Surd, term, surd_one, term_scale, surd_scale}
-use Rattle.calc_algebra.proofs.Shared.{term_times, surd_times, surd_power, are_alike, term_share, class_coefficient, Same, mul_assoc, mul_comm, one-mul}
+use Rattle.calc_algebra.proofs.Shared.{one_fraction, plus_comm, plus_assoc, same_lowest, times_lowest, mul_pos, quotient, surd_of, Term, Surd, term, surd_one, term_scale, surd_scale}
+use Rattle.calc_algebra.proofs.Shared.{term_times, surd_times, surd_power, term_share, class_coefficient, Same, mul_assoc, mul_comm, one-mul}
 pub use Rattle.std.proofs.lemmas.List.{map-append as map-append'}
 
 -- the same at every number, whether it occurs or not
@@ -39,11 +39,8 @@ append_comm v w = record { at = λ s. class_coefficient-append v w s ∙ plus_co
 pub times_zero : (a : Fraction) → times a zero_fraction ≡ zero_fraction
 times_zero a = times_comm a zero_fraction ∙ zero_times a
 
-share_by : (b : Bool) (c q x : Fraction) → (if b then times (times c q) x else zero_fraction) ≡ times c (if b then times q x else zero_fraction)
-share_by b c q x = grind (arith, times_assoc, times_zero)
-
 term_share-term_scale : (c : Fraction) (t : Term) (s : ℕ) → term_share (term_scale c t) s ≡ times c (term_share t s)
-term_share-term_scale c t s = share_by (are_alike t.radicand s) c t.coefficient (quotient (square_root (t.radicand * s)) s)
+term_share-term_scale c t s = grind (arith, times_assoc, times_zero)
 
 pub class_coefficient-surd_scale : (c : Fraction) (v : Surd) (s : ℕ) → class_coefficient (surd_scale c v) s ≡ times c (class_coefficient v s)
 class_coefficient-surd_scale c [] s = sym (times_zero c)
