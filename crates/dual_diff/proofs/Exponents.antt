@@ -25,8 +25,6 @@ opposite_by b q = grind arith
 pub opposite_whole : (q : Fraction) → whole_value (negative q) ≡ opposite (whole_value q)
 opposite_whole q = grind (arith, negative_parts, opposite_by)
 
--- ---- literals by the kind of the root
-
 -- ---- derivable powers
 
 pub power_derivable : (x : List ℕ) (t : Tree) → root_kind t ≡ kind.Pow → IsDerivableExponent (nth 1 (children_of t)) → IsDerivable x t

@@ -1,5 +1,5 @@
 -- The form of a tree by the kind of its root, and its children.
-use Rattle.dual_diff.proofs.Shared.{◌≡◌, ℕ, zero, suc, ◌+◌, ◌<◌, ◌≤◌, refl, sym, ap, ◌∙◌, arith, Tree, undef, root, div, Trees, none, more, append, count, root_kind, nodes, nodes_of, size, sizes, nth}
+use Rattle.dual_diff.proofs.Shared.{◌≡◌, ℕ, zero, suc, ◌+◌, ◌<◌, ◌≤◌, refl, sym, ap, ◌∙◌, arith, Tree, root, div, Trees, none, more, append, count, root_kind, nodes, nodes_of, size, sizes, nth}
 use Rattle.dual_diff.proofs.Shared.{children_of, behind, first, ◌==◌, true, Kind, bare, compound, size_of_payload, takes_kind}
 pub use Rattle.dual_diff.specs.WritingLaws.{sizes_append}
 use Rattle.std.proofs.lemmas.Bool.{eqb-true}
@@ -82,10 +82,7 @@ first_behind (suc n) (more t ts) = ap (more t) (first_behind n ts)
 
 pub nth_behind : (n m : ℕ) (ts : Trees) → nth m (behind n ts) ≡ nth (n + m) ts
 nth_behind zero m ts = ap (λ (k : ℕ). nth k ts) (omega arith)
-nth_behind (suc n) m none = nth_none m ∙ sym (nth_none (suc n + m))
-  where
-    nth_none : (k : ℕ) → nth k none ≡ undef
-    nth_none k = refl
+nth_behind (suc n) m none = refl
 nth_behind (suc n) m (more t ts) = nth_behind n m ts ∙ ap (λ (k : ℕ). nth k (more t ts)) (let e : suc (n + m) ≡ suc n + m = omega arith in e)
 
 pub count_append : (ts us : Trees) → count (append ts us) ≡ count ts + count us

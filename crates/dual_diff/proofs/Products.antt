@@ -1,5 +1,5 @@
 -- The products of a product's derivative, factor by factor.
-use Rattle.dual_diff.proofs.Shared.{◌≡◌, ℕ, suc, ◌+◌, ◌<◌, ◌≤◌, List, Bool, true, false, refl, sym, ap, ◌∙◌, subst, arith, ◌||◌, if◌then◌else◌, Tree, mult, root_kind, Trees, none, more, append, count}
+use Rattle.dual_diff.proofs.Shared.{◌≡◌, ℕ, suc, ◌+◌, ◌<◌, ◌≤◌, List, true, false, refl, sym, ap, ◌∙◌, subst, arith, if◌then◌else◌, Tree, root_kind, Trees, none, more, append, count}
 use Rattle.dual_diff.proofs.Shared.{size, sizes, children_of, nth, derivative, derivatives, products, sum_of_products, with_derivative, behind, add, one, first, occurs, occurs_in, append-none}
 use Rattle.dual_diff.proofs.{Forms.{append_assoc, behind_all, behind_at, count_append, count_behind, count_first, first_all, first_behind, first_next, sizes_append}, Rules.{product_held, product_sum}}
 use Rattle.calc_terms.specs.declared.kind.Kind.TheVariants as kind
@@ -73,12 +73,7 @@ one_product us h = grind arith
 -- some product is there where some factor holds the name
 pub some_product : (x : List ℕ) (earlier ts : Trees) → occurs_in x ts ≡ true → 1 ≤ count (products x earlier ts)
 some_product x earlier none o = absurd cc
-some_product x earlier (more t ts) o = by (occurs x t) (occurs_in x ts) o (λ r. some_product x (append earlier (more t none)) ts r)
-  where
-    by : (b c : Bool) → (b || c) ≡ true → (c ≡ true → 1 ≤ count (products x (append earlier (more t none)) ts))
-        → 1 ≤ count (if b then more (mult (append earlier (more (derivative x t) ts))) (products x (append earlier (more t none)) ts) else products x (append earlier (more t none)) ts)
-    by true c h r = omega arith
-    by false c h r = r h
+some_product x earlier (more t ts) o = grind (arith, some_product x (append earlier (more t none)) ts)
 
 pub made_some : (x : List ℕ) (n : ℕ) (made : Trees) (t : Tree) → root_kind t ≡ kind.Mult → occurs x t ≡ true → count (children_of t) ≤ n → AreMade x n made (children_of t) → 1 ≤ count made
 made_some x n made t k o h m = subst (λ us. 1 ≤ count us) (made_all x n made (children_of t) h m) (some_product x none (children_of t) (product_held x t k o))

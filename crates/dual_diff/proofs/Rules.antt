@@ -1,41 +1,18 @@
 -- The derivative of a tree by the kind of its root, where the tree holds the name.
-use Rattle.dual_diff.proofs.Shared.{◌≡◌, ℕ, ◌+◌, ℤ, List, Bool, true, false, refl, ap, sym, subst, ◌∙◌, arith, ◌||◌, if◌then◌else◌, Some, whole_literal, Kind, bare}
-use Rattle.dual_diff.proofs.Shared.{size_of_payload, Tree, num, symbol, undef, add, mult, power, root, neg, sub, div, Trees, none, more, append, count, root_kind, size, sizes, whole_num, nth}
-use Rattle.dual_diff.proofs.Shared.{children_of, compound, takes_kind, derivative, derivatives, is_linear, power_rule, products, quotient_rule, root_rule, sum_of_products, where_occurs, occurs}
-use Rattle.dual_diff.proofs.{Shared.{occurs_in, bytes_eq, two}, Forms.root_of, Occurring.{either_left, either_right}}
+use Rattle.dual_diff.proofs.Shared.{◌≡◌, ℕ, ◌+◌, ℤ, List, true, false, refl, ap, sym, subst, ◌∙◌, arith, Some, whole_literal, Kind, bare, size_of_payload, Tree, mult, div, Trees, none, more, append}
+use Rattle.dual_diff.proofs.Shared.{count, root_kind, size, sizes, whole_num, nth, children_of, compound, takes_kind, derivative, derivatives, is_linear, power_rule, products, quotient_rule}
+use Rattle.dual_diff.proofs.{Shared.{root_rule, sum_of_products, occurs, occurs_in, two}, Forms.root_of}
 use Rattle.calc_terms.specs.declared.kind.Kind.TheVariants as kind
 
 -- ---- a tree without the name
 
-absent_where : (b : Bool) (d : Tree) → b ≡ false → where_occurs b d ≡ whole_num 0
-absent_where b d o = grind arith
-
-absent_symbol : (b : Bool) → b ≡ false → (if b then whole_num 1 else whole_num 0) ≡ whole_num 0
-absent_symbol b o = grind arith
-
-absent_factor : (b : Bool) (t : Tree) (ts : Trees) → b ≡ false → (if b then more t ts else ts) ≡ ts
-absent_factor b t ts o = grind arith
-
 no_products : (x : List ℕ) (earlier ts : Trees) → occurs_in x ts ≡ false → products x earlier ts ≡ none
 no_products x earlier none o = refl
-no_products x earlier (more t ts) o =
-    absent_factor (occurs x t) (mult (append earlier (more (derivative x t) ts))) (products x (append earlier (more t none)) ts) (either_left (occurs x t) (occurs_in x ts) o)
-    ∙ no_products x (append earlier (more t none)) ts (either_right (occurs x t) (occurs_in x ts) o)
-
-absent_quotient : (b c : Bool) (d e : Tree) → c ≡ false → b ≡ false → (if c then d else where_occurs b e) ≡ whole_num 0
-absent_quotient b c d e o h = grind arith
+no_products x earlier (more t ts) o = grind (arith, no_products x (append earlier (more t none)) ts)
 
 pub absent_zero : (x : List ℕ) (t : Tree) → occurs x t ≡ false → derivative x t ≡ whole_num 0
-absent_zero x (num q) o = refl
-absent_zero x (symbol y) o = absent_symbol (bytes_eq y x) o
-absent_zero x undef o = refl
-absent_zero x (add ts) o = absent_where (occurs_in x ts) (add (derivatives x ts)) o
 absent_zero x (mult ts) o = ap sum_of_products (no_products x none ts o)
-absent_zero x (power b e) o = absent_where (occurs x b || occurs x e) _ o
-absent_zero x (root a) o = absent_where (occurs x a) _ o
-absent_zero x (neg a) o = absent_where (occurs x a) _ o
-absent_zero x (sub a b) o = absent_where (occurs x a || occurs x b) _ o
-absent_zero x (div a b) o = absent_quotient (occurs x a) (occurs x b) _ _ (either_right (occurs x a) (occurs x b) o) (either_left (occurs x a) (occurs x b) o)
+absent_zero x t o = grind arith
 
 -- ---- a tree with the name
 

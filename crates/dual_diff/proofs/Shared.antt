@@ -8,18 +8,17 @@ pub use Rattle.calc_algebra.specs.Surds.{surd_scale, surd_times}
 pub use Rattle.calc_measures.specs.Literals.{opposite, whole_literal, whole_value}
 pub use Rattle.calc_terms.specs.{Leaf.name_of, declared.kind.Kind.Kind, Fractions.{Fraction, lowest, minus_one_fraction, negative, quotient, same_lowest, times, times_lowest, whole_fraction}}
 pub use Rattle.calc_terms.specs.{Payload.{bare, is_bare, rational, size_of_payload}, Rat.{ratio_of, value_of}, Trees.{AllParts, AllPartsOf, Tree, Trees, add, append, count, div, more, mult, names}}
-pub use Rattle.calc_terms.specs.{Trees.{names_of, neg, nodes, nodes_of, none, num, power, root, root_kind, root_size, size, sizes, sub, symbol, undef, whole_num}, declared.rat.Rat.{Rat}}
+pub use Rattle.calc_terms.specs.{Trees.{names_of, neg, nodes, nodes_of, none, num, power, root, root_kind, size, sizes, sub, symbol, undef, whole_num}, declared.rat.Rat.{Rat}}
 pub use Rattle.dual_diff.specs.Derivatives.{HasDerivative, IsDerivable, IsDerivableExponent, derivative, derivatives, exponent_limit, is_linear, literal_power_rule, lowered, power_rule, products}
 pub use Rattle.dual_diff.specs.{Derivatives.{quotient_rule, root_rule, sum_of_products, two, where_occurs, with_derivative}, Lists.{behind, first}, Occurring.{occurs, occurs_in}, Pairs.{HasPair}}
-pub use Rattle.dual_diff.specs.{Pairs.{HasPairProduct, HasPairSum, IsPowerSlope, IsRootPair, IsStill, Pair, SamePair, pair_over}, Placing.{Adds, AddsAll, capped}, Writing.{CanCopy, CanDerive}}
-pub use Rattle.dual_diff.specs.Writing.{CanGather, Counts, Holds, IsLast, IsWriting, KeepsTrees, Places, one, tree_of}
+pub use Rattle.dual_diff.specs.{Pairs.{HasPairProduct, HasPairSum, IsPowerSlope, IsRootPair, IsStill, Pair, SamePair, pair_over}, Placing.{Adds, AddsAll}, Writing.{CanCopy, CanDerive, CanGather}}
+pub use Rattle.dual_diff.specs.Writing.{Holds, IsWriting, Places, one, tree_of}
 pub use Rattle.node_pool.specs.State.{State, free_of}
 pub use Rattle.rational128.proofs.{LowestTerms.ratio_parts, Signed.told}
 pub use Rattle.std.proofs.Common.{Bool, List, [], ap, append-nil, arith, false, inl, inr, length, refl, rules, subst, suc, sym, true, zero, ℕ, ℤ, ◌*◌, ◌++◌, ◌+◌, ◌-◌, ◌<◌, ◌∙◌, ◌∷◌, ◌≡◌, ◌≤◌}
 pub use Rattle.std.proofs.{lemmas.Bool.eq-eqb, lemmas.List.length-append, lemmas.Int.{fits_signed_from_abs, ints, to_z-of_z}}
 pub use Rattle.std.specs.{Int.w128, Str.bytes_eq, Prelude.{Contains, FitsSigned, IsTrue, None, Option, Some, if◌then◌else◌, nat_abs, neg_ℤ, pos, ◌==◌, ◌||◌, ◌↔◌}}
-pub use Rattle.tree_handles.proofs.{Given.{append-none, given_handed, given_rest, gives, gives_as, represents_join, represents_node, represents_none}, Lasts.{ends_as, expression_root}}
-pub use Rattle.tree_handles.proofs.{NextChildren.{last_child, next_child}, Plains.{alone, count-plains, size-plain, sizes-plains}}
-pub use Rattle.tree_handles.specs.{Children.root_ids, Expressions.{AllExpressions, IsExpression, children_of, compound, nth, plain, plains, takes_kind}, Forest.{Forest, arity, before_last, bytes_in}}
-pub use Rattle.tree_handles.specs.{Forest.{empty, join, last_trees, one_tree, rest_trees, tree}, Inside.{holds, kids_of, tree_at}, Standing.{KeepsRefusals, Stands, forest}}
+pub use Rattle.tree_handles.proofs.{Given.{append-none, gives, gives_as, represents_node}, Lasts.{ends_as}, NextChildren.{last_child, next_child}, Plains.{count-plains, size-plain}}
+pub use Rattle.tree_handles.specs.{Children.root_ids, Expressions.{IsExpression, children_of, compound, nth, plain, plains, takes_kind}, Forest.{Forest, arity, before_last, bytes_in, empty, join}}
+pub use Rattle.tree_handles.specs.{Forest.{last_trees, one_tree, rest_trees, tree}, Inside.{kids_of, tree_at}, Standing.{KeepsRefusals, Stands, forest}}
 unfoldable pub use Rattle.calc_terms.specs.Fractions.{one_fraction, zero_fraction}

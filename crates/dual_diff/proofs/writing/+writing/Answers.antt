@@ -20,9 +20,8 @@ write_derivative-returns-then-not-holds g t c =
 
 pub write_derivative-number-requires-in-Sym : goal.write_derivative-number-requires-in-Sym
 write_derivative-number-requires-in-Sym g t c =
-    let L = g.met.W.Writer.laws in
     let x = symbol_one (name_of c.args.name) (tree_of c.args.tree c.args.pool.now) (sym (c.kind.ensures.plain c.requires.tree.expression) ∙ c.in-Sym.is) (sym c.holds.ensures ∙ c.if-not-holds.false) in
-    record { stands = c.requires.tree.stands; fits = search rules; room = L.less c.requires.room (omega (arith, ap size x)) }
+    record { stands = c.requires.tree.stands; fits = search rules; room = g.met.W.Writer.laws.less c.requires.room (omega (arith, ap size x)) }
 
 pub write_derivative-returns-in-Sym : goal.write_derivative-returns-in-Sym
 write_derivative-returns-in-Sym g t c =
@@ -163,8 +162,7 @@ write_products-loop-at-preserved g t c =
     let i = c.loop-at.invariant in
     let x = name_of c.args.name in
     let at = c.loop-at.at in
-    let u = tree_of c.args.tree c.args.pool.now in
-    let within : at < count (children_of u) = omega (arith, c.children-factors.ensures.plain c.requires.tree.expression, c.loop-at-test.true) in
+    let within : at < count (children_of (tree_of c.args.tree c.args.pool.now)) = omega (arith, c.children-factors.ensures.plain c.requires.tree.expression, c.loop-at-test.true) in
     let same = (L.keeps i.written).same c.args.tree c.requires.tree.expression in
     let is = c.child_of-factor.ensures.plain ∙ ap (λ v. nth at (children_of v)) same in
     written_more L within (ap (occurs x) (sym is) ∙ sym c.holds.ensures ∙ c.if-not-holds.false) i (c.tree_bytes-seen.ensures.plain c.child_of-factor.ensures.expression ∙ ap size is)
@@ -174,8 +172,7 @@ pub write_products-loop-at-preserved-then-not-holds : goal.write_products-loop-a
 write_products-loop-at-preserved-then-not-holds g t c =
     let L = g.met.W.Writer.laws in
     let i = c.loop-at.invariant in
-    let u = tree_of c.args.tree c.args.pool.now in
-    let within : c.loop-at.at < count (children_of u) = omega (arith, c.children-factors.ensures.plain c.requires.tree.expression, c.loop-at-test.true) in
+    let within : c.loop-at.at < count (children_of (tree_of c.args.tree c.args.pool.now)) = omega (arith, c.children-factors.ensures.plain c.requires.tree.expression, c.loop-at-test.true) in
     let is = c.child_of-factor.ensures.plain ∙ ap (λ v. nth c.loop-at.at (children_of v)) ((L.keeps i.written).same c.args.tree c.requires.tree.expression) in
     written_same L within (ap (occurs (name_of c.args.name)) (sym is) ∙ sym c.holds.ensures ∙ c.if-not-holds.true) i (c.tree_bytes-seen.ensures.plain c.child_of-factor.ensures.expression ∙ ap size is)
 
@@ -278,11 +275,10 @@ write_quotient-write_derivative-requires g t c =
 
 pub write_quotient-copy-requires : goal.write_quotient-copy-requires
 write_quotient-copy-requires g t c =
-    let L = g.met.W.Writer.laws in
     let rule = quotient_divided (name_of c.args.name)
     (tree_of c.args.tree c.args.pool.now) c.requires.holds.kind c.requires.holds.held c.child_of-dividend.ensures.plain c.child_of-divisor.ensures.plain
     (sym c.holds.ensures ∙ c.if-not-holds.true) in
-    can_copy L c.write_derivative.ensures c.child_of-divisor.ensures.expression c.requires.room (omega (arith, ap size rule))
+    can_copy g.met.W.Writer.laws c.write_derivative.ensures c.child_of-divisor.ensures.expression c.requires.room (omega (arith, ap size rule))
 
 pub write_quotient-over-requires : goal.write_quotient-over-requires
 write_quotient-over-requires g t c =
