@@ -1,7 +1,7 @@
 -- The checks up to an operation that does not fit.
 use Rattle.std.proofs.{Common.{◌≡◌, ◌<◌, ◌≤◌, ℕ, zero, suc, ◌+◌, List, [], ◌∷◌, ◌++◌, length, take, drop, get_or, Result, Ok, Err, refl, sym, ap, ◌∙◌, arith, inl, inr}, lemmas.List.Sums.{sum_by-cons}}
 use Rattle.std.specs.Prelude.{sum_by}
-use Rattle.linear_solve.proofs.Shared.{State, TripsWithin, enumerate_from, cases_eq, length-enumerate_from, take_more, take_all, drop_more, take-append-drop, Tree, num, symbol, undef, add, mult}
+use Rattle.linear_solve.proofs.Shared.{State, TripsWithin, enumerate_from, cases_eq, length-enumerate_from, take_more, take_all, drop_more, take-append-drop, Tree, undef, add, mult}
 use Rattle.linear_solve.proofs.Shared.{power, root, neg, sub, div, Trees, none, more, count, nodes, nodes_of, Misfit, and_then, each, Rows, difference_of, equation_row, equation_rows, settled}
 use Rattle.linear_solve.proofs.Shared.{settled_up_to, Equation, nodes_of_sides, Names, Side, row_of, rows_of, children_of, nth, checks_behind, checks_of_each, equation_checks, name_checks, row_checks}
 use Rattle.linear_solve.proofs.{Shared.{rows_checks, side_checks, solving_checks, Row, unit, Kind}, Calculations.{both, each_all, each_cons, each_stops, then_err}, EquationRows.{numbered}}
@@ -69,10 +69,7 @@ module _ {A B : Type 0} (f : A → Result B Misfit) (checks : A → ℕ) where
 
   each_checks_most : (n : A → ℕ) → ((x : A) → checks x ≤ n x) → (xs : List A) → checks_of_each f checks xs ≤ sum_by n xs
   each_checks_most n h [] = omega arith
-  each_checks_most n h (x ∷ xs) =
-      let r = each_checks_most n h xs in
-      let b = behind_most (f x) (λ y. checks_of_each f checks xs) (sum_by n xs) (λ y. r) in
-      omega (arith, h x, b, sum_by-cons n x xs)
+  each_checks_most n h (x ∷ xs) = grind (arith, h x, each_checks_most n h xs, sum_by-cons)
 
 -- ---- those of a tree
 
@@ -81,8 +78,7 @@ checks_listed xs none = refl
 checks_listed xs (more t ts) = ap (λ n. row_checks xs t + checks_behind (row_of xs t) (λ r. n)) (checks_listed xs ts)
 
 one_child : (r : Result Side Misfit) (n : ℕ) → n + checks_behind r (λ x. 1) ≡ (n + checks_behind r (λ x. 0)) + checks_behind (and_then r (λ x. Ok (x ∷ []))) (λ rs. 1)
-one_child (Ok x) n = omega arith
-one_child (Err m) n = omega arith
+one_child r n = grind arith
 
 two_children : (r s : Result Side Misfit) (n k : ℕ) → n + checks_behind r (λ x. k + checks_behind s (λ y. 1))
     ≡ (n + checks_behind r (λ x. k + checks_behind s (λ y. 0))) + checks_behind (and_then r (λ x. and_then (and_then s (λ y. Ok (y ∷ []))) (λ ys. Ok (x ∷ ys)))) (λ rs. 1)
@@ -93,9 +89,6 @@ several : (xs : Names) (ts : Trees)
 several xs ts = λ i. checks_listed xs ts i + checks_behind (rows_listed xs ts i) (λ rs. 1)
 
 by_children : (xs : Names) (t : Tree) → row_checks xs t ≡ checks_of_each (row_of xs) (row_checks xs) (listed (children_of t)) + checks_behind (each (row_of xs) (listed (children_of t))) (λ rs. 1)
-by_children xs (num q) = refl
-by_children xs (symbol x) = refl
-by_children xs undef = refl
 by_children xs (add ts) = several xs ts
 by_children xs (mult ts) = several xs ts
 by_children xs (power b e) = two_children (row_of xs b) (row_of xs e) (row_checks xs b) (row_checks xs e)
@@ -103,6 +96,7 @@ by_children xs (root a) = one_child (row_of xs a) (row_checks xs a)
 by_children xs (neg a) = one_child (row_of xs a) (row_checks xs a)
 by_children xs (sub a b) = two_children (row_of xs a) (row_of xs b) (row_checks xs a) (row_checks xs b)
 by_children xs (div a b) = two_children (row_of xs a) (row_of xs b) (row_checks xs a) (row_checks xs b)
+by_children xs t = refl
 
 -- those of its first children, so many
 abbrev pub child_checks : Names → Tree → ℕ → ℕ
@@ -136,72 +130,36 @@ module _ {xs : Names} {k : Kind} {t : Tree} {at : ℕ} {row : Result Side Misfit
       omega (arith, c, one, by_children xs t)
 
 -- where its row is made, it has one for each node
-all_of_one : (xs : Names) (a : Tree) (f : Side → Result Side Misfit) (r : Side) → ((s : Side) → row_of xs a ≡ Ok s → row_checks xs a ≡ nodes a) → and_then (row_of xs a) f ≡ Ok r
-    → row_checks xs a + checks_behind (row_of xs a) (λ r. 1) ≡ suc (nodes a)
-all_of_one xs a f r h e =
-    let (s, p, q) = both (row_of xs a) f r e in
-    omega (arith, h s p, behind_ok (row_of xs a) (λ r. 1) s p)
-
-all_of_two : (xs : Names) (a b : Tree) (f : Side → Side → Result Side Misfit) (r : Side) → ((s : Side) → row_of xs a ≡ Ok s → row_checks xs a ≡ nodes a)
-    → ((s : Side) → row_of xs b ≡ Ok s → row_checks xs b ≡ nodes b)
-    → and_then (row_of xs a) (λ s. and_then (row_of xs b) (f s)) ≡ Ok r → row_checks xs a + checks_behind (row_of xs a)
-    (λ r. row_checks xs b + checks_behind (row_of xs b) (λ s. 1)) ≡ suc (nodes a + nodes b)
-all_of_two xs a b f r h k e =
-    let (s, p, q) = both (row_of xs a) (λ s. and_then (row_of xs b) (f s)) r e in
-    omega (arith, h s p, all_of_one xs b (f s) r k q, behind_ok (row_of xs a) (λ r. row_checks xs b + checks_behind (row_of xs b) (λ s. 1)) s p)
-
-all_of_several : (xs : Names) (ts : Trees) (f : List Side → Result Side Misfit) (r : Side) → ((rs : List Side) → rows_of xs ts ≡ Ok rs → rows_checks xs ts ≡ nodes_of ts)
-    → and_then (rows_of xs ts) f ≡ Ok r → rows_checks xs ts + checks_behind (rows_of xs ts) (λ rs. 1) ≡ suc (nodes_of ts)
-all_of_several xs ts f r h e =
-    let (s, p, q) = both (rows_of xs ts) f r e in
-    omega (arith, h s p, behind_ok (rows_of xs ts) (λ rs. 1) s p)
-
 mutual
   pub row_checks_all : (xs : Names) (t : Tree) (r : Side) → row_of xs t ≡ Ok r → row_checks xs t ≡ nodes t
-  row_checks_all xs (num q) r e = refl
-  row_checks_all xs (symbol x) r e = refl
-  row_checks_all xs undef r e = refl
-  row_checks_all xs (add ts) r e = all_of_several xs ts _ r (rows_checks_all xs ts) e
-  row_checks_all xs (mult ts) r e = all_of_several xs ts _ r (rows_checks_all xs ts) e
-  row_checks_all xs (power a b) r e = all_of_two xs a b _ r (row_checks_all xs a) (row_checks_all xs b) e
-  row_checks_all xs (root a) r e = all_of_one xs a _ r (row_checks_all xs a) e
-  row_checks_all xs (neg a) r e = all_of_one xs a _ r (row_checks_all xs a) e
-  row_checks_all xs (sub a b) r e = all_of_two xs a b _ r (row_checks_all xs a) (row_checks_all xs b) e
-  row_checks_all xs (div a b) r e = all_of_two xs a b _ r (row_checks_all xs a) (row_checks_all xs b) e
+  row_checks_all xs (add ts) r e = grind (arith, rows_checks_all xs ts)
+  row_checks_all xs (mult ts) r e = grind (arith, rows_checks_all xs ts)
+  row_checks_all xs (power a b) r e = grind (arith, row_checks_all xs a, row_checks_all xs b)
+  row_checks_all xs (root a) r e = grind (arith, row_checks_all xs a)
+  row_checks_all xs (neg a) r e = grind (arith, row_checks_all xs a)
+  row_checks_all xs (sub a b) r e = grind (arith, row_checks_all xs a, row_checks_all xs b)
+  row_checks_all xs (div a b) r e = grind (arith, row_checks_all xs a, row_checks_all xs b)
+  row_checks_all xs t r e = refl
 
   rows_checks_all : (xs : Names) (ts : Trees) (rs : List Side) → rows_of xs ts ≡ Ok rs → rows_checks xs ts ≡ nodes_of ts
   rows_checks_all xs none rs e = refl
-  rows_checks_all xs (more t ts) rs e =
-      let (s, p, q) = both (row_of xs t) (λ r. and_then (rows_of xs ts) (λ rs. Ok (r ∷ rs))) rs e in
-      let (u, p', q') = both (rows_of xs ts) (λ rs. Ok (s ∷ rs)) rs q in
-      omega (arith, row_checks_all xs t s p, rows_checks_all xs ts u p', behind_ok (row_of xs t) (λ r. rows_checks xs ts) s p)
+  rows_checks_all xs (more t ts) rs e = grind (arith, row_checks_all xs t, rows_checks_all xs ts)
 
 -- and never more
-one_most : {A : Type 0} (r : Result A Misfit) (n most : ℕ) → n ≤ most → n + checks_behind r (λ x. 1) ≤ suc most
-one_most r n most h = omega (arith, behind_most r (λ x. 1) 1 (λ x. omega arith))
-
-two_most : {A : Type 0} (r : Result A Misfit) (n k most rest : ℕ) → n ≤ most → k ≤ rest → n + checks_behind r (λ x. k) ≤ most + rest
-two_most r n k most rest h g = omega (arith, behind_most r (λ x. k) rest (λ x. g))
-
 mutual
   row_checks_most : (xs : Names) (t : Tree) → row_checks xs t ≤ nodes t
-  row_checks_most xs (num q) = omega arith
-  row_checks_most xs (symbol x) = omega arith
-  row_checks_most xs undef = omega arith
-  row_checks_most xs (add ts) = one_most (rows_of xs ts) (rows_checks xs ts) (nodes_of ts) (rows_checks_most xs ts)
-  row_checks_most xs (mult ts) = one_most (rows_of xs ts) (rows_checks xs ts) (nodes_of ts) (rows_checks_most xs ts)
-  row_checks_most xs (power a b) = omega
-      (arith, two_most (row_of xs a) (row_checks xs a) _ (nodes a) _ (row_checks_most xs a) (one_most (row_of xs b) (row_checks xs b) (nodes b) (row_checks_most xs b)))
-  row_checks_most xs (root a) = one_most (row_of xs a) (row_checks xs a) (nodes a) (row_checks_most xs a)
-  row_checks_most xs (neg a) = one_most (row_of xs a) (row_checks xs a) (nodes a) (row_checks_most xs a)
-  row_checks_most xs (sub a b) = omega
-      (arith, two_most (row_of xs a) (row_checks xs a) _ (nodes a) _ (row_checks_most xs a) (one_most (row_of xs b) (row_checks xs b) (nodes b) (row_checks_most xs b)))
-  row_checks_most xs (div a b) = omega
-      (arith, two_most (row_of xs a) (row_checks xs a) _ (nodes a) _ (row_checks_most xs a) (one_most (row_of xs b) (row_checks xs b) (nodes b) (row_checks_most xs b)))
+  row_checks_most xs (add ts) = grind (arith, rows_checks_most xs ts)
+  row_checks_most xs (mult ts) = grind (arith, rows_checks_most xs ts)
+  row_checks_most xs (power a b) = grind (arith, row_checks_most xs a, row_checks_most xs b)
+  row_checks_most xs (root a) = grind (arith, row_checks_most xs a)
+  row_checks_most xs (neg a) = grind (arith, row_checks_most xs a)
+  row_checks_most xs (sub a b) = grind (arith, row_checks_most xs a, row_checks_most xs b)
+  row_checks_most xs (div a b) = grind (arith, row_checks_most xs a, row_checks_most xs b)
+  row_checks_most xs t = omega arith
 
   rows_checks_most : (xs : Names) (ts : Trees) → rows_checks xs ts ≤ nodes_of ts
   rows_checks_most xs none = omega arith
-  rows_checks_most xs (more t ts) = two_most (row_of xs t) (row_checks xs t) (rows_checks xs ts) (nodes t) (nodes_of ts) (row_checks_most xs t) (rows_checks_most xs ts)
+  rows_checks_most xs (more t ts) = grind (arith, row_checks_most xs t, rows_checks_most xs ts)
 
 -- ---- those of equations
 
@@ -218,7 +176,7 @@ side_checks_all xs e d h =
     omega (arith, row_checks_all xs e.left l p, row_checks_all xs e.right r p', both_sides xs e l p)
 
 side_checks_most : (xs : Names) (e : Equation) → side_checks xs e ≤ nodes e.left + nodes e.right
-side_checks_most xs e = two_most (row_of xs e.left) (row_checks xs e.left) (row_checks xs e.right) (nodes e.left) (nodes e.right) (row_checks_most xs e.left) (row_checks_most xs e.right)
+side_checks_most xs e = grind (arith, row_checks_most)
 
 sum_numbered : (g : Equation → ℕ) (i : ℕ) (es : List Equation) → sum_by (λ (p : ℕ × Equation). g p.1) (enumerate_from i es) ≡ sum_by g es
 sum_numbered g i [] = refl
@@ -276,13 +234,11 @@ module _ (xs : Names) (es : List Equation) where
 
 pub name_checks_all : (n : ℕ) (s t : Rows) → settled_up_to n s ≡ Ok t → name_checks n s ≡ n
 name_checks_all zero s t e = refl
-name_checks_all (suc n) s t e =
-    let (u, p, q) = both (settled_up_to n s) (λ t. settled n t) t e in
-    omega (arith, name_checks_all n s u p, behind_ok (settled_up_to n s) (λ t. 1) u p)
+name_checks_all (suc n) s t e = grind (arith, name_checks_all n s)
 
 name_checks_most : (n : ℕ) (s : Rows) → name_checks n s ≤ n
 name_checks_most zero s = omega arith
-name_checks_most (suc n) s = one_most (settled_up_to n s) (name_checks n s) n (name_checks_most n s)
+name_checks_most (suc n) s = grind (arith, name_checks_most n s)
 
 pub name_checks_within : (k n : ℕ) (s t : Rows) → settled_up_to n s ≡ Ok t → n < k → n < name_checks k s
 name_checks_within zero n s t e l = absurd (omega arith)

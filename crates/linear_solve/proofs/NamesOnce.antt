@@ -1,5 +1,5 @@
 -- Rising names are told by what they contain.
-use Rattle.std.proofs.Common.{◌≡◌, ◌∙◌, ℕ, suc, ◌<◌, ◌≤◌, List, [], ◌∷◌, length, true, refl, sym, ap, subst, arith}
+use Rattle.std.proofs.Common.{◌≡◌, ◌∙◌, ℕ, suc, ◌≤◌, List, [], ◌∷◌, length, true, refl, sym, ap, subst, arith}
 use Rattle.std.specs.Prelude.{Contains}
 use Rattle.linear_solve.proofs.{RisingLemmas.{before_chain, never_before_itself, rises_distinct}, Shared.{AreDistinct, Equation}}
 use Rattle.linear_solve.specs.RisingNames.{AreNamesOf, HoldOverSixNames, Rises, is_before}

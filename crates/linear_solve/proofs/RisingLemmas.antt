@@ -1,89 +1,53 @@
 -- Lemmas on names in the order of their bytes.
 use Rattle.std.proofs.Common.{◌≡◌, ◌∙◌, ◌⊎◌, inl, inr, ℕ, zero, suc, ◌+◌, ◌<◌, ◌≤◌, List, [], ◌∷◌, ◌++◌, length, take, get_or, Bool, true, false, cond, refl, sym, ap, subst, arith, append_assoc}
-use Rattle.std.proofs.{lemmas.List.Elements.{Contains-append_cases, Contains-append_left, Contains-append_right}, lemmas.Slice.Eq.{bytes_eq-Decides}}
-use Rattle.std.specs.{Prelude.{◌||◌, All, Contains}, List.{insert, list_any, prefix_len}, Str.{bytes_eq}, Cmp.Lexicographic.{slice_cmp}, Ordering.{is_lt, nat_cmp, ordering_reverse}}
-use Rattle.std.specs.{declared.cmp.Ordering.{Ordering}, declared.cmp.Ordering.TheVariants.{Less, Equal, Greater}}
+use Rattle.std.proofs.{lemmas.List.Elements.{Contains-append_cases, Contains-append_left, Contains-append_right, All-cons, All-contains, All-head, All-tail}, lemmas.Slice.Eq.{bytes_eq-Decides}}
+use Rattle.std.proofs.{lemmas.Cmp.{nat_list_cmp_total, tied_itself}, lemmas.List.{append-nil}, lemmas.List.Folds.{list_any_at}, lemmas.Map.Lookups.{exact_bytes}, lemmas.Map.Views.{Contains-from_any}}
+use Rattle.std.specs.{Prelude.{◌||◌, All, Contains}, List.{insert, list_any, prefix_len}, Str.{bytes_eq}, declared.cmp.Ordering.TheVariants.{Less}}
 use Rattle.calc_algebra.specs.TreeOrder.{tree_cmp}
-use Rattle.calc_terms.specs.{Leaf.{name_of}, Trees.{Tree, symbol, Trees, none, more, count, is_symbol, names, names_of, root_kind}}
+use Rattle.calc_terms.specs.{Leaf.{name_of}, Trees.{symbol, Tree, Trees, none, more, count, is_symbol, names, names_of, root_kind}}
 use Rattle.linear_solve.specs.{Equations.{AreDistinct, equations_in}, Listed.{names_listed}, RisingNames.{AreNamesOf, HoldOverSixNames, Includes, IsNameIn, Rises, is_before, names_at}}
 use Rattle.linear_solve.specs.declared.side_names.Listed.{Listed}
 use Rattle.tree_handles.specs.{Expressions.{children_of, nth, plain}, Forest.{Forest}, Inside.{tree_at}}
-use Rattle.calc_algebra.proofs.TreeOrderLaws.{tree_chain, tree_cmp_equal, tree_cmp_refl, tree_cmp_turned}
 use Rattle.calc_terms.specs.declared.kind.Kind.TheVariants as kind
 
-less_is : (o : Ordering) → is_lt o ≡ true → o ≡ Less
-less_is o e = grind arith
-
 pub before_is : (x y : List ℕ) → is_before x y ≡ true → tree_cmp (symbol x) (symbol y) ≡ Less
-before_is x y e = less_is (slice_cmp nat_cmp x y) e
-
-is_less : (x y : List ℕ) → tree_cmp (symbol x) (symbol y) ≡ Less → is_before x y ≡ true
-is_less x y e = ap is_lt e
+before_is x y e = grind arith
 
 pub before_chain : (x y z : List ℕ) → is_before x y ≡ true → is_before y z ≡ true → is_before x z ≡ true
-before_chain x y z h k = is_less x z (tree_chain (symbol x) (symbol y) (symbol z) (before_is x y h) (before_is y z k))
+before_chain x y z h k = grind (arith, nat_list_cmp_total.trans x y z)
 
 -- of two names that are not the same, one is before the other
 behind : (x y : List ℕ) → is_before x y ≡ false → (x ≡ y → ⊥) → is_before y x ≡ true
-behind x y h k = by (tree_cmp (symbol x) (symbol y)) refl
-  where
-    by : (o : Ordering) → tree_cmp (symbol x) (symbol y) ≡ o → is_before y x ≡ true
-    by Less e = absurd (no_less (is_before x y) h (is_less x y e))
-      where
-        no_less : (b : Bool) → b ≡ false → b ≡ true → ⊥
-        no_less b p q = absurd cc
-    by Equal e = absurd (k (same_name x y (tree_cmp_equal (symbol x) (symbol y) e)))
-      where
-        same_name : (x y : List ℕ) → symbol x ≡ symbol y → x ≡ y
-        same_name x y e = cc
-    by Greater e = is_less y x (tree_cmp_turned (symbol y) (symbol x) ∙ ap ordering_reverse e)
+behind x y h k = grind (arith, exact_bytes x y, nat_list_cmp_total.antisymm y x)
 
 pub never_before_itself : (x : List ℕ) → is_before x x ≡ true → ⊥
-never_before_itself x h = clash (sym (tree_cmp_refl (symbol x)) ∙ before_is x x h)
-  where
-    clash : Equal ≡ Less → ⊥
-    clash e = absurd cc
-
-all_first : (P : List ℕ → Type 0) (x : List ℕ) (xs : List (List ℕ)) → All P (x ∷ xs) → P x
-all_first P x xs h = h 0 x (omega arith)
-
-all_others : (P : List ℕ → Type 0) (x : List ℕ) (xs : List (List ℕ)) → All P (x ∷ xs) → All P xs
-all_others P x xs h = λ k d l. h (suc k) d (omega arith)
-
-all_more : (P : List ℕ → Type 0) (x : List ℕ) (xs : List (List ℕ)) → P x → All P xs → All P (x ∷ xs)
-all_more P x xs p h k d l = grind arith
-
-all_member : (P : List ℕ → Type 0) (xs : List (List ℕ)) (x : List ℕ) → All P xs → Contains xs x → P x
-all_member P xs x h (k, l, e) = subst P e (h k x l)
+never_before_itself x h = grind (arith, tied_itself nat_list_cmp_total x)
 
 -- a name where it belongs
 abbrev pub with_name : List ℕ → List (List ℕ) → List (List ℕ)
 with_name y xs = insert xs (prefix_len (λ x. is_before x y) xs) y
 
 all_with : (P : List ℕ → Type 0) (n : ℕ) (y : List ℕ) (xs : List (List ℕ)) → P y → All P xs → All P (insert xs n y)
-all_with P zero y xs p h = all_more P y xs p h
-all_with P (suc n) y [] p h = all_more P y [] p h
-all_with P (suc n) y (x ∷ xs) p h = all_more P x (insert xs n y) (all_first P x xs h) (all_with P n y xs p (all_others P x xs h))
+all_with P zero y xs p h = All-cons P y xs p h
+all_with P (suc n) y [] p h = All-cons P y [] p h
+all_with P (suc n) y (x ∷ xs) p h = All-cons P x (insert xs n y) (All-head P x xs h) (all_with P n y xs p (All-tail P x xs h))
 
 pub rises_with : (y : List ℕ) (xs : List (List ℕ)) → Rises xs → (Contains xs y → ⊥) → Rises (with_name y xs)
 rises_with y [] h k = (λ j d l. absurd (omega (arith, l)), tt)
 rises_with y (x ∷ xs) h k = by (is_before x y) refl (rises_with y xs h.1 (λ (j, l, q). k (suc j, omega arith, q)))
   where
     by : (b : Bool) → is_before x y ≡ b → Rises (with_name y xs) → Rises (insert (x ∷ xs) (cond b (1 + prefix_len (λ z. is_before z y) xs) 0) y)
-    by true e rest = step (1 + prefix_len (λ z. is_before z y) xs) (suc_is (prefix_len (λ z. is_before z y) xs)) (all_with (λ z. is_before x z ≡ true) (prefix_len (λ z. is_before z y) xs) y xs e h.0, rest)
+    by true e rest = step (1 + prefix_len (λ z. is_before z y) xs) (omega arith) (all_with (λ z. is_before x z ≡ true) (prefix_len (λ z. is_before z y) xs) y xs e h.0, rest)
       where
-        suc_is : (n : ℕ) → 1 + n ≡ suc n
-        suc_is n = omega arith
-
         step : (m : ℕ) → m ≡ suc (prefix_len (λ z. is_before z y) xs) → All (λ z. is_before x z ≡ true) (with_name y xs) × Rises (with_name y xs) → Rises (insert (x ∷ xs) m y)
         step m e r = subst (λ n. Rises (insert (x ∷ xs) n y)) (sym e) r
     by false e rest =
         let p = behind x y e (λ q. k (0, omega arith, q)) in
-        (all_more (λ z. is_before y z ≡ true) x xs p (λ j d l. before_chain y x (get_or xs j d) p (h.0 j d l)), h)
+        (All-cons (λ z. is_before y z ≡ true) x xs p (λ j d l. before_chain y x (get_or xs j d) p (h.0 j d l)), h)
 
 pub rises_distinct : (xs : List (List ℕ)) → Rises xs → AreDistinct xs
 rises_distinct [] h = tt
-rises_distinct (x ∷ xs) h = (λ m. never_before_itself x (all_member (λ y. is_before x y ≡ true) xs x h.0 m), rises_distinct xs h.1)
+rises_distinct (x ∷ xs) h = (λ m. never_before_itself x (All-contains (λ y. is_before x y ≡ true) xs x h.0 m), rises_distinct xs h.1)
 
 -- ---- what is in them then
 
@@ -132,25 +96,18 @@ includes_new y xs = record {
 
 -- ---- the names as the code lists them
 
+any_listed : (xs : List Listed) (y : List ℕ) → list_any (λ l. bytes_eq (name_of l.name) y) xs ≡ list_any (λ x. bytes_eq x y) (names_listed xs)
+any_listed [] y = refl
+any_listed (l ∷ ls) y = ap (λ b. bytes_eq (name_of l.name) y || b) (any_listed ls y)
+
 pub listed_any : (xs : List Listed) (y : List ℕ) → list_any (λ l. bytes_eq (name_of l.name) y) xs ≡ true → Contains (names_listed xs) y
-listed_any [] y e = absurd cc
-listed_any (l ∷ ls) y e = by (bytes_eq (name_of l.name) y) refl e (listed_any ls y)
-  where
-    by : (b : Bool) → bytes_eq (name_of l.name) y ≡ b → (b || list_any (λ l. bytes_eq (name_of l.name) y) ls) ≡ true → (list_any (λ l. bytes_eq (name_of l.name) y) ls ≡ true → Contains (names_listed ls) y) → Contains (names_listed (l ∷ ls)) y
-    by true q e rest = (0, omega arith, (bytes_eq-Decides (name_of l.name) y).0 q)
-    by false q e rest = let (k, b, p) = rest e in (suc k, omega arith, p)
+listed_any xs y e = Contains-from_any {eq = λ a b. bytes_eq b a} (λ a b h. sym ((bytes_eq-Decides b a).0 h)) y (names_listed xs) (sym (any_listed xs y) ∙ e)
 
 pub listed_none : (xs : List Listed) (y : List ℕ) → list_any (λ l. bytes_eq (name_of l.name) y) xs ≡ false → Contains (names_listed xs) y → ⊥
-listed_none [] y e (k, l, q) = omega (arith, l)
-listed_none (l ∷ ls) y e m = by (bytes_eq (name_of l.name) y) refl e m (listed_none ls y)
-  where
-    by : (b : Bool) → bytes_eq (name_of l.name) y ≡ b → (b || list_any (λ l. bytes_eq (name_of l.name) y) ls) ≡ false → Contains (names_listed (l ∷ ls)) y → (list_any (λ l. bytes_eq (name_of l.name) y) ls ≡ false → Contains (names_listed ls) y → ⊥) → ⊥
-    by true q e m rest = absurd cc
-    by false q e (zero, b, p) rest = no (bytes_eq (name_of l.name) y) q ((bytes_eq-Decides (name_of l.name) y).1 p)
-      where
-        no : (b : Bool) → b ≡ false → b ≡ true → ⊥
-        no b p q = absurd cc
-    by false q e (suc k, b, p) rest = rest e (k, omega arith, p)
+listed_none xs y e (k, l, q) =
+    let found : list_any (λ x. bytes_eq x y) (names_listed xs) ≡ true = list_any_at (λ x. bytes_eq x y) (names_listed xs) k y l ((bytes_eq-Decides _ y).1 q) in
+    let none : list_any (λ x. bytes_eq x y) (names_listed xs) ≡ false = sym (any_listed xs y) ∙ e in
+    cc
 
 listed_prefix : (xs : List Listed) (y : List ℕ) → prefix_len (λ l. is_before (name_of l.name) y) xs ≡ prefix_len (λ x. is_before x y) (names_listed xs)
 listed_prefix [] y = refl
@@ -193,11 +150,7 @@ first_names (suc n) (more t ts) = names t ++ first_names n ts
 
 pub first_names-next : (n : ℕ) (ts : Trees) → n < count ts → first_names (suc n) ts ≡ first_names n ts ++ names (nth n ts)
 first_names-next n none l = absurd (omega (arith, l))
-first_names-next zero (more t ts) l = behind_all (names t)
-  where
-    behind_all : (xs : List (List ℕ)) → xs ++ [] ≡ xs
-    behind_all [] = refl
-    behind_all (x ∷ xs) = ap (λ ys. x ∷ ys) (behind_all xs)
+first_names-next zero (more t ts) l = append-nil (names t)
 first_names-next (suc n) (more t ts) l = ap (λ xs. names t ++ xs) (first_names-next n ts (omega arith)) ∙ sym (append_assoc (names t) (first_names n ts) (names (nth n ts)))
 
 pub first_names-all : (n : ℕ) (ts : Trees) → count ts ≤ n → first_names n ts ≡ names_of ts
@@ -214,21 +167,17 @@ first_names-in (suc n) (more t ts) x c = elim (Contains-append_cases (names t) (
   | inr d ↦ Contains-append_right (names t) (names_of ts) x (first_names-in n ts x d)
 ]
 
-nil_behind : (xs : List (List ℕ)) → xs ++ [] ≡ xs
-nil_behind [] = refl
-nil_behind (x ∷ xs) = ap (λ ys. x ∷ ys) (nil_behind xs)
-
 pub no_symbol : (t : Tree) → (root_kind t ≡ kind.Sym → ⊥) → is_symbol t ≡ false
 no_symbol t h = grind arith
 
 -- a tree that is no symbol has its children's names
 pub names_below : (t : Tree) → is_symbol t ≡ false → names_of (children_of t) ≡ names t
-names_below t h = grind (arith, nil_behind)
+names_below t h = grind (arith, append-nil)
 
 -- ---- names of sides
 
 pub names_at-push : (f : Forest) (is : List ℕ) (i : ℕ) → names_at f (is ++ i ∷ []) ≡ names_at f is ++ names (plain (tree_at i f))
-names_at-push f [] i = nil_behind (names (plain (tree_at i f)))
+names_at-push f [] i = append-nil (names (plain (tree_at i f)))
 names_at-push f (j ∷ js) i = ap (λ xs. names (plain (tree_at j f)) ++ xs) (names_at-push f js i) ∙ sym (append_assoc (names (plain (tree_at j f))) (names_at f js) (names (plain (tree_at i f))))
 
 pub names_at-in : (f : Forest) (n : ℕ) (is : List ℕ) (x : List ℕ) → Contains (names_at f (take n is)) x → Contains (names_at f is) x
@@ -239,18 +188,18 @@ names_at-in f (suc n) (i ∷ is) x c = elim (Contains-append_cases (names (plain
   | inr d ↦ Contains-append_right (names (plain (tree_at i f))) (names_at f is) x (names_at-in f n is x d)
 ]
 
-pub in_sides : (f : Forest) (ls rs : List ℕ) (x : List ℕ) → length rs ≡ length ls → Contains (names_at f ls ++ names_at f rs) x → IsNameIn (equations_in f ls rs) x
-in_sides f ls rs x l c = elim (Contains-append_cases (names_at f ls) (names_at f rs) x c) [ inl d ↦ lefts ls rs l d | inr d ↦ rights ls rs l d ]
-  where
-    lefts : (ls rs : List ℕ) → length rs ≡ length ls → Contains (names_at f ls) x → IsNameIn (equations_in f ls rs) x
-    lefts [] rs l (k, b, e) = absurd (omega (arith, b))
-    lefts (i ∷ ls) [] l c = absurd (omega (arith, l))
-    lefts (i ∷ ls) (j ∷ rs) l c = elim (Contains-append_cases (names (plain (tree_at i f))) (names_at f ls) x c) [ inl d ↦ inl (inl d) | inr d ↦ inr (lefts ls rs (omega arith) d) ]
+none_in : (x : List ℕ) → Contains {X = List ℕ} [] x → ⊥
+none_in x (k, l, e) = omega (arith, l)
 
-    rights : (ls rs : List ℕ) → length rs ≡ length ls → Contains (names_at f rs) x → IsNameIn (equations_in f ls rs) x
-    rights ls [] l (k, b, e) = absurd (omega (arith, b))
-    rights [] (j ∷ rs) l c = absurd (omega (arith, l))
-    rights (i ∷ ls) (j ∷ rs) l c = elim (Contains-append_cases (names (plain (tree_at j f))) (names_at f rs) x c) [ inl d ↦ inl (inr d) | inr d ↦ inr (rights ls rs (omega arith) d) ]
+pub in_sides : (f : Forest) (ls rs : List ℕ) (x : List ℕ) → length rs ≡ length ls → Contains (names_at f ls ++ names_at f rs) x → IsNameIn (equations_in f ls rs) x
+in_sides f ls rs x l c = by ls rs l (Contains-append_cases (names_at f ls) (names_at f rs) x c)
+  where
+    by : (ls rs : List ℕ) → length rs ≡ length ls → Contains (names_at f ls) x ⊎ Contains (names_at f rs) x → IsNameIn (equations_in f ls rs) x
+    by [] [] l h = elim h [ inl c ↦ none_in x c | inr c ↦ none_in x c ]
+    by [] (j ∷ rs) l h = absurd (omega arith)
+    by (i ∷ ls) [] l h = absurd (omega arith)
+    by (i ∷ ls) (j ∷ rs) l (inl c) = elim (Contains-append_cases (names (plain (tree_at i f))) (names_at f ls) x c) [ inl d ↦ inl (inl d) | inr d ↦ inr (by ls rs (omega arith) (inl d)) ]
+    by (i ∷ ls) (j ∷ rs) l (inr c) = elim (Contains-append_cases (names (plain (tree_at j f))) (names_at f rs) x c) [ inl d ↦ inl (inr d) | inr d ↦ inr (by ls rs (omega arith) (inr d)) ]
 
 pub from_sides : (f : Forest) (ls rs : List ℕ) (x : List ℕ) → IsNameIn (equations_in f ls rs) x → Contains (names_at f ls ++ names_at f rs) x
 from_sides f ls rs x m = elim (by ls rs m) [ inl d ↦ Contains-append_left (names_at f ls) (names_at f rs) x d | inr d ↦ Contains-append_right (names_at f ls) (names_at f rs) x d ]
@@ -258,20 +207,7 @@ from_sides f ls rs x m = elim (by ls rs m) [ inl d ↦ Contains-append_left (nam
     by : (ls rs : List ℕ) → IsNameIn (equations_in f ls rs) x → Contains (names_at f ls) x ⊎ Contains (names_at f rs) x
     by [] rs m = absurd m
     by (i ∷ ls) [] m = absurd m
-    by (i ∷ ls) (j ∷ rs) (inl (inl c)) = inl (Contains-append_left (names (plain (tree_at i f))) (names_at f ls) x c)
-    by (i ∷ ls) (j ∷ rs) (inl (inr c)) = inr (Contains-append_left (names (plain (tree_at j f))) (names_at f rs) x c)
-    by (i ∷ ls) (j ∷ rs) (inr m) = elim (by ls rs m) [
-      | inl c ↦ inl (Contains-append_right (names (plain (tree_at i f))) (names_at f ls) x c)
-      | inr c ↦ inr (Contains-append_right (names (plain (tree_at j f))) (names_at f rs) x c)
-    ]
-
-pub take_next : (xs : List ℕ) (k d : ℕ) → k < length xs → take (suc k) xs ≡ take k xs ++ get_or xs k d ∷ []
-take_next [] k d l = absurd (omega (arith, l))
-take_next (x ∷ xs) zero d l = refl
-take_next (x ∷ xs) (suc k) d l = ap (λ ys. x ∷ ys) (take_next xs k d (omega arith))
-
-none_in : (x : List ℕ) → Contains {X = List ℕ} [] x → ⊥
-none_in x (k, l, e) = omega (arith, l)
+    by (i ∷ ls) (j ∷ rs) m = grind (arith, Contains-append_left, Contains-append_right, by ls rs)
 
 -- all names were included
 pub names_are : (f : Forest) (ls rs : List ℕ) (xs : List (List ℕ)) → length rs ≡ length ls → Rises xs → Includes (names_at f ls ++ names_at f rs) [] xs true → AreNamesOf (equations_in f ls rs) xs

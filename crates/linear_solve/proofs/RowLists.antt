@@ -1,9 +1,10 @@
 -- Lists of rows, and loops over them.
-use Rattle.std.proofs.Common.{◌≡◌, ◌<◌, ◌≤◌, ℕ, zero, suc, ◌+◌, ◌-◌, Bool, cond, List, [], ◌∷◌, ◌++◌, length, get_or, map, Some, None, Ok, Err, refl, sym, ap, ◌∙◌, arith, length-drop, add-one, inl}
-use Rattle.std.proofs.Common.{inr}
+use Rattle.std.proofs.Common.{zero-add, Option, ◌≡◌, ◌<◌, ◌≤◌, ℕ, zero, suc, ◌+◌, ◌-◌, Bool, cond, List, [], ◌∷◌, ◌++◌, length, get_or, map, Some, None, Ok, Err, refl, sym, ap, ◌∙◌, arith}
+use Rattle.std.proofs.Common.{length-drop, add-one, inl, inr}
 use Rattle.std.specs.Prelude.{position, not, nat_lt, swap, if◌then◌else◌, ◌==◌}
-use Rattle.linear_solve.proofs.Shared.{prefix_len, cases_eq, eq-eqb, ne_eqb, get_or-drop, get_or-map, get_or-replicate, length-map, map_push, length-swap, swapped_from_swap, one_fraction}
-use Rattle.linear_solve.proofs.{Shared.{zero_fraction, Rows, others, settled, settled_up_to, unit, Misfit, Row, entry, entries_of}, Calculations.{then_err, then_ok}}
+use Rattle.linear_solve.proofs.Shared.{enumerate_from, length-enumerate_from, get_or-enumerate_from, form_of, forms_of, free, prefix_len, cases_eq, eq-eqb, ne_eqb, get_or-drop, get_or-map}
+use Rattle.linear_solve.proofs.Shared.{get_or-replicate, length-map, map_push, length-swap, swapped_from_swap, one_fraction, zero_fraction, Rows, others, settled, settled_up_to, unit, Misfit, Row}
+use Rattle.linear_solve.proofs.{Shared.{entry, entries_of}, Calculations.{then_err, then_ok}}
 use Rattle.linear_solve.specs.declared.row.Row.{Row as RowOfCode}
 
 prefix_len-map : {A B : Type 0} (q : B → Bool) (f : A → B) (xs : List A) → prefix_len q (map f xs) ≡ prefix_len (λ x. q (f x)) xs
@@ -78,3 +79,13 @@ settled_stops (suc k) n s t m e h l = elim (cases_eq k n) [
 
 pub settled_next : (n : ℕ) (s t u : Rows) → settled_up_to n s ≡ Ok t → settled n t ≡ Ok u → settled_up_to (n + 1) s ≡ Ok u
 settled_next n s t u e h = ap (λ j. settled_up_to j s) (add-one n) ∙ then_ok (settled_up_to n s) (λ v. settled n v) t e ∙ h
+
+-- ---- forms
+
+pub forms_long : (n : ℕ) (ps : List (Option Row)) → length (forms_of n ps) ≡ length ps
+forms_long n ps = length-map (enumerate_from 0 ps) _ ∙ length-enumerate_from 0 ps
+
+pub form_at : (n c : ℕ) (ps : List (Option Row)) → c < length ps → get_or (forms_of n ps) c free ≡ form_of n c (get_or ps c None)
+form_at n c ps l =
+    get_or-map (λ (p : ℕ × Option Row). form_of n p.0 p.1) (enumerate_from 0 ps) c (0, None) free (omega (arith, length-enumerate_from 0 ps))
+    ∙ ap (λ (p : ℕ × Option Row). form_of n p.0 p.1) (get_or-enumerate_from 0 ps c (0, None) l ∙ (λ i. (zero-add c i, get_or ps c None)))

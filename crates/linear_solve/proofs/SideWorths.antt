@@ -120,10 +120,10 @@ AreRows n vs [] [] [] = Unit {0}
 AreRows n vs (w ∷ ws) (b ∷ bs) (r ∷ rs) = IsRow n vs w b r × AreRows n vs ws bs rs
 AreRows n vs _ _ _ = ⊥
 
-or_assoc : (a b c : Bool) → ((a || b) || c) ≡ (a || (b || c))
+pub or_assoc : (a b c : Bool) → ((a || b) || c) ≡ (a || (b || c))
 or_assoc a b c = grind arith
 
-or_false : (a : Bool) → (a || false) ≡ a
+pub or_false : (a : Bool) → (a || false) ≡ a
 or_false a = grind arith
 
 row_as : {n : ℕ} {vs : List Fraction} {v w : Fraction} {b c : Bool} {r : Side} → v ≡ w → b ≡ c → IsRow n vs v b r → IsRow n vs w c r

@@ -1,12 +1,12 @@
 -- One name after another is eliminated, and the rows keep their solutions.
-use Rattle.std.proofs.Common.{◌≡◌, ◌≢◌, ◌<◌, ◌⊎◌, inl, inr, ℕ, zero, suc, ◌+◌, ◌-◌, List, [], ◌∷◌, ◌++◌, length, drop, get_or, set, Bool, true, false, Option, Some, None, Result, Ok, refl, sym, ap}
-use Rattle.std.proofs.{Common.{◌∙◌, subst, arith, length-drop, add-one}, lemmas.List.Quantifiers.{position-Some}}
-use Rattle.std.specs.Prelude.{All, swap, if◌then◌else◌}
-use Rattle.linear_solve.proofs.Shared.{cases_eq, cases_lt, not-false, get_or_append_left, get_or_push, get_or_past, get_or_default, get_or-drop, length_push, swapped_from_swap, length-swap, All-drop}
-use Rattle.linear_solve.proofs.Shared.{All-set, All-get_or, prefix_len_passes, inverse_times_itself, times_zero, zero_is, no_zero, times_comm, times_assoc, one_times, zero_times, plus_negative}
-use Rattle.linear_solve.proofs.Shared.{Fraction, plus, times, negative, inverse, is_zero_fraction, zero_fraction, one_fraction, Rows, cleared, cleared_pivot, first_with, others, row_at, settled}
-use Rattle.linear_solve.proofs.{Shared.{settled_at, settled_up_to, Misfit, and_then, each, Row, entry, scaled, without, worth}, Arithmetic.{plus_zero, negative_zero, times_one}, Calculations.{both}}
-use Rattle.linear_solve.proofs.{Calculations.{each_at, each_long, each_forward, each_back, ok_is}, Worths.{IsMultiple, IsCombined, scaled_is, without_is, multiple_entry, combined_entries}}
+use Rattle.std.proofs.Common.{◌≡◌, ◌≢◌, ◌<◌, ◌⊎◌, inl, inr, ℕ, zero, suc, ◌+◌, ◌-◌, List, [], ◌∷◌, ◌++◌, length, get_or, set, Bool, true, false, Option, Some, None, Result, Ok, refl, sym, ap, ◌∙◌}
+use Rattle.std.proofs.{Common.{subst, arith, add-one}, lemmas.List.Quantifiers.{position-Some}}
+use Rattle.std.specs.Prelude.{All, if◌then◌else◌}
+use Rattle.linear_solve.proofs.Shared.{cases_eq, cases_lt, not-false, get_or_append_left, get_or_push, get_or_past, get_or_default, length_push, All-drop, All-set, All-get_or, prefix_len_passes}
+use Rattle.linear_solve.proofs.Shared.{inverse_times_itself, times_zero, zero_is, no_zero, times_comm, times_assoc, one_times, zero_times, plus_negative, Fraction, plus, times, negative, inverse}
+use Rattle.linear_solve.proofs.Shared.{is_zero_fraction, zero_fraction, one_fraction, Rows, cleared, cleared_pivot, first_with, others, row_at, settled, settled_at, settled_up_to, Misfit, and_then}
+use Rattle.linear_solve.proofs.{Shared.{each, Row, entry, scaled, without, worth}, Arithmetic.{plus_zero, negative_zero, times_one}, Calculations.{both, each_at, each_long, each_forward, each_back}}
+use Rattle.linear_solve.proofs.{Calculations.{ok_is}, RowLists.{others_first, others_long, others_same}, Worths.{IsMultiple, IsCombined, scaled_is, without_is, multiple_entry, combined_entries}}
 
 -- ---- pivots
 
@@ -26,6 +26,10 @@ pushed ps x n c r l e = elim (cases_lt c n) [
       let k : c ≡ n = omega (arith, length_push ps x) in
       inr (k, sym (get_or_push ps x None c (l ∙ sym k)) ∙ e)
 ]
+
+-- a row that was there before no pivot was added
+unpushed : (ps : List (Option Row)) (n c : ℕ) (r : Row) → length ps ≡ n → pivot_at c (ps ++ None ∷ []) ≡ Some r → pivot_at c ps ≡ Some r
+unpushed ps n c r l e = grind (arith, pushed)
 
 push_below : (ps : List (Option Row)) (x : Option Row) (n c : ℕ) (r : Row) → length ps ≡ n → pivot_at c ps ≡ Some r → pivot_at c (ps ++ x ∷ []) ≡ Some r
 push_below ps x n c r l e = get_or_append_left ps (x ∷ []) None c (some_within c ps r e) ∙ e
@@ -52,24 +56,15 @@ others_all Q at (d ∷ ys) l h =
     (All-set Q (set (d ∷ ys) 0 (get_or (d ∷ ys) at d)) at d (h 0 d (omega arith)) (All-set Q (d ∷ ys) 0 (get_or (d ∷ ys) at d) (h at d l) h))
 
 all_others : (Q : Row → Type 0) (at : ℕ) (rs : List Row) → at < length rs → Q (row_at at rs) → All Q (others at rs) → All Q rs
-all_others Q at rs l q h k d m =
-    let s = swapped_from_swap rs (swap rs 0 at) 0 at d (omega arith) l refl in
-    let long : length (others at rs) ≡ length rs - 1 = length-drop 1 (swap rs 0 at) ∙ ap (λ n. n - 1) (length-swap rs 0 at) in
-    elim (cases_eq k at) [
-      | inl e ↦ subst (λ i. Q (get_or rs i d)) (sym e) (subst Q (get_or_default rs at [] d l) q)
-      | inr ne ↦ elim (cases_eq k 0) [
-        | inl z ↦
-            let i : ℕ = at - 1 in
-            let there : 1 + i ≡ at = omega arith in
-            let x : Q (get_or (drop 1 (swap rs 0 at)) i d) = h i d (omega arith) in
-            subst (λ j. Q (get_or rs j d)) (sym z) (subst Q (get_or-drop 1 (swap rs 0 at) i d ∙ ap (λ j. get_or (swap rs 0 at) j d) there ∙ s.1) x)
-        | inr nz ↦
-            let i : ℕ = k - 1 in
-            let there : 1 + i ≡ k = omega arith in
-            let x : Q (get_or (drop 1 (swap rs 0 at)) i d) = h i d (omega arith) in
-            subst Q (get_or-drop 1 (swap rs 0 at) i d ∙ ap (λ j. get_or (swap rs 0 at) j d) there ∙ s.2 k nz ne) x
-      ]
-    ]
+all_others Q at rs l q h k d m = elim (cases_eq k at) [
+  | inl e ↦ subst (λ i. Q (get_or rs i d)) (sym e) (subst Q (get_or_default rs at [] d l) q)
+  | inr ne ↦ elim (cases_eq k 0) [
+    | inl z ↦ subst (λ j. Q (get_or rs j d)) (sym z) (subst Q (others_first at (at - 1) rs d l (omega arith)) (h (at - 1) d (omega (arith, others_long at rs))))
+    | inr nz ↦
+        let back : k - 1 + 1 ≡ k = omega arith in
+        subst Q (others_same at (k - 1) rs d l (λ e. ne (sym back ∙ e)) ∙ ap (λ j. get_or rs j d) back) (h (k - 1) d (omega (arith, others_long at rs)))
+  ]
+]
 
 -- ---- a row without a name
 
@@ -159,24 +154,15 @@ none_settled n width s h e = record {
   many = length_push s.pivots None ∙ ap (λ m. m + 1) h.many;
   left_wide = h.left_wide;
   left_clear = λ j l. elim (cases_eq j n) [ inl k ↦ subst (λ i. All (λ r. entry i r ≡ zero_fraction) s.left) (sym k) (none_has n s.left e) | inr k ↦ h.left_clear j (omega arith) ];
-  pivots = λ c r p. h.pivots c r (old c r p);
-  apart = λ c j r q p o. h.apart c j r q (old c r p) (old j q o);
+  pivots = λ c r p. h.pivots c r (unpushed s.pivots n c r h.many p);
+  apart = λ c j r q p o. h.apart c j r q (unpushed s.pivots n c r h.many p) (unpushed s.pivots n j q h.many o);
 }
-  where
-    old : (c : ℕ) (r : Row) → pivot_at c (s.pivots ++ None ∷ []) ≡ Some r → pivot_at c s.pivots ≡ Some r
-    old c r p = elim (pushed s.pivots None n c r h.many p) [ inl x ↦ x.1 | inr x ↦ absurd (no x.1) ]
-      where
-        no : ◌≡◌ {A = Option Row} None (Some r) → ⊥
-        no f = cc
 
 none_keeps : (n : ℕ) (s : Rows) → length s.pivots ≡ n → KeepsZeros s (record s { pivots = s.pivots ++ None ∷ [] })
 none_keeps n s l = record {
-  on = λ vs z. record { left = z.left; pivots = λ c r p. z.pivots c r (elim (pushed s.pivots None n c r l p) [ inl x ↦ x.1 | inr x ↦ absurd (no r x.1) ]) };
+  on = λ vs z. record { left = z.left; pivots = λ c r p. z.pivots c r (unpushed s.pivots n c r l p) };
   back = λ vs z. record { left = z.left; pivots = λ c r p. z.pivots c r (push_below s.pivots None n c r l p) };
 }
-  where
-    no : (r : Row) → ◌≡◌ {A = Option Row} None (Some r) → ⊥
-    no r f = cc
 
 -- a row is the pivot
 module _ (n width at : ℕ) (s : Rows) (q : Row) (ps : List (Option Row)) (rs : List Row) (h : IsSettled n width s) (o : HasName n at s.left)

@@ -10,6 +10,7 @@ use Rattle.linear_solve.proofs.Shared.{plus_assoc, undef, Rows, difference_of, e
 use Rattle.linear_solve.proofs.Shared.{SolvesAll, and_then, Answer, never, solved, Form, free, HasItsValue, HaveTheirValues, HoldLaterFreeNames, answer_of, differences, form_of, forms_of, IsFree}
 use Rattle.linear_solve.proofs.{Shared.{multiple_in, multipliers, Row, added, entry, negated, worth, Side, row_of, solving}, Arithmetic.{plus_both, plus_zero, times_one, negative_is, negative_plus}}
 use Rattle.linear_solve.proofs.{Arithmetic.{negative_zero, negative_twice, negative_plus_self, opposite_is, times_negative}, Calculations.{both, each_at, each_long, ok_is}}
+use Rattle.linear_solve.proofs.RowLists.{form_at, forms_long}
 use Rattle.linear_solve.proofs.{Meanings.{long_values, one_rational_meaning, row_means}, Steps.{AreZero, HasName, IsSettled, IsStep, first_has, none_has, pivot_at, settled_all, some_within}}
 use Rattle.linear_solve.proofs.Worths.{added_is, drop-nil, length-unit, negated_is, scaled_is, worth-append, worth-nil, worth_behind, worth_constant, worth_negated, worth_unit}
 
@@ -319,13 +320,8 @@ module _ (f : Assignment) (once : IsAssignment f) (xs : List (List ℕ)) (vs : L
       pivots_long : length s.pivots ≡ length xs
       pivots_long = step.settled.many
 
-      form_at : (c : ℕ) → c < length xs → get_or (forms_of (length xs) s.pivots) c free ≡ form_of (length xs) c (pivot_at c s.pivots)
-      form_at c l =
-          get_or-map (λ (p : ℕ × Option Row). form_of (length xs) p.0 p.1) (enumerate_from 0 s.pivots) c (0, None) free (omega (arith, length-enumerate_from 0 s.pivots, pivots_long))
-          ∙ ap (λ (p : ℕ × Option Row). form_of (length xs) p.0 p.1) (get_or-enumerate_from 0 s.pivots c (0, None) (omega (arith, pivots_long)) ∙ (λ i. (zero-add c i, pivot_at c s.pivots)))
-
-      forms_long : length (forms_of (length xs) s.pivots) ≡ length xs
-      forms_long = length-map (enumerate_from 0 s.pivots) _ ∙ length-enumerate_from 0 s.pivots ∙ pivots_long
+      many : length (forms_of (length xs) s.pivots) ≡ length xs
+      many = forms_long (length xs) s.pivots ∙ pivots_long
 
       -- a pivot is worth 0 exactly where its name has the value of its form
       pivot_worth : (c : ℕ) (r : Row) → c < length xs → pivot_at c s.pivots ≡ Some r
@@ -347,8 +343,10 @@ module _ (f : Assignment) (once : IsAssignment f) (xs : List (List ℕ)) (vs : L
           back h = whole ∙ taken_out (worth r vs) (entry (length xs) r) (get_or vs c zero_fraction) (h ∙ ap (plus (negative (entry (length xs) r))) coefs)
 
       have_values : AreZero (vs ++ one_fraction ∷ []) s → HaveTheirValues (forms_of (length xs) s.pivots) vs
-      have_values z = all_zip_from (HasItsValue vs) (forms_of (length xs) s.pivots) vs free zero_fraction (forms_long ∙ sym values_long)
-          (λ c l. let i : c < length xs = omega (arith, forms_long) in subst (λ x. HasItsValue vs x (get_or vs c zero_fraction)) (sym (form_at c i)) (by c i (pivot_at c s.pivots) refl))
+      have_values z = all_zip_from (HasItsValue vs) (forms_of (length xs) s.pivots) vs free zero_fraction (many ∙ sym values_long)
+          (λ c l.
+          let i : c < length s.pivots = omega (arith, many, pivots_long) in
+          subst (λ x. HasItsValue vs x (get_or vs c zero_fraction)) (sym (form_at (length xs) c s.pivots i)) (by c (omega (arith, pivots_long)) (pivot_at c s.pivots) refl))
         where
           by : (c : ℕ) → c < length xs → (o : Option Row) → pivot_at c s.pivots ≡ o → HasItsValue vs (form_of (length xs) c o) (get_or vs c zero_fraction)
           by c l None e = tt
@@ -365,8 +363,8 @@ module _ (f : Assignment) (once : IsAssignment f) (xs : List (List ℕ)) (vs : L
             (worth-nil (drop (length vs + 1) (get_or s.left k d))) ∙ zero_plus zero_fraction;
         pivots = λ c r e.
             let i : c < length xs = omega (arith, some_within c s.pivots r e, pivots_long) in
-            (pivot_worth c r i e).1 (subst (λ x. HasItsValue vs x (get_or vs c zero_fraction)) (form_at c i ∙ ap (form_of (length xs) c) e)
-            (zipped_at (HasItsValue vs) (forms_of (length xs) s.pivots) vs c free zero_fraction h (omega (arith, forms_long))));
+            (pivot_worth c r i e).1 (subst (λ x. HasItsValue vs x (get_or vs c zero_fraction)) (form_at (length xs) c s.pivots (some_within c s.pivots r e) ∙ ap (form_of (length xs) c) e)
+            (zipped_at (HasItsValue vs) (forms_of (length xs) s.pivots) vs c free zero_fraction h (omega (arith, many))));
       }
 
 -- ---- the whole
@@ -374,16 +372,11 @@ module _ (f : Assignment) (once : IsAssignment f) (xs : List (List ℕ)) (vs : L
 -- the forms hold only later, free names
 later_free : (n width : ℕ) (s : Rows) → IsSettled n width s → HoldLaterFreeNames (forms_of n s.pivots)
 later_free n width s h i j l ne =
-    let li : i < n = omega (arith, forms_many n s.pivots, h.many) in
+    let li : i < n = omega (arith, forms_long n s.pivots, h.many) in
     by (pivot_at i s.pivots) refl (λ e z. ne (ap (λ x. multiple_in x j) (formed i li ∙ ap (form_of n i) e) ∙ z))
   where
-    forms_many : (n : ℕ) (ps : List (Option Row)) → length (forms_of n ps) ≡ length ps
-    forms_many n ps = length-map (enumerate_from 0 ps) _ ∙ length-enumerate_from 0 ps
-
     formed : (c : ℕ) → c < n → get_or (forms_of n s.pivots) c free ≡ form_of n c (pivot_at c s.pivots)
-    formed c b =
-        get_or-map (λ (p : ℕ × Option Row). form_of n p.0 p.1) (enumerate_from 0 s.pivots) c (0, None) free (omega (arith, length-enumerate_from 0 s.pivots, h.many))
-        ∙ ap (λ (p : ℕ × Option Row). form_of n p.0 p.1) (get_or-enumerate_from 0 s.pivots c (0, None) (omega (arith, h.many)) ∙ (λ i. (zero-add c i, pivot_at c s.pivots)))
+    formed c b = form_at n c s.pivots (omega (arith, h.many))
 
     -- a multiple that is not 0 is that of a later name without a pivot
     by : (o : Option Row) → pivot_at i s.pivots ≡ o → (pivot_at i s.pivots ≡ o → multiple_in (form_of n i o) j ≡ zero_fraction → ⊥)
@@ -399,7 +392,7 @@ later_free n width s h i j l ne =
                 let value : multiple_of r i j ≡ negative (entry j r) = ap (λ b. if b then zero_fraction else negative (entry j r)) (ne_eqb j i other) in
                 let nonzero : entry j r ≢ zero_fraction = λ z. wrong e (is ∙ value ∙ ap negative z ∙ negative_zero) in
                 let later : i < j = elim (cases_lt j i) [ inl b ↦ absurd (nonzero ((h.pivots i r e).before j b)) | inr b ↦ omega arith ] in
-                (later, omega (arith, forms_many n s.pivots, h.many), subst IsFree (sym (formed j within)) (frees (pivot_at j s.pivots) refl (λ q a. nonzero (h.apart i j r q e a other))))
+                (later, omega (arith, forms_long n s.pivots, h.many), subst IsFree (sym (formed j within)) (frees (pivot_at j s.pivots) refl (λ q a. nonzero (h.apart i j r q e a other))))
           ]
     ]
       where
@@ -477,7 +470,7 @@ module _ (xs : List (List ℕ)) (es : List Equation) (distinct : AreDistinct xs)
       let p = parts_of xs es (solved forms) e in
       let b = solved_by (length xs) p.s forms p.answer in
       let t = step_of (zero_assignment xs) (zero_values xs) (zero_once xs distinct) (zero_gives xs) (solved forms) p in
-      ap length b.are ∙ length-map (enumerate_from 0 p.s.pivots) _ ∙ length-enumerate_from 0 p.s.pivots ∙ t.settled.many
+      ap length b.are ∙ forms_long (length xs) p.s.pivots ∙ t.settled.many
 
   pub multipliers_are_many : (cs : List Fraction) → solving xs es ≡ Ok (never cs) → length cs ≡ length es
   multipliers_are_many cs e =

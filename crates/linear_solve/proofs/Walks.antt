@@ -27,11 +27,7 @@ by_children xs t = grind (arith, rows_listed, two_rows, one_row)
 -- ---- rows joined so far
 
 joined_push : (join : Side → Side → Result Side Misfit) (r : Side) (rs : List Side) (s : Side) → joined_rows join r (rs ++ s ∷ []) ≡ and_then (joined_rows join r rs) (λ t. join t s)
-joined_push join r [] s = by (join r s)
-  where
-    by : (x : Result Side Misfit) → and_then x (λ t. Ok t) ≡ x
-    by (Ok t) = refl
-    by (Err m) = refl
+joined_push join r [] s = grind arith
 joined_push join r (u ∷ rs) s = by (join r u) (λ t. joined_push join t rs s)
   where
     by : (x : Result Side Misfit) → ((t : Side) → joined_rows join t (rs ++ s ∷ []) ≡ and_then (joined_rows join t rs) (λ t. join t s))

@@ -40,6 +40,7 @@ impl Elimination {
 
     /// The names are taken in order, so many, with a check of the breakers for each.
     #[inline(never)]
+    #[tactic(auto, using(crate::proofs::RowLists::settled_stops, crate::proofs::RowLists::settled_next))]
     pub(crate) fn eliminate<B: Breaker>(
         &mut self,
         names: usize,

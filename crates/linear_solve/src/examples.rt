@@ -1,4 +1,6 @@
 //! Worked examples of the definitions, each the contract of a function without a body.
+#![tactic(auto, unfolding(calc_terms::specs::Gcd::gcd, calc_terms::specs::Fractions::lowest, calc_terms::specs::Fractions::plus, calc_terms::specs::Fractions::times, calc_terms::specs::Fractions::negative, calc_terms::specs::Fractions::zero_fraction, calc_terms::specs::Fractions::one_fraction))]
+
 ghost use Rattle.std.specs.Prelude.{◌≡◌, []};
 ghost use Rattle.calc_terms.specs.Examples.{sum, three};
 ghost use Rattle.calc_terms.specs.Trees.{add, neg, sub, whole_num};

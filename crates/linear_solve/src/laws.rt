@@ -9,6 +9,7 @@ ghost use Rattle.linear_solve.specs.Sides.{Names};
 ghost use Rattle.linear_solve.specs.Solving.{solving};
 
 /// What is calculated for equations says which assignments solve them.
+#[tactic(auto, using(crate::proofs::Theorem::solved_where, crate::proofs::Theorem::one_from, crate::proofs::Theorem::never_solved))]
 pub fn answers_tell_what_solves()
     // Forms: exactly those that give each bound name the value of its form, in which only free names that come later stand.
     ensures solved { (xs : Names) (es : List Equation) (forms : List Form) → AreDistinct xs → All (IsLinearIn xs) es
@@ -28,6 +29,7 @@ pub fn answers_tell_what_solves()
 {}
 
 /// A calculation makes at most one check for each node of the sides and for each name.
+#[tactic(auto, using(crate::proofs::CheckCounts::solving_checks_most))]
 pub fn checks_are_few()
     ensures { (xs : Names) (es : List Equation) → solving_checks xs es ≤ nodes_of_sides es + length xs }
 {}

@@ -32,6 +32,7 @@ use node_pool::{Id, Pool};
 ///
 /// It is not inlined, nor are its parts: their rows stand on the machine's stack only for as long as they are needed.
 #[inline(never)]
+#[tactic(auto, using(crate::proofs::Theorem::solved_where, crate::proofs::Theorem::one_from, crate::proofs::Theorem::never_solved, crate::proofs::Theorem::multipliers_are_many, crate::proofs::EquationRows::equations_long))]
 pub fn solve<B: Breaker>(
     pool: &Pool,
     left: &[Id],
@@ -80,6 +81,7 @@ pub fn solve<B: Breaker>(
 }
 
 /// The calculation in its order.
+#[tactic(auto, using(crate::proofs::Results::rows_err))]
 fn calculate<B: Breaker>(
     pool: &Pool,
     left: &[Id],
@@ -111,6 +113,7 @@ fn calculate<B: Breaker>(
 /// What the rows of equations in so many names say. What it keeps for that is not on the machine's stack while the rows
 /// are made.
 #[inline(never)]
+#[tactic(auto, using(crate::proofs::Results::rows_ok, crate::proofs::Results::settled_err, crate::proofs::Results::answer_err))]
 fn solve_rows<B: Breaker>(
     rows: ArrayVec<EquationRow, EQUATION_LIMIT>,
     names: usize,

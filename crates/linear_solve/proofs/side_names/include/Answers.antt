@@ -1,4 +1,4 @@
-use Rattle.std.proofs.{Common.{◌≡◌, ◌<◌, ◌≤◌, ℕ, List, [], ◌∷◌, Bool, true, false, sym, ◌∙◌, subst, ap, arith, length}, lemmas.Bool.{eq-eqb, eqb-true}, lemmas.List.{length-map}}
+use Rattle.std.proofs.{Common.{◌≡◌, ◌<◌, ◌≤◌, ℕ, List, [], ◌∷◌, true, false, sym, ◌∙◌, subst, ap, arith, length}, lemmas.Bool.{eqb-true}, lemmas.List.{length-map}}
 use Rattle.std.proofs.{lemmas.List.Sums.{prefix_len-le-length}, Math.Dec.{eqb}}
 use Rattle.calc_terms.specs.Leaf.{name_of}
 use Rattle.linear_solve.specs.{Listed.{names_listed}, RisingNames.{Includes, Rises, is_before}, declared.side_names.Listed.{Listed}}
@@ -7,10 +7,7 @@ use Rattle.linear_solve.proofs.RisingLemmas.{includes_new, includes_none, includ
 use Rattle.linear_solve.proofs.side_names.include.Goals as goal
 
 less : (n : ℕ) → n ≤ 6 → eqb n 6 ≡ false → n < 6
-less n l e = omega (arith, l, (λ (q : n ≡ 6). clash (eqb n 6) (eq-eqb n 6 q) e))
-  where
-    clash : (b : Bool) → b ≡ true → b ≡ false → ⊥
-    clash b p q = absurd cc
+less n l e = grind arith
 
 pub returns-then-is_among-clause-included : goal.returns-then-is_among-clause-included
 returns-then-is_among-clause-included c =

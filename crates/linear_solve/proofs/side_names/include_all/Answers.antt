@@ -1,14 +1,14 @@
-use Rattle.std.proofs.Common.{◌≡◌, ◌+◌, ◌++◌, [], ◌∷◌, ℕ, suc, List, take, sym, ap, ◌∙◌, subst, arith}
+use Rattle.std.proofs.{Common.{◌≡◌, ◌+◌, ◌++◌, [], ◌∷◌, ℕ, suc, List, take, sym, ap, ◌∙◌, subst, arith}, Math.Seq.{take-suc}}
 use Rattle.std.specs.Prelude.{Contains}
 use Rattle.linear_solve.specs.RisingNames.{names_at}
 use Rattle.tree_handles.specs.Standing.{forest}
-use Rattle.linear_solve.proofs.RisingLemmas.{includes_as, includes_both, includes_wider, names_at-in, names_at-push, take_next}
+use Rattle.linear_solve.proofs.RisingLemmas.{includes_as, includes_both, includes_wider, names_at-in, names_at-push}
 use Rattle.linear_solve.proofs.side_names.include_all.Goals as goal
 
 pub returns-then-not-include_names-clause-included : goal.returns-then-not-include_names-clause-included
 returns-then-not-include_names-clause-included c =
     let next : take (suc c.loop-at.at) c.args.roots.now ≡ take c.loop-at.at c.args.roots.now ++ c.index-roots-at.result ∷ []
-    = take_next c.args.roots.now c.loop-at.at c.index-roots-at.result c.loop-at-test.true ∙ ap (λ (i : ℕ). take c.loop-at.at c.args.roots.now ++ i ∷ []) (sym c.index-roots-at.is) in
+    = take-suc c.args.roots.now c.loop-at.at c.index-roots-at.result c.loop-at-test.true ∙ ap (λ (i : ℕ). take c.loop-at.at c.args.roots.now ++ i ∷ []) (sym c.index-roots-at.is) in
     includes_wider
     (λ x m. names_at-in (forest c.args.pool.now) (suc c.loop-at.at) c.args.roots.now x
     (subst (λ (xs : List (List ℕ)). Contains xs x) (sym (ap (names_at (forest c.args.pool.now)) next ∙ names_at-push (forest c.args.pool.now) (take c.loop-at.at c.args.roots.now) c.index-roots-at.result)) m))
@@ -17,7 +17,7 @@ returns-then-not-include_names-clause-included c =
 pub loop-at-preserved : goal.loop-at-preserved
 loop-at-preserved c =
     let next : take (suc c.loop-at.at) c.args.roots.now ≡ take c.loop-at.at c.args.roots.now ++ c.index-roots-at.result ∷ []
-    = take_next c.args.roots.now c.loop-at.at c.index-roots-at.result c.loop-at-test.true ∙ ap (λ (i : ℕ). take c.loop-at.at c.args.roots.now ++ i ∷ []) (sym c.index-roots-at.is) in
+    = take-suc c.args.roots.now c.loop-at.at c.index-roots-at.result c.loop-at-test.true ∙ ap (λ (i : ℕ). take c.loop-at.at c.args.roots.now ++ i ∷ []) (sym c.index-roots-at.is) in
     let one : suc c.loop-at.at ≡ c.loop-at.at + 1 = omega arith in
     record {
       rises = c.if-not-include_names.ensures.rises;

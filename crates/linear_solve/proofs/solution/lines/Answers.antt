@@ -1,15 +1,6 @@
-use Rattle.std.proofs.Common.{◌≡◌, ◌<◌, ◌+◌, ◌++◌, ◌∷◌, [], List, ℕ, None, Option, length, map, sym, ap, ◌∙◌, zero-add, arith, get_or}
-use Rattle.linear_solve.proofs.Shared.{enumerate_from, get_or-map, length-map, take_all, take_more, get_or-enumerate_from, length-enumerate_from, form_of, forms_of, free, Row, form_told, pivot_of}
-use Rattle.linear_solve.proofs.RowLists.{mapped_push, read_row}
+use Rattle.std.proofs.Common.{◌<◌, ◌+◌, ◌++◌, ◌∷◌, [], None, length, map, sym, ap, ◌∙◌, arith}
+use Rattle.linear_solve.proofs.{Shared.{length-map, take_all, take_more, form_of, forms_of, free, form_told, pivot_of}, RowLists.{form_at, forms_long, mapped_push, read_row}}
 use Rattle.linear_solve.proofs.solution.lines.Goals as goal
-
-forms_long : (n : ℕ) (ps : List (Option Row)) → length (forms_of n ps) ≡ length ps
-forms_long n ps = length-map (enumerate_from 0 ps) _ ∙ length-enumerate_from 0 ps
-
-form_at : (n c : ℕ) (ps : List (Option Row)) → c < length ps → get_or (forms_of n ps) c free ≡ form_of n c (get_or ps c None)
-form_at n c ps l =
-    get_or-map (λ (p : ℕ × Option Row). form_of n p.0 p.1) (enumerate_from 0 ps) c (0, None) free (omega (arith, length-enumerate_from 0 ps))
-    ∙ ap (λ (p : ℕ × Option Row). form_of n p.0 p.1) (get_or-enumerate_from 0 ps c (0, None) l ∙ (λ i. (zero-add c i, get_or ps c None)))
 
 pub loop-at-preserved : goal.loop-at-preserved
 loop-at-preserved c =

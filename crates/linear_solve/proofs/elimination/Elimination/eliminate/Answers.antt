@@ -1,13 +1,8 @@
 use Rattle.std.proofs.Common.{◌+◌, ap, sym, subst, ◌∙◌}
-use Rattle.linear_solve.proofs.{Shared.{CalmChecks-append, CalmChecks, name_checks, states, rows_told, misfit_of, one_calm, trips_after}, RowLists.{settled_next, settled_stops}, Walks.{handed_on}}
+use Rattle.linear_solve.proofs.{Shared.{CalmChecks-append, CalmChecks, name_checks, states, rows_told, misfit_of, one_calm, trips_after}, RowLists.{settled_next}, Walks.{handed_on}}
 use Rattle.linear_solve.proofs.CheckCounts.{name_checks_stop, name_checks_within}
 use Rattle.linear_solve.specs.declared.fault.SolveFault.TheVariants as fault
 use Rattle.linear_solve.proofs.elimination.Elimination.eliminate.Goals as goal
-
-pub returns-in_err-settle-clause-overflow : goal.returns-in_err-settle-clause-overflow
-returns-in_err-settle-clause-overflow g c =
-    handed_on c.from_residual-in_err-settle.result (fault.Overflow c.in_err-settle.field-0.0) _ c.from_residual-in_err-settle.ensures.1
-    (settled_stops c.args.names c.loop-name.name (rows_told c.args.self.now) (rows_told c.loop-name.self) (misfit_of c.in_err-settle.field-0.0) c.loop-name.invariant.reached c.in_err-settle.ensures.overflow c.loop-name-test.true)
 
 pub returns-in_err-check-clause-stops : goal.returns-in_err-check-clause-stops
 returns-in_err-check-clause-stops g c =
