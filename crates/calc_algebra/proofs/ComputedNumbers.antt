@@ -73,7 +73,11 @@ left_from_is (suc steps) d r h k p =
     let w : ℕ = without r d r in
     let l = left_from_is steps (suc d) w (omega arith) (omega arith) (factor_pos n w r (omega (arith, f)) p) in
     let (m, t, g) = l.tried in
-    record { positive = l.positive; free = free_from steps d w (left_from steps (suc d) w) l (without_free r d r h p (below_power r)); tried = (m * n, tried_times {m = m} {n = n} t u, joined (left_from steps (suc d) w) w m n r f g) }
+    record {
+      positive = l.positive;
+      free = free_from steps d w (left_from steps (suc d) w) l (without_free r d r h p (below_power r));
+      tried = (m * n, tried_times {m = m} {n = n} t u, joined (left_from steps (suc d) w) w m n r f g);
+    }
   where
     joined : (x w m n r : ℕ) → r ≡ w * n → w ≡ x * m → r ≡ x * (m * n)
     joined x w m n r f g = omega (arith, ap (λ y. y * n) g)

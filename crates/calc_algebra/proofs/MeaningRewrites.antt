@@ -1,11 +1,10 @@
 -- Rewritings of sums and products that keep meanings: each meaning of the old tree is one of the new, under every assignment.
 pub use Rattle.calc_algebra.specs.Rewritings.{KeepsMeanings}
 use Rattle.calc_algebra.proofs.Shared.{◌≡◌, ℕ, zero, suc, ◌<◌, List, ◌∷◌, ◌++◌, length, refl, sym, arith, subst, append_assoc, append-nil, set, get_or, zero_fraction, one_fraction, []}
-use Rattle.calc_algebra.proofs.Shared.{minus_one_fraction, Assignment, Means, Same, Surd, surd_of, surd_one, surd_scale, surd_times, Tree, num, undef, add, mult, power, root, neg, sub}
-use Rattle.calc_algebra.proofs.{Shared.{div, Trees, none, more, append, IsPermutation, swap_is, IsPermutation-keeps}, InverseLaws.{Same-times_zero}, MeaningLaws.{one_meaning, Means-Same, Same-sym}}
+use Rattle.calc_algebra.proofs.Shared.{minus_one_fraction, Assignment, Means, Same, Surd, surd_of, surd_one, surd_scale, surd_times, Tree, num, undef, add, mult, power, root, neg, sub, div, Trees}
+use Rattle.calc_algebra.proofs.{Shared.{none, more, append, IsPermutation, swap_is, IsPermutation-keeps}, InverseLaws.{Same-times_zero}, MeaningLaws.{one_meaning, Means-Same, Same-sym}}
 use Rattle.calc_algebra.proofs.{SquareClassLaws.{Same-trans, Same-Agree}, SurdLaws.{Agree, Agree-sym, Agree-trans, Agree-eq, Agree-Same, surd_times-append, surd_times-surd_of, surd_times-surd_one}}
-use Rattle.calc_algebra.proofs.{SurdLaws.{surd_times-one, surd_times_comm, surd_times_assoc, surd_times_left_comm}, TermLaws.{Same-refl, Same-eq, Same-append, Same-append_comm, Same-surd_times}}
-use Rattle.calc_algebra.proofs.TermLaws.{zero_term}
+use Rattle.calc_algebra.proofs.{SurdLaws.{surd_times-one, surd_times_comm, surd_times_assoc}, TermLaws.{Same-refl, Same-eq, Same-append, Same-append_comm, Same-surd_times, zero_term}}
 
 pub KeepsMeanings-refl : (t : Tree) → KeepsMeanings t t
 KeepsMeanings-refl t = record { means = λ f once v m. m }
@@ -187,23 +186,16 @@ nested_product ts us = record {
 -- ---- the order of children
 
 pub swapped_sum : (t u : Tree) (ts : Trees) → KeepsMeanings (add (more t (more u ts))) (add (more u (more t ts)))
-swapped_sum t u ts = record {
-  means = λ f once v m.
-      let p = sum_parts f t (more u ts) v m in
-      let q = sum_parts f u ts p.rest p.rest_means in
-      sum_more f u (more t ts) v q.first (p.first ++ q.rest) q.first_means (sum_more f t ts (p.first ++ q.rest) p.first q.rest p.first_means q.rest_means (Same-refl (p.first ++ q.rest))) (Same-trans p.same (Same-trans (Same-append (Same-refl p.first) q.same) (exchanged p.first q.first q.rest)));
-}
+swapped_sum t u ts = KeepsMeanings-trans (nested_sum (two t u) ts) (KeepsMeanings-trans (KeepsMeanings-sum_more turned (KeepsMeanings-refl (add ts))) (flat_sum (two u t) ts))
   where
-    exchanged : (a b c : Surd) → Same (a ++ (b ++ c)) (b ++ (a ++ c))
-    exchanged a b c = Same-trans (Same-eq (sym (append_assoc a b c))) (Same-trans (Same-append (Same-append_comm a b) (Same-refl c)) (Same-eq (append_assoc b a c)))
+    turned : KeepsMeanings (add (two t u)) (add (two u t))
+    turned = record { means = λ f once v m. let (a, b, x, y, e) = two_sum f t u v m in sum_two f u t v b a y x (Same-trans e (Same-append_comm a b)) }
 
 pub swapped_product : (t u : Tree) (ts : Trees) → KeepsMeanings (mult (more t (more u ts))) (mult (more u (more t ts)))
-swapped_product t u ts = record {
-  means = λ f once v m.
-      let p = product_parts f t (more u ts) v m in
-      let q = product_parts f u ts p.rest p.rest_means in
-      product_more f u (more t ts) v q.first (surd_times p.first q.rest) q.first_means (product_more f t ts (surd_times p.first q.rest) p.first q.rest p.first_means q.rest_means (Same-refl (surd_times p.first q.rest))) (Same-trans p.same (Same-trans (Same-surd_times (Same-refl p.first) q.same) (Agree-Same (surd_times_left_comm p.first q.first q.rest))));
-}
+swapped_product t u ts = KeepsMeanings-trans (nested_product (two t u) ts) (KeepsMeanings-trans (KeepsMeanings-product_more turned (KeepsMeanings-refl (mult ts))) (flat_product (two u t) ts))
+  where
+    turned : KeepsMeanings (mult (two t u)) (mult (two u t))
+    turned = record { means = λ f once v m. let (a, b, x, y, e) = two_product f t u v m in product_two f u t v b a y x (Same-trans e (Agree-Same (surd_times_comm a b))) }
 
 -- the same trees in another order, by exchanges of neighbours
 pub data Permuted : Trees → Trees → Type 0 where

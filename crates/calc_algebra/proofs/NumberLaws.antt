@@ -2,7 +2,7 @@
 use Rattle.calc_algebra.proofs.Shared.{◌≡◌, ℕ, zero, suc, ◌+◌, ◌*◌, ◌%◌, ◌≤◌, ◌<◌, ◌⊎◌, inl, inr, Bool, true, false, not, ◌&&◌, ◌||◌, refl, sym, ap, ◌∙◌, arith, ◌∷◌, nat_lt, ◌==◌, length, []}
 use Rattle.calc_algebra.proofs.Shared.{mod-eq-zero_of_dvd, dvd_of_mod-eq-zero, and_from, not_from_false, le-leb, lt-ltb, eq-eqb, and_parts, ltb-true, leb-true, eqb-true, not-true, no_zero, no_one}
 use Rattle.calc_algebra.proofs.Shared.{zero_test, one_test, left_of, is_clean, IsClean, no_square_divides, IsTerm, IsNumber, AreTerms, IsBelowAll, Rises, terms_of}
-use Rattle.calc_algebra.proofs.Shared.{is_term, rises, is_number, are_terms, is_below_all, are_numbers, are_alike, square_root, Term, Surd, Tree, num, add, mult, root, Trees, none, more, undef}
+use Rattle.calc_algebra.proofs.Shared.{is_term, rises, is_number, are_terms, is_below_all, are_numbers, square_root, Term, Surd, Tree, num, add, mult, root, Trees, none, more, undef}
 use Rattle.calc_algebra.proofs.{Shared.{has_undef, is_undef, ◌∣◌}, SquareRootLaws.{square_root-square}}
 
 none_below : (steps d r e : ℕ) → no_square_divides steps d r ≡ true → d ≤ e → e < d + steps → e * e ∣ r → ⊥
@@ -70,10 +70,7 @@ terms_words (more t ts) h = let (a, b) = and_parts (is_term t) (are_terms ts) h 
 
 below_all_words : (t : Term) (v : Surd) → is_below_all t v ≡ true → IsBelowAll t v
 below_all_words t [] h = tt
-below_all_words t (u ∷ v) h =
-    let (ab, c) = and_parts (nat_lt t.radicand u.radicand && not (are_alike t.radicand u.radicand)) (is_below_all t v) h in
-    let (a, b) = and_parts (nat_lt t.radicand u.radicand) (not (are_alike t.radicand u.radicand)) ab in
-    (ltb-true t.radicand u.radicand a, not-true (are_alike t.radicand u.radicand) b, below_all_words t v c)
+below_all_words t (u ∷ v) h = grind (arith, and_parts, ltb-true, not-true, below_all_words t v)
 
 pub rises_words : (v : Surd) → rises v ≡ true → Rises v
 rises_words [] h = tt

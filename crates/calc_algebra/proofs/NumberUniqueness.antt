@@ -84,7 +84,9 @@ term_simplest t h s = record { proper = term_proper t h; square_free = by (as_te
 
 pub terms_simplest : (ts : Trees) → AreTerms ts → AreSmall (terms_of ts) → AreSimplest (terms_of ts)
 terms_simplest none h s = tt
-terms_simplest (more t ts) (h, hs) s = (term_simplest t h (first_small (term_of t) (terms_of ts) s), terms_simplest ts hs (λ r c. s r (Contains-append_right ((term_of t).radicand ∷ []) (radicands (terms_of ts)) r c)))
+terms_simplest (more t ts) (h, hs) s =
+    let behind : AreSmall (terms_of ts) = λ r c. s r (Contains-append_right ((term_of t).radicand ∷ []) (radicands (terms_of ts)) r c) in
+    (term_simplest t h (first_small (term_of t) (terms_of ts) s), terms_simplest ts hs behind)
 
 -- its terms are in simplest form, and their radicands rise
 record InForm (v : Surd) : Type 0 where

@@ -1,9 +1,9 @@
 -- The test for reduced trees says what its words say.
-use Rattle.calc_algebra.proofs.Shared.{◌≡◌, inl, inr, ℕ, Bool, true, false, not, ◌||◌, ◌==◌, if◌then◌else◌, refl, ap, arith, is_lt, and_parts, and_from, or_left, or_right, not-true}
-use Rattle.calc_algebra.proofs.Shared.{not_from_false, eqb-true, leb-true, false_from_ne_true, Fraction, Tree, num, undef, add, mult, power, root, neg, sub, div, Trees, none, more}
-use Rattle.calc_algebra.proofs.Shared.{AllParts, AllPartsOf, is_undef, tree_cmp, whole_power_form, power_form, split_product, none_is, rises_by, sum_form, product_form}
-use Rattle.calc_algebra.proofs.Shared.{has_form, all_parts, all_parts_of, is_reduced, NoneIs, RisesBy, IsWholePowerForm, IsPowerForm, IsSumForm, IsProductForm, HasForm}
-use Rattle.calc_algebra.proofs.{Shared.{IsReduced, no_zero, no_one, zero_test, one_test}, NumberLaws.{number_words, number_test, rises_words, rises_test}}
+use Rattle.calc_algebra.proofs.Shared.{◌==◌, if◌then◌else◌, false_from_ne_true, num, ◌≡◌, inl, inr, ℕ, Bool, true, false, not, ◌||◌, refl, ap, arith, is_lt, and_parts, and_from, or_left, or_right}
+use Rattle.calc_algebra.proofs.Shared.{not-true, not_from_false, eqb-true, leb-true, Fraction, Tree, undef, add, mult, power, root, neg, sub, div, Trees, none, more, AllParts, AllPartsOf, is_undef}
+use Rattle.calc_algebra.proofs.Shared.{tree_cmp, whole_power_form, power_form, split_product, none_is, rises_by, sum_form, product_form, has_form, all_parts, all_parts_of, is_reduced, NoneIs, RisesBy}
+use Rattle.calc_algebra.proofs.Shared.{IsWholePowerForm, IsPowerForm, IsSumForm, IsProductForm, HasForm, IsReduced, no_zero, no_one, zero_test, one_test}
+use Rattle.calc_algebra.proofs.NumberLaws.{number_words, number_test, rises_words, rises_test}
 
 -- ---- Booleans
 
@@ -135,11 +135,7 @@ undef_words t h = grind arith
 
 pub reduced_words : (t : Tree) → is_reduced t ≡ true → IsReduced t
 unfolding is_reduced
-reduced_words t h = by (is_undef t) refl h
-  where
-    by : (k : Bool) → is_undef t ≡ k → (k || all_parts has_form t) ≡ true → IsReduced t
-    by true e h = inl (undef_words t e)
-    by false e h = inr (all_parts_words has_form HasForm form_words t h)
+reduced_words t h = grind (arith, undef_words, all_parts_words has_form HasForm form_words t)
 
 pub reduced_test : (t : Tree) → IsReduced t → is_reduced t ≡ true
 unfolding is_reduced

@@ -120,7 +120,10 @@ extracted q r s t e = Agree-Same (Agree-trans (Agree-eq (ap (λ r. term q r ∷ 
 
 -- two terms with one radicand
 pub joined_radicand : (p q : Fraction) (r : ℕ) → Same (term p r ∷ term q r ∷ []) (term (plus p q) r ∷ [])
-joined_radicand p q r = Agree-Same (record { at = λ s. sym (plus_assoc (term_share (term p r) s) (term_share (term q r) s) zero_fraction) ∙ ap (λ x. plus x zero_fraction) (share_sum (are_alike r s) p q (quotient (square_root (r * s)) s)) })
+joined_radicand p q r = Agree-Same (record {
+  at = λ s. sym (plus_assoc (term_share (term p r) s) (term_share (term q r) s) zero_fraction)
+      ∙ ap (λ x. plus x zero_fraction) (share_sum (are_alike r s) p q (quotient (square_root (r * s)) s));
+})
 
 -- two terms of one class: with r = g * a * a and s = g * b * b, c * √r + d * √s is (c * a + d * b) * √g
 pub joined : (c d : Fraction) (r s g a b : ℕ) → r ≡ g * a * a → s ≡ g * b * b
