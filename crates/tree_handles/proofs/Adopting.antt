@@ -1,21 +1,18 @@
 -- Trees behind a root that become its children.
 use Rattle.std.specs.Prelude.{◌≡◌, ℕ, ◌+◌, ◌<◌, ◌≤◌, List, ◌∷◌, ◌++◌, length, true, false}
-use Rattle.tree_handles.proofs.Shared.{refl, sym, ap, ◌∙◌, subst, arith, append_assoc, cond, eqb, Bool, eq-eqb, length-append, Node, has, with_children, AreDistinct, State}
+use Rattle.tree_handles.proofs.Shared.{refl, sym, ap, ◌∙◌, subst, arith, append_assoc, cond, Bool, eq-eqb, length-append, Node, with_children, State}
 use Rattle.tree_handles.proofs.Shared.{with_children-append, Label, Forest, empty, tree, join, arity, kids, node_of, flatten, first_trees, rest_trees, root_id, with_root_kids, with_nth}
-use Rattle.tree_handles.proofs.{Shared.{AllNodes, Ends, kids_of, has_root, behind_root, adopted, put, Stands, forest, IsCounted}, Distinct.{distinct, not_before}, Forests.flatten-join}
+use Rattle.tree_handles.proofs.{Shared.{AllNodes, Ends, kids_of, has_root, behind_root, adopted, put, Stands, forest, IsCounted}, Distinct.distinct, Parts.found, Forests.flatten-join}
 use Rattle.tree_handles.proofs.Forests.{join_assoc, arity-join, arity-first_trees, first-rest, first_trees-join, rest_trees-join, join-empty, all-join, all-left, all-right, all-first_trees}
-use Rattle.tree_handles.proofs.{Forests.all-rest_trees, Lasts.{kids_of_root, last_put}, Outcomes.by_test, Releases.{arity_le, few_nodes}, Roots.top}
+use Rattle.tree_handles.proofs.{Forests.all-rest_trees, Lasts.{kids_of_root, last_put}, Releases.{arity_le, few_nodes}, Roots.top}
 
 behind-right : (i : ℕ) (f g : Forest) → has_root i f ≡ false → behind_root i (join f g) ≡ behind_root i g
 behind-right i empty g h = refl
-behind-right i (tree l k r) g h =
-    by_test (λ t. cond t true (has_root i r) ≡ false → cond t (join r g) (behind_root i (join r g)) ≡ behind_root i g) (eqb l.id i) (λ e h. absurd cc) (λ e h. behind-right i r g h) h
+behind-right i (tree l k r) g h = grind (arith, behind-right i r g)
 
 adopted-right : (i n : ℕ) (f g : Forest) → has_root i f ≡ false → adopted i n (join f g) ≡ join f (adopted i n g)
 adopted-right i n empty g h = refl
-adopted-right i n (tree l k r) g h =
-    by_test (λ t. cond t true (has_root i r) ≡ false → cond t (tree l (join k (first_trees n (join r g))) (rest_trees n (join r g))) (tree l k (adopted i n (join r g))) ≡ tree l k (join r (adopted i n g))) (eqb l.id i)
-    (λ e h. absurd cc) (λ e h. ap (λ (x : Forest). tree l k x) (adopted-right i n r g h)) h
+adopted-right i n (tree l k r) g h = grind (arith, adopted-right i n r g)
 
 -- the root, with the trees behind it
 pub behind_there : (i : ℕ) (f r k : Forest) (l : Label) → has_root i f ≡ false → l.id ≡ i → behind_root i (join f (tree l k r)) ≡ r
@@ -32,9 +29,8 @@ adopted_all i n f r k l h e c =
     adopted_there i n f r k l h e ∙ ap (λ (x : Forest). join f (tree l (join k x) (rest_trees n r))) first ∙ ap (λ (x : Forest). join f (tree l (join k r) x)) rest
 
 behind_alone : (i : ℕ) (t r : Forest) → arity t ≡ 1 → root_id t ≡ i → behind_root i (join t r) ≡ r
-behind_alone i empty r a e = absurd (omega arith)
 behind_alone i (tree l k empty) r a e = ap (λ (t : Bool). cond t r (behind_root i r)) (eq-eqb l.id i e)
-behind_alone i (tree l k (tree m j s)) r a e = absurd (omega arith)
+behind_alone i t r a e = absurd (omega arith)
 
 -- two trees that came after it
 pub two_behind : {i j k : ℕ} {t u v others f g h : Forest} → Ends i t others f → Ends j u f g → Ends k v g h → 2 ≤ arity (behind_root i h)
@@ -46,8 +42,6 @@ pub record IsNextAdopted (i : ℕ) (t u f new : Forest) : Type 0 where
   pub forest : adopted i 1 new ≡ put i (with_nth (arity (kids u)) t (kids u)) f
 
 next_parts : (i : ℕ) (t u g f new : Forest) → arity u ≡ 1 → root_id u ≡ i → arity t ≡ 1 → has_root i g ≡ false → f ≡ join g u → new ≡ join f t → put i (with_nth (arity (kids u)) t (kids u)) f ≡ join g (with_root_kids (with_nth (arity (kids u)) t (kids u)) u) → IsNextAdopted i t u f new
-next_parts i t empty g f new one is single clear e h p = absurd (omega arith)
-next_parts i t (tree l k (tree m j s)) g f new one is single clear e h p = absurd (omega arith)
 next_parts i t (tree l k empty) g f new one is single clear e h p =
     let whole : new ≡ join g (tree l k t) = h ∙ ap (λ (x : Forest). join x t) e ∙ join_assoc g (tree l k empty) t in
     let last : with_nth (arity k) t k ≡ join k t =
@@ -56,6 +50,7 @@ next_parts i t (tree l k empty) g f new one is single clear e h p =
       within = omega (arith, ap arity (ap (behind_root i) whole ∙ behind_there i g t k l clear is), single);
       forest = ap (adopted i 1) whole ∙ adopted_all i 1 g t k l clear is (sym single) ∙ ap (λ (x : Forest). join g (tree l x empty)) (sym last) ∙ sym p;
     }
+next_parts i t u g f new one is single clear e h p = absurd (omega arith)
 
 pub next_adopted : {i j : ℕ} {t u g f new : Forest} → Ends i u g f → Ends j t f new → IsNextAdopted i t u f new
 next_adopted {i = i} {t = t} {u = u} {g = g} {f = f} {new = new} a b = next_parts i t u g f new a.alone a.root b.alone a.clear a.whole b.whole (last_put (with_nth (arity (kids u)) t (kids u)) a)
@@ -75,7 +70,7 @@ are_adopted i n own s st root within many =
     let r = p.right in
     let new = join k (first_trees n r) in
     let whole : flatten f ≡ flatten p.left ++ (node_of l k ∷ (flatten k ++ flatten r)) = ap flatten p.whole ∙ flatten-join p.left (tree l k r) in
-    let clear : has i (flatten p.left) ≡ false = ap (λ (x : ℕ). has x (flatten p.left)) (sym p.id-is) ∙ not_before (flatten p.left) (node_of l k) (flatten k ++ flatten r) (subst AreDistinct whole (distinct s st)) in
+    let clear = (found i (node_of l k) (flatten p.left) (flatten k ++ flatten r) (flatten f) (distinct s st) p.id-is whole).clear in
     let own-is : own ≡ arity k = many ∙ ap arity (kids_of_root i st root) ∙ ap (λ (x : Forest). arity (kids x)) p.tree-is in
     let right : n ≤ arity r = subst (λ (x : Forest). n ≤ arity x) (ap (behind_root i) p.whole ∙ behind_there i p.left r k l p.clear p.id-is) within in
     let count : own + n ≡ arity new = omega (arith, own-is, arity-join k (first_trees n r), arity-first_trees n r right) in

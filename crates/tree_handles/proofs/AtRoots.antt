@@ -1,9 +1,9 @@
 -- The calls at roots, in words of roots.
-use Rattle.tree_handles.proofs.Shared.{◌≡◌, ℕ, ◌+◌, ◌<◌, ◌≤◌, ◌∷◌, cond, eqb, refl, sym, ap, ◌∙◌, subst, arith, Bool, true, false, eqb-true, eq-eqb, AreDistinct, State, AreDistinct-parts}
+use Rattle.tree_handles.proofs.Shared.{◌≡◌, ℕ, ◌+◌, ◌<◌, ◌≤◌, ◌∷◌, cond, eqb, sym, ap, ◌∙◌, subst, arith, true, false, eqb-true, eq-eqb, AreDistinct, State, AreDistinct-parts}
 use Rattle.tree_handles.proofs.Shared.{AreDistinct-append, AreApart-parts, Forest, tree, join, arity, kids, root_id, node_of, flatten, tree_nth, without_nth, with_nth, set_nth, with_root_kids, Ends}
 use Rattle.tree_handles.proofs.{Shared.{holds, kids_of, with_kids, has_root, root_tree, without_root, put, Stands, forest}, Distinct.{Distinct, distinct, put-root, clear_front}}
 use Rattle.tree_handles.proofs.{Forests.{flatten-join, arity-with_nth, arity-tree_nth}, Joins.{holds-with_kids, kids_of-with_kids}, Replacing.held_beside}
-use Rattle.tree_handles.proofs.{Lasts.{kids_of_root, last_root, takes_root, takes_next}, Roots.{top, root_arity, root-without, root_id-root_tree}, Outcomes.{by_test, eqb-sym}}
+use Rattle.tree_handles.proofs.{Lasts.{kids_of_root, last_root, takes_root, takes_next}, Roots.{top, root_arity, root-without, root_id-root_tree}, Outcomes.{eqb-sym}}
 
 pub distinct-without : (i : ℕ) (f : Forest) → Distinct f → has_root i f ≡ true → Distinct (without_root i f)
 distinct-without i f d h =
@@ -18,9 +18,8 @@ distinct-without i f d h =
 pub other_than : (i j : ℕ) (f : Forest) → holds i (root_tree j f) ≡ false → has_root j f ≡ true → eqb i j ≡ false
 other_than i j f a h =
     let p = top j f h in
-    by_test (λ t. eqb i j ≡ t → t ≡ false) (eqb i j)
-    (λ e q. absurd (cc (a, ap (holds i) p.tree-is, ap (λ (t : Bool). cond t true (cond (holds i p.kids-are) true false)) (eq-eqb p.label.id i (p.id-is ∙ sym (eqb-true i j q))))))
-    (λ e q. refl) refl
+    let q : cond (eqb p.label.id i) true (cond (holds i p.kids-are) true false) ≡ false = ap (holds i) (sym p.tree-is) ∙ a in
+    grind (arith, p.id-is, eqb-true, eq-eqb)
 
 -- ---- a root takes another as a child
 

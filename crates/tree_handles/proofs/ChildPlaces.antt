@@ -1,10 +1,10 @@
 -- Children one after another.
-use Rattle.tree_handles.proofs.Shared.{◌≡◌, ℕ, zero, suc, ◌+◌, ◌-◌, ◌<◌, ◌≤◌, List, [], ◌∷◌, ◌++◌, length, drop, refl, sym, ap, ◌∙◌, subst, arith, append_assoc, true, false, Node, size_of, used, has}
-use Rattle.tree_handles.proofs.Shared.{first_of, place_of, AreDistinct, since, IsBoundary, State, since-append, used-append, size_from, boundary-append, place_of-append, root_ids, IsChildAt}
-use Rattle.tree_handles.proofs.Shared.{AreSiblings, nth, plain, IsExpression, AllExpressions, children_of, Forest, empty, tree, join, arity, root_id, node_of, first_trees, rest_trees, forest_of}
-use Rattle.tree_handles.proofs.{Shared.{flatten, tree_nth, holds, kids_of, tree_at, Stands, forest, skip, IsChildPlace}, Distinct.{distinct, child_tree, held_parent, not_before}}
-use Rattle.tree_handles.proofs.{Forests.{forest_of-flatten, flatten-first_rest, skip-first, nth_tree, arity-join, arity-rest_trees}, Nths.first_trees-behind, Parts.{IsAt, IsTaken, is_before}}
-use Rattle.tree_handles.proofs.{Parts.{kid_place, live_at, live_node, root_nth, child_taken}, Readings.{expression_child, whole_child}, Swapping.{IsSwap, swaps}}
+use Rattle.tree_handles.proofs.Shared.{◌≡◌, ℕ, zero, suc, ◌+◌, ◌-◌, ◌<◌, ◌≤◌, List, [], ◌∷◌, ◌++◌, length, drop, refl, sym, ap, ◌∙◌, subst, arith, append_assoc, true, Node, used, has, first_of}
+use Rattle.tree_handles.proofs.Shared.{place_of, since, IsBoundary, State, used-append, size_from, root_ids, IsChildAt, AreSiblings, nth, plain, IsExpression, AllExpressions, children_of, Forest}
+use Rattle.tree_handles.proofs.Shared.{empty, tree, join, arity, root_id, node_of, first_trees, rest_trees, forest_of, flatten, tree_nth, holds, kids_of, tree_at, Stands, forest, skip}
+use Rattle.tree_handles.proofs.Shared.{IsChildPlace}
+use Rattle.tree_handles.proofs.{Distinct.{distinct, child_tree, held_parent}, Forests.{forest_of-flatten, flatten-first_rest, skip-first, arity-join, arity-rest_trees}, Nths.first_trees-behind}
+use Rattle.tree_handles.proofs.{Parts.{is_before, kid, kid_here, found_behind, found_tree, live_at, live_node}, Readings.{expression_child, whole_child}}
 
 -- ---- a walk over trees
 
@@ -67,7 +67,7 @@ pub record AreListed (i from place : ℕ) (s : State) : Type 0 where
 pub listed : (i from place : ℕ) (s : State) → Stands s → holds i (forest s) ≡ true → from ≤ arity (kids_of i (forest s)) → IsBoundary place s.nodes → since place s.nodes ≡ skip from (drop 1 (since (place_of i s.nodes) s.nodes)) → AreListed i from place s
 listed i from place s st h within b r =
     let p = live_at i s h in
-    let k = kid_place i from place (forest s) s.nodes p st.flat within b r in
+    let k = kid_here i from place s p st within b r in
     let f = rest_trees from (kids_of i (forest s)) in
     let here : forest_of (since place s.nodes) ≡ join f (forest_of p.after) = ap forest_of k.rest ∙ forest_of-flatten f p.after in
     let count = arity-rest_trees from (kids_of i (forest s)) in
@@ -132,9 +132,6 @@ seen_child n i x s st h =
 
 -- ---- the places of children
 
-regroup : (b : List Node) (m : Node) (x y z : List Node) → b ++ (m ∷ ((x ++ y) ++ z)) ≡ (b ++ (m ∷ x)) ++ (y ++ z)
-regroup b m x y z = ap (λ (t : List Node). b ++ (m ∷ t)) (append_assoc x y z) ∙ sym (append_assoc b (m ∷ x) (y ++ z))
-
 -- where a child begins
 pub record IsPlaced (n i x : ℕ) (s : State) : Type 0 where
   pub live : has x s.nodes ≡ true
@@ -143,51 +140,29 @@ pub record IsPlaced (n i x : ℕ) (s : State) : Type 0 where
 
 pub placed : (n i x : ℕ) (s : State) → Stands s → IsChildAt n i x (forest s) → IsPlaced n i x s
 placed n i x s st h =
-    let f = forest s in
-    let ns = s.nodes in
-    let k = kids_of i f in
-    let p = live_at i s (held_parent n i f h.within) in
-    let q = nth_tree n k h.within in
-    let node = node_of p.label k in
-    let one = flatten (first_trees n k) in
-    let c = node_of q.label q.below in
-    let a = p.before ++ (node ∷ one) in
-    let behind = (flatten q.below ++ flatten q.behind) ++ p.after in
-    let parts : flatten k ≡ one ++ flatten (rest_trees n k) = flatten-first_rest n k in
-    let whole : ns ≡ a ++ (flatten (rest_trees n k) ++ p.after) = st.flat ∙ p.flat ∙ ap (λ (l : List Node). p.before ++ (node ∷ (l ++ p.after))) parts ∙ regroup p.before node one (flatten (rest_trees n k)) p.after in
-    let noded : ns ≡ a ++ (c ∷ behind) = whole ∙ ap (λ (g : Forest). a ++ (flatten g ++ p.after)) q.rest in
-    let id-is : c.id ≡ x = sym (h.id-is ∙ sym (root_nth n k) ∙ ap root_id q.rest) in
-    let clear : has x a ≡ false = ap (λ (j : ℕ). has j a) (sym id-is) ∙ not_before a c behind (subst AreDistinct noded st.pool.distinct) in
-    let place : place_of x ns ≡ used a = ap (place_of x) noded ∙ place_of-append x a c behind clear id-is in
-    let there : since (place_of x ns) ns ≡ flatten (rest_trees n k) ++ p.after = ap (λ (j : ℕ). since j ns) place ∙ ap (since (used a)) whole ∙ since-append a (flatten (rest_trees n k) ++ p.after) in
+    let p = live_at i s (held_parent n i (forest s) h.within) in
+    let k = kids_of i (forest s) in
+    let z = kid n i x (forest s) p h in
+    let q = found_tree x (tree_nth n k) _ _ s.nodes st.pool.distinct z.single z.root (st.flat ∙ z.flat) in
+    let parent = found_behind i (node_of p.label k) p.before (flatten k ++ p.after) s.nodes p.first p.id-is (st.flat ∙ p.flat) in
     record {
       live = live_node x s st (seen_child n i x s st h).live;
-      boundary = subst (IsBoundary (place_of x ns)) (sym whole) (boundary-append a (flatten (rest_trees n k) ++ p.after) (place_of x ns) place);
-      rest = there ∙ sym (ap (λ (l : List Node). skip n (drop 1 l)) (parent_rest i s st p) ∙ skip-first n k p.after (omega (arith, h.within)));
+      boundary = q.boundary;
+      rest = q.here ∙ sym (ap (λ (l : List Node). skip n (drop 1 l)) parent.here ∙ skip-first n k p.after (omega (arith, h.within))
+          ∙ ap (λ (l : List Node). l ++ p.after) (flatten-first_rest 1 (rest_trees n k)) ∙ simp append_assoc);
     }
-  where
-    parent_rest : (i : ℕ) (s : State) → Stands s → (p : IsAt i (forest s)) → since (place_of i s.nodes) s.nodes ≡ node_of p.label (kids_of i (forest s)) ∷ (flatten (kids_of i (forest s)) ++ p.after)
-    parent_rest i s st p =
-        let rest = flatten (kids_of i (forest s)) ++ p.after in
-        let node = node_of p.label (kids_of i (forest s)) in
-        let whole : s.nodes ≡ p.before ++ (node ∷ rest) = st.flat ∙ p.flat in
-        ap (λ (j : ℕ). since j s.nodes) (ap (place_of i) whole ∙ place_of-append i p.before node rest p.first p.id-is) ∙ ap (since (used p.before)) whole ∙ since-append p.before (node ∷ rest)
 
 -- what stands before a child rises with its place
-rises : (n m : ℕ) (f : Forest) → n < arity f → m < arity f → used (flatten (first_trees n f)) < used (flatten (first_trees m f)) → n < m
-rises n m empty hn hm h = absurd (omega arith)
-rises n zero (tree l k r) hn hm h = absurd (omega arith)
-rises zero (suc m) (tree l k r) hn hm h = omega arith
-rises (suc n) (suc m) (tree l k r) hn hm h =
-    grind (arith, used-append, rises n m r (omega arith) (omega arith) (omega (arith, h, used-append (flatten k) (flatten (first_trees n r)), used-append (flatten k) (flatten (first_trees m r)))))
-
-level : (n m : ℕ) (f : Forest) → n < arity f → m < arity f → used (flatten (first_trees n f)) ≡ used (flatten (first_trees m f)) → n ≡ m
-level n m empty hn hm h = absurd (omega arith)
-level zero zero (tree l k r) hn hm h = refl
-level zero (suc m) (tree l k r) hn hm h = absurd (omega (arith, h, size_from (node_of l k)))
-level (suc n) zero (tree l k r) hn hm h = absurd (omega (arith, h, size_from (node_of l k)))
-level (suc n) (suc m) (tree l k r) hn hm h =
-    grind (arith, used-append, level n m r (omega arith) (omega arith) (omega (arith, h, used-append (flatten k) (flatten (first_trees n r)), used-append (flatten k) (flatten (first_trees m r)))))
+rises : (n m : ℕ) (f : Forest) → n < m → m ≤ arity f → used (flatten (first_trees n f)) < used (flatten (first_trees m f))
+rises zero (suc m) (tree l k r) lt h = omega (arith, size_from (node_of l k))
+rises (suc n) (suc m) (tree l k r) lt h = omega (
+  arith,
+  used-append (flatten k) (flatten (first_trees n r)),
+  used-append (flatten k) (flatten (first_trees m r)),
+  rises n m r (omega arith)
+      (omega arith),
+)
+rises n m f lt h = absurd (omega arith)
 
 -- two children are in the order of the places where they begin
 pub record AreOrdered (n m x y : ℕ) (s : State) : Type 0 where
@@ -196,31 +171,19 @@ pub record AreOrdered (n m x y : ℕ) (s : State) : Type 0 where
 
 pub ordered : (i n x m y : ℕ) (s : State) → Stands s → AreSiblings i n x m y (forest s) → AreOrdered n m x y s
 ordered i n x m y s st h =
-    let f = forest s in
-    let k = kids_of i f in
-    let p = live_at i s (held_parent n i f h.first.within) in
-    let a = placed n i x s st h.first in
-    let b = placed m i y s st h.second in
-    let first = kid_place i n (place_of x s.nodes) f s.nodes p st.flat (omega (arith, h.first.within)) a.boundary a.rest in
-    let second = kid_place i m (place_of y s.nodes) f s.nodes p st.flat (omega (arith, h.second.within)) b.boundary b.rest in
-    let one : place_of x s.nodes ≡ used p.before + size_of (node_of p.label k) + used (flatten (first_trees n k)) = first.place-is ∙ used-append p.before (node_of p.label k ∷ flatten (first_trees n k)) ∙ omega arith in
-    let two : place_of y s.nodes ≡ used p.before + size_of (node_of p.label k) + used (flatten (first_trees m k)) = second.place-is ∙ used-append p.before (node_of p.label k ∷ flatten (first_trees m k)) ∙ omega arith in
+    let p = live_at i s (held_parent n i (forest s) h.first.within) in
+    let k = kids_of i (forest s) in
+    let a = kid n i x (forest s) p h.first in
+    let b = kid m i y (forest s) p h.second in
+    let one = (found_tree x (tree_nth n k) _ _ s.nodes st.pool.distinct a.single a.root (st.flat ∙ a.flat)).start ∙ used-append p.before (node_of p.label k ∷ flatten (first_trees n k)) in
+    let two = (found_tree y (tree_nth m k) _ _ s.nodes st.pool.distinct b.single b.root (st.flat ∙ b.flat)).start ∙ used-append p.before (node_of p.label k ∷ flatten (first_trees m k)) in
     record {
-      rising = λ h2. rises n m k h.first.within h.second.within (omega (arith, h2, one, two));
-      equal = λ h2. level n m k h.first.within h.second.within (omega (arith, h2, one, two));
+      rising = λ e. grind (arith, one, two, rises m n k);
+      equal = λ e. grind (arith, one, two, rises n m k, rises m n k);
     }
 
 pub turned : {i n x m y : ℕ} {f : Forest} → AreSiblings i n x m y f → AreSiblings i m y n x f
 turned h = record { first = h.second; second = h.first }
-
--- the exchange of two children that begin there
-pub swap : (i n x m y first mid second end : ℕ) (s : State) → Stands s → n < m → AreSiblings i n x m y (forest s) → first ≡ place_of x s.nodes → second ≡ place_of y s.nodes
-    → IsBoundary mid s.nodes → since mid s.nodes ≡ skip 1 (since first s.nodes) → IsBoundary end s.nodes → since end s.nodes ≡ skip 1 (since second s.nodes) → IsSwap i n m first mid second end s
-swap i n x m y first mid second end s st lt h e q bm rm be re =
-    let a = placed n i x s st h.first in
-    let b = placed m i y s st h.second in
-    swaps i n m first mid second end s st lt h.second.within (subst (λ (k : ℕ). IsBoundary k s.nodes) (sym e) a.boundary) (ap (λ (k : ℕ). since k s.nodes) e ∙ a.rest)
-    (subst (λ (k : ℕ). IsBoundary k s.nodes) (sym q) b.boundary) (ap (λ (k : ℕ). since k s.nodes) q ∙ b.rest) bm rm be re
 
 -- ---- a child that is known by its identifier
 
@@ -228,8 +191,3 @@ pub known_place : (n i x place : ℕ) (s : State) → Stands s → IsChildAt n i
 known_place n i x place s st h e =
     let a = placed n i x s st h in
     record { within = omega (arith, h.within); boundary = subst (λ (k : ℕ). IsBoundary k s.nodes) (sym e) a.boundary; rest = ap (λ (k : ℕ). since k s.nodes) e ∙ a.rest }
-
-pub known_taken : (n i x from end : ℕ) (s : State) → Stands s → IsChildAt n i x (forest s) → from ≡ place_of x s.nodes → IsBoundary end s.nodes → since end s.nodes ≡ skip 1 (since from s.nodes) → IsTaken i n from end (forest s) s.nodes
-known_taken n i x from end s st h e be re =
-    let a = known_place n i x from s st h e in
-    child_taken i n from end s st (held_parent n i (forest s) h.within) h.within a.boundary a.rest be re

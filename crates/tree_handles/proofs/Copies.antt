@@ -7,9 +7,8 @@ use Rattle.tree_handles.proofs.{Parts.has_mid, Readings.payload_of_id-append, Di
 -- one copy more
 pub AreCopies-push : (ns ms : List Node) (n m : Node) → AreCopies ns ms → m.count ≡ 1 → m.payload ≡ n.payload → m.children ≡ n.children → AreCopies (ns ++ n ∷ []) (ms ++ m ∷ [])
 AreCopies-push [] [] n m h c l k = (c, l, k, tt)
-AreCopies-push [] (y ∷ ms) n m h c l k = absurd h
-AreCopies-push (x ∷ ns) [] n m h c l k = absurd h
 AreCopies-push (x ∷ ns) (y ∷ ms) n m h c l k = (h.0, h.1, h.2, AreCopies-push ns ms n m h.3 c l k)
+AreCopies-push ns ms n m h c l k = absurd h
 
 -- copies of two parts
 pub record IsSplit (a b ms : List Node) : Type 0 where

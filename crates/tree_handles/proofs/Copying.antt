@@ -1,10 +1,10 @@
 -- Copying nodes, one after the other.
 use Rattle.tree_handles.proofs.Shared.{◌≡◌, ℕ, suc, ◌+◌, ◌-◌, ◌<◌, ◌≤◌, List, [], ◌∷◌, ◌++◌, refl, sym, ap, ◌∙◌, subst, arith, append_assoc, true}
-use Rattle.tree_handles.proofs.Shared.{append-nil, Node, size_of, used, first_of, place_of, since, until, between, IsBoundary, IsPool, State, free_of, used-append, size_from, until-since}
-use Rattle.tree_handles.proofs.Shared.{since-append, step, cut, boundary_le, between_next, between_none, boundary-append, between-append, place_of-append, AreCopies, copy_of, IsCopy, plains}
+use Rattle.tree_handles.proofs.Shared.{append-nil, Node, size_of, used, first_of, since, until, between, IsBoundary, IsPool, State, free_of, used-append, size_from, until-since}
+use Rattle.tree_handles.proofs.Shared.{since-append, step, cut, boundary_le, between_next, between_none, boundary-append, between-append, AreCopies, copy_of, IsCopy, plains}
 use Rattle.tree_handles.proofs.Shared.{plain, AllExpressions, IsExpression, Forest, empty, tree, join, arity, node_of, flatten, forest_of, root_id, bytes_in, AllNodes, AllOnce, Gives, holds}
-use Rattle.tree_handles.proofs.{Shared.{tree_at, kids_of, Stands, forest, IsCounted, KeepsRefusals, skip}, Copies.{AreCopies-push, copied}, Distinct.clear_front}
-use Rattle.tree_handles.proofs.{Forests.{flatten-join, skip-flatten, stands, forest_of_whole, bytes-flatten, all-join, keeps}, Parts.{live_at, place_is}}
+use Rattle.tree_handles.proofs.{Shared.{tree_at, Stands, forest, IsCounted, KeepsRefusals}, Copies.{AreCopies-push, copied}, Distinct.clear_front}
+use Rattle.tree_handles.proofs.{Forests.{flatten-join, stands, forest_of_whole, bytes-flatten, all-join, keeps}, Parts.{IsTold, live_at, span}}
 
 pub record IsCopying (s t : State) (from at : ℕ) : Type 0 where
   pub made : List Node
@@ -110,23 +110,15 @@ pub record IsTree (i from end : ℕ) (s : State) : Type 0 where
   pub size : end - from ≡ bytes_in (tree_at i (forest s))
   pub one : arity (tree_at i (forest s)) ≡ 1
 
-pub tree_here : (i from end : ℕ) (s : State) → Stands s → holds i (forest s) ≡ true → from ≡ place_of i s.nodes → IsBoundary end s.nodes → since end s.nodes ≡ skip 1 (since from s.nodes) → IsTree i from end s
-tree_here i from end s st live h b r =
+pub tree_here : (i from end : ℕ) (s : State) → Stands s → holds i (forest s) ≡ true → IsTold i from end s.nodes → IsTree i from end s
+tree_here i from end s st live q =
     let p = live_at i s live in
-    let ns = s.nodes in
-    let k = kids_of i (forest s) in
-    let t = tree p.label k empty in
-    let m = node_of p.label k in
-    let whole : ns ≡ p.before ++ (m ∷ (flatten k ++ p.after)) = st.flat ∙ p.flat in
-    let grouped : m ∷ (flatten k ++ p.after) ≡ flatten t ++ p.after = ap (λ (x : List Node). m ∷ (x ++ p.after)) (sym (append-nil (flatten k))) in
-    let split : ns ≡ p.before ++ (flatten t ++ p.after) = whole ∙ ap (λ (x : List Node). p.before ++ x) grouped in
-    let from-is : from ≡ used p.before = h ∙ ap (place_of i) whole ∙ place_of-append i p.before m (flatten k ++ p.after) p.first p.id-is in
-    let there : since from ns ≡ flatten t ++ p.after = ap (λ (j : ℕ). since j ns) from-is ∙ ap (since (used p.before)) split ∙ since-append p.before (flatten t ++ p.after) in
-    let behind : since end ns ≡ p.after = r ∙ ap (skip 1) there ∙ skip-flatten t 0 p.after in
-    let end-is : end ≡ used p.before + used (flatten t) = place_is end ns (p.before ++ flatten t) p.after b (split ∙ sym (append_assoc p.before (flatten t) p.after)) behind ∙ used-append p.before (flatten t) in
+    let t = tree_at i (forest s) in
+    let split : s.nodes ≡ p.before ++ (flatten t ++ p.after) = st.flat ∙ p.flat ∙ sym (ap (λ (f : Forest). p.before ++ (flatten f ++ p.after)) p.tree-is ∙ simp append-nil) in
+    let x = span i from end t p.before p.after s.nodes st.pool.distinct (ap arity p.tree-is) (ap root_id p.tree-is ∙ p.id-is) split q in
     record {
-      block = ap (λ (x : List Node). between from end x) split ∙ between-append p.before (flatten t) p.after from end from-is end-is ∙ ap flatten (sym p.tree-is);
-      size = omega (arith, bytes-flatten t, ap bytes_in p.tree-is);
+      block = ap (between from end) split ∙ between-append p.before (flatten t) p.after from end x.start x.stop;
+      size = omega (arith, bytes-flatten t, x.start, x.stop);
       one = ap arity p.tree-is;
     }
 
@@ -136,10 +128,8 @@ nonempty (tree l k r) h = (omega (arith, size_from (node_of l k)), refl)
 
 -- a copy is counted, and held once
 once_copy : (f g : Forest) → IsCopy f g → AllOnce g
-once_copy empty empty h = tt
-once_copy empty (tree m j s) h = absurd h
-once_copy (tree l k r) empty h = absurd h
 once_copy (tree l k r) (tree m j s) h = (h.0, once_copy k j h.2, once_copy r s h.3)
+once_copy f g h = grind arith
 
 pub once_counted : (f : Forest) → AllOnce f → AllNodes IsCounted f
 once_counted empty h = tt
@@ -147,22 +137,16 @@ once_counted (tree l k r) h = (omega (arith, h.0), once_counted k h.1, once_coun
 
 -- it has the plain trees of its source, and is of the language where its source is
 copy_arity : (f g : Forest) → IsCopy f g → arity g ≡ arity f
-copy_arity empty empty h = refl
-copy_arity empty (tree m j s) h = absurd h
-copy_arity (tree l k r) empty h = absurd h
 copy_arity (tree l k r) (tree m j s) h = ap suc (copy_arity r s h.3)
+copy_arity f g h = grind arith
 
 pub copy_plains : (f g : Forest) → IsCopy f g → plains g ≡ plains f
-copy_plains empty empty h = refl
-copy_plains empty (tree m j s) h = absurd h
-copy_plains (tree l k r) empty h = absurd h
 copy_plains (tree l k r) (tree m j s) h = rw (h.1, copy_plains k j h.2, copy_plains r s h.3) refl
+copy_plains f g h = grind arith
 
 pub copy_whole : (f g : Forest) → IsCopy f g → AllExpressions f → AllExpressions g
-copy_whole empty empty h w = tt
-copy_whole empty (tree m j s) h w = absurd h
-copy_whole (tree l k r) empty h w = absurd h
 copy_whole (tree l k r) (tree m j s) h w = (rw (h.1, copy_arity k j h.2) w.0, copy_whole k j h.2 w.1, copy_whole r s h.3 w.2)
+copy_whole f g h w = grind arith
 
 -- what was copied
 pub record IsCopyTree (i place : ℕ) (s t : State) : Type 0 where

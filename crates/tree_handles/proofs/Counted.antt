@@ -1,7 +1,7 @@
 -- Facts of each node, through the changes of a forest.
-use Rattle.tree_handles.proofs.Shared.{◌≡◌, ℕ, ◌-◌, ◌<◌, ◌≤◌, cond, eqb, arith, Label, Forest, empty, tree, join, first_trees, rest_trees, kids, tree_nth, without_nth}
-use Rattle.tree_handles.proofs.Shared.{with_nth, set_nth, AllNodes, tree_at, with_kids, with_count_in, released, released_in, root_tree, without_root, IsCounted}
-use Rattle.tree_handles.proofs.{Forests.{all-join, all-first_trees, all-rest_trees}, Outcomes.by_test}
+use Rattle.tree_handles.proofs.Shared.{ℕ, ◌≤◌, arith, Label, Forest, empty, tree, join, first_trees, rest_trees, kids, tree_nth, without_nth}
+use Rattle.tree_handles.proofs.Shared.{with_nth, set_nth, AllNodes, tree_at, kids_of, with_kids, with_count_in, released, released_in, root_tree, without_root, IsCounted}
+use Rattle.tree_handles.proofs.{Forests.{all-join, all-first_trees, all-rest_trees}}
 
 pub all-tree_at : (P : Label → ℕ → Type 0) (i : ℕ) (f : Forest) → AllNodes P f → AllNodes P (tree_at i f)
 all-tree_at P i empty h = tt
@@ -10,13 +10,16 @@ all-tree_at P i (tree l k r) h = grind (arith, all-tree_at P i k h.1, all-tree_a
 pub all-kids : (P : Label → ℕ → Type 0) (f : Forest) → AllNodes P f → AllNodes P (kids f)
 all-kids P f h = grind arith
 
+pub all-kids_of : (P : Label → ℕ → Type 0) (i : ℕ) (f : Forest) → AllNodes P f → AllNodes P (kids_of i f)
+all-kids_of P i f h = all-kids P (tree_at i f) (all-tree_at P i f h)
+
 pub all-root_tree : (P : Label → ℕ → Type 0) (i : ℕ) (f : Forest) → AllNodes P f → AllNodes P (root_tree i f)
 all-root_tree P i empty h = tt
-all-root_tree P i (tree l k r) h = by_test (λ t. AllNodes P (cond t (tree l k empty) (root_tree i r))) (eqb l.id i) (λ e. (h.0, h.1, tt)) (λ e. all-root_tree P i r h.2)
+all-root_tree P i (tree l k r) h = grind (arith, all-root_tree P i r h.2)
 
 pub all-without_root : (P : Label → ℕ → Type 0) (i : ℕ) (f : Forest) → AllNodes P f → AllNodes P (without_root i f)
 all-without_root P i empty h = tt
-all-without_root P i (tree l k r) h = by_test (λ t. AllNodes P (cond t r (tree l k (without_root i r)))) (eqb l.id i) (λ e. h.2) (λ e. (h.0, h.1, all-without_root P i r h.2))
+all-without_root P i (tree l k r) h = grind (arith, all-without_root P i r h.2)
 
 pub all-tree_nth : (P : Label → ℕ → Type 0) (n : ℕ) (f : Forest) → AllNodes P f → AllNodes P (tree_nth n f)
 all-tree_nth P n f h = all-first_trees P 1 (rest_trees n f) (all-rest_trees P n f h)
@@ -37,6 +40,9 @@ all-with_kids Q i n empty k h = tt
 all-with_kids Q i n (tree l c r) k h = grind (arith, all-with_kids Q i n c k h.1, all-with_kids Q i n r k h.2)
 
 -- ---- each count is at least 1
+
+pub counted-with_kids : (i : ℕ) (n f : Forest) → AllNodes IsCounted n → AllNodes IsCounted f → AllNodes IsCounted (with_kids i n f)
+counted-with_kids i n f k h = all-with_kids (λ l. 1 ≤ l.count) i n f k h
 
 pub counted-with_count_in : (i c : ℕ) (f : Forest) → 1 ≤ c → AllNodes IsCounted f → AllNodes IsCounted (with_count_in i c f)
 counted-with_count_in i c empty some h = tt

@@ -1,14 +1,13 @@
 -- A child is taken out of a root, and a tree fills its place.
-use Rattle.tree_handles.proofs.Shared.{◌≡◌, ℕ, zero, suc, ◌+◌, ◌≤◌, ◌<◌, ◌∷◌, List, [], eqb, cond, refl, sym, ap, ◌∙◌, subst, arith, Bool, true, false, eqb-true, Payload, kind_of_payload, Tree, Trees}
+use Rattle.tree_handles.proofs.Shared.{◌≡◌, ℕ, zero, suc, ◌+◌, ◌≤◌, ◌<◌, ◌∷◌, List, [], eqb, refl, sym, ap, ◌∙◌, subst, arith, true, false, eqb-true, Payload, kind_of_payload, Tree, Trees}
 use Rattle.tree_handles.proofs.Shared.{more, count, size, nth, grown, compound, plain, plains, takes, children_of, Forest, empty, tree, join, arity, first_trees, rest_trees, bytes_in, kids}
 use Rattle.tree_handles.proofs.Shared.{with_root_kids, tree_nth, without_nth, with_nth, set_nth, AllOnce, AllExpressions, IsHanded, Ends, Gives, KeepsFront, tree_of, kids_of, holds, has_root}
 use Rattle.tree_handles.proofs.{Shared.{root_tree, without_root, put, State, free_of, Stands, forest, KeepsRefusals, Place}, Counted.{all-kids, all-set_nth, all-tree_nth}}
 use Rattle.tree_handles.proofs.{Distinct.{Distinct, distinct, distinct_parts}, Forests.{arity-set_nth, arity-without_nth, bytes_in-join, first-rest}, FreeBytes.{all_bytes, beside_bytes}}
 use Rattle.tree_handles.proofs.{Fronts.{behind_first, front_after_one, front_at, front_end, front_put, front_same, front_without, not_first, starts_end}, Fronts.starts_put, Nths.with_nth-without_nth}
 use Rattle.tree_handles.proofs.{Given.{given_apart, given_other, given_rest, given_same, handed_at, handed_beside, handed_by_put}, Lasts.{apart, ends_as, kids_of_root, last_rest}}
-use Rattle.tree_handles.proofs.{Outcomes.{by_test, eqb-sym}, Over.{tree_put, without_put}, Plains.{children_of-plain, count-plains, grown_whole, plain-tree_nth, whole_kids}, Roots.{kids-put, no_root}}
+use Rattle.tree_handles.proofs.{Outcomes.{eqb-sym}, Over.{tree_put, without_put}, Plains.{children_of-plain, count-plains, grown_whole, plain-tree_nth, whole_kids}, Roots.{kids-put, no_root}}
 use Rattle.tree_handles.proofs.Roots.{put-left, put-put, put-same, root_arity, root-left, root-put, root-without, tree-left, tree-put, tree-without, without-put}
-use Rattle.std.proofs.Common.{◌==◌}
 use Rattle.tree_handles.specs.Holes.{ChangesTree, IsHole, set_child, set_tree}
 
 -- ---- the child goes
@@ -37,10 +36,7 @@ opened_front {i = i} {h = h} {t = t} {f = f} {new = new} n e k = record {
 
 pub bytes_put : (i : ℕ) (n f : Forest) → has_root i f ≡ true → bytes_in (put i n f) + bytes_in (kids (root_tree i f)) ≡ bytes_in f + bytes_in n
 bytes_put i n empty h = cc
-bytes_put i n (tree l k r) h =
-    by_test
-    (λ t. cond t true (has_root i r) ≡ true → bytes_in (cond t (tree l n r) (tree l k (put i n r))) + bytes_in (kids (cond t (tree l k empty) (root_tree i r))) ≡ bytes_in (tree l k r) + bytes_in n)
-    (eqb l.id i) (λ e g. omega arith) (λ e g. omega (arith, bytes_put i n r g)) h
+bytes_put i n (tree l k r) h = grind (arith, bytes_put i n r)
 
 bytes_nth : (n : ℕ) (f : Forest) → bytes_in f ≡ bytes_in (without_nth n f) + bytes_in (tree_nth n f)
 bytes_nth n f =
@@ -64,15 +60,11 @@ opened_free {i = i} {s = s} {t = t} n st su k h e = grind (arith, all_bytes, byt
 -- a root that is gone is no root any more
 pub gone : (i : ℕ) (f : Forest) → Distinct f → has_root i (without_root i f) ≡ false
 gone i empty d = refl
-gone i (tree l k r) d =
-    let p = distinct_parts l k r d in
-    by_test (λ t. eqb l.id i ≡ t → has_root i (cond t r (tree l k (without_root i r))) ≡ false) (eqb l.id i)
-    (λ e q. no_root i r (subst (λ (x : ℕ). holds x r ≡ false) (eqb-true l.id i q) p.not_behind))
-    (λ e q. ap (λ (t : Bool). cond t true (has_root i (without_root i r))) q ∙ gone i r p.behind) refl
+gone i (tree l k r) d = let p = distinct_parts l k r d in grind (arith, no_root, eqb-true, gone i r p.behind)
 
 -- one of the roots beside a root is another
 other_beside : (i j : ℕ) (f : Forest) → Distinct f → has_root i (without_root j f) ≡ true → eqb j i ≡ false
-other_beside i j f d h = by_test (λ t. eqb j i ≡ t → t ≡ false) (eqb j i) (λ e q. absurd (cc (gone j f d, ap (λ (x : ℕ). has_root x (without_root j f)) (eqb-true j i q), h))) (λ e q. refl) refl
+other_beside i j f d h = grind (arith, gone, eqb-true)
 
 -- the hole beside a root
 pub record IsOpen (i n j : ℕ) (old : Forest) (s : State) : Type 0 where
@@ -100,12 +92,9 @@ is_open {i = i} {n = n} {j = j} {old = old} {s = s} st k h =
 -- ---- the tree with another child
 
 plains-set_nth : (n : ℕ) (c f : Forest) → arity c ≡ 1 → n < arity f → plains (set_nth n c f) ≡ set_tree n (plain c) (plains f)
-plains-set_nth n empty f e l = absurd (omega arith)
-plains-set_nth n (tree m d (tree o b s)) f e l = absurd (omega arith)
-plains-set_nth zero (tree m d empty) empty e l = absurd (omega arith)
 plains-set_nth zero (tree m d empty) (tree l k r) e h = refl
-plains-set_nth (suc n) (tree m d empty) empty e l = absurd (omega arith)
 plains-set_nth (suc n) (tree m d empty) (tree l k r) e h = ap (more (grown l.payload (plains k))) (plains-set_nth n (tree m d empty) r e (omega arith))
+plains-set_nth n c f e h = absurd (omega arith)
 
 grown_bare : (x : Payload) (ts us : Trees) → takes x (count ts) ≡ true → 1 ≤ count ts → grown x us ≡ compound (kind_of_payload x) us
 grown_bare x ts us h l = grind arith

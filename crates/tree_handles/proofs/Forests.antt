@@ -68,9 +68,6 @@ flatten-first_rest n f = ap flatten (sym (first-rest n f)) ∙ flatten-join (fir
 pub nth_parts : (n : ℕ) (f : Forest) → flatten f ≡ flatten (first_trees n f) ++ (flatten (tree_nth n f) ++ flatten (rest_trees 1 (rest_trees n f)))
 nth_parts n f = flatten-first_rest n f ∙ ap (λ (x : List Node). flatten (first_trees n f) ++ x) (flatten-first_rest 1 (rest_trees n f))
 
-pub flatten-with_nth : (n : ℕ) (c f : Forest) → flatten (with_nth n c f) ≡ flatten (first_trees n f) ++ (flatten c ++ flatten (rest_trees n f))
-flatten-with_nth n c f = flatten-join (first_trees n f) (join c (rest_trees n f)) ∙ ap (λ (x : List Node). flatten (first_trees n f) ++ x) (flatten-join c (rest_trees n f))
-
 -- a tree among others
 pub record IsNth (n : ℕ) (f : Forest) : Type 0 where
   pub label : Label

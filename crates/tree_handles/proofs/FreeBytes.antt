@@ -1,14 +1,13 @@
 -- Free bytes and those of handed trees, from one pool to the next.
-use Rattle.tree_handles.proofs.Shared.{◌≡◌, ℕ, ◌+◌, ◌≤◌, Bool, true, false, cond, eqb, refl, sym, ap, ◌∙◌, subst, arith, ◌<◌, Tree, size, used, State, free_of, plain, Forest, empty, tree, bytes_in}
-use Rattle.tree_handles.proofs.{Shared.{IsHanded, tree_of, Gives, has_root, root_tree, without_root, Stands, forest, KeepsRefusals, IsRefused, Full}, Outcomes.by_test, Plains.size-plain}
+use Rattle.tree_handles.proofs.Shared.{◌≡◌, ℕ, ◌+◌, ◌≤◌, true, false, eqb, ap, ◌∙◌, subst, arith, ◌<◌, Tree, size, used, State, free_of, plain, Forest, empty, tree, bytes_in}
+use Rattle.tree_handles.proofs.{Shared.{IsHanded, tree_of, Gives, has_root, root_tree, without_root, Stands, forest, KeepsRefusals, IsRefused, Full}, Plains.size-plain}
 use Rattle.tree_handles.proofs.{Given.handed_beside, Lasts.last_tree, Forests.{bytes-flatten, bytes_in-join}, Roots.{root_arity, tree-without}, Places.{used_forest}}
 
 -- ---- bytes
 
 pub bytes_without : (i : ℕ) (f : Forest) → has_root i f ≡ true → bytes_in f ≡ bytes_in (root_tree i f) + bytes_in (without_root i f)
 bytes_without i empty h = cc
-bytes_without i (tree l k r) h = by_test (λ t. eqb l.id i ≡ t → bytes_in (tree l k r) ≡ bytes_in (cond t (tree l k empty) (root_tree i r)) + bytes_in (cond t r (tree l k (without_root i r)))) (eqb l.id i)
-    (λ e q. omega arith) (λ e q. let rest : bytes_in r ≡ bytes_in (root_tree i r) + bytes_in (without_root i r) = bytes_without i r (let g : cond (eqb l.id i) true (has_root i r) ≡ true = h in ap (λ (t : Bool). cond t true (has_root i r)) (sym q) ∙ g) in omega (arith, rest)) refl
+bytes_without i (tree l k r) h = grind (arith, bytes_without i r)
 
 bytes_used : (s : State) → Stands s → used s.nodes ≡ bytes_in (forest s)
 bytes_used s st = ap used st.flat ∙ bytes-flatten (forest s)

@@ -1,6 +1,6 @@
 -- What stands first stays first.
-use Rattle.tree_handles.proofs.Shared.{◌≡◌, ℕ, List, [], ◌∷◌, refl, ap, ◌∙◌, false, Forest, join, Ends, Starts, AreNoRoots, KeepsFront, has_root, without_root, put}
-use Rattle.tree_handles.proofs.{Forests.join_assoc, Roots.{root-left, without-right, put-right}, Outcomes.by_test}
+use Rattle.tree_handles.proofs.Shared.{◌≡◌, ℕ, List, [], ◌∷◌, ap, ◌∙◌, arith, false, Forest, join, Ends, Starts, AreNoRoots, KeepsFront, has_root, without_root, put}
+use Rattle.tree_handles.proofs.{Forests.join_assoc, Roots.{root-left, without-right, put-right}}
 
 pub starts_same : (p f g : Forest) → g ≡ f → Starts p f → Starts p g
 starts_same p f g e s = record { behind = s.behind; whole = e ∙ s.whole }
@@ -19,7 +19,7 @@ starts_end i t g p f h s = starts_same p (join g t) f h.whole (starts_join p g t
 
 -- a tree that is not among the others is not among those that stand first
 pub not_first : (i : ℕ) (p g : Forest) → Starts p g → has_root i g ≡ false → has_root i p ≡ false
-not_first i p g s h = by_test (λ t. has_root i p ≡ t → t ≡ false) (has_root i p) (λ e q. absurd (cc (root-left i p s.behind q, ap (has_root i) s.whole, h))) (λ e q. refl) refl
+not_first i p g s h = grind (arith, root-left)
 
 -- ---- from call to call
 

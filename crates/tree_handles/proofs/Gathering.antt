@@ -1,9 +1,9 @@
 -- The last trees become the children of a new node.
-use Rattle.std.specs.Prelude.{◌≡◌, ℕ, ◌+◌, ◌-◌, ◌≤◌, List, [], ◌∷◌, ◌++◌, false}
+use Rattle.std.specs.Prelude.{◌≡◌, ℕ, ◌-◌, ◌≤◌, List, ◌∷◌, ◌++◌, false}
 use Rattle.tree_handles.proofs.Shared.{refl, sym, ap, ◌∙◌, subst, arith, append-nil, Node, Kind, Payload, bare, used, IsBoundary, parent, put_before, since, State, IsPool, until-append}
 use Rattle.tree_handles.proofs.Shared.{since-append, boundary-append, Forest, empty, join, arity, flatten, first_trees, rest_trees, one_tree, bytes_in, AllNodes, before_last, last_trees, Ends}
-use Rattle.tree_handles.proofs.{Shared.{holds, has_root, Stands, forest, IsCounted}, Forests.{join-empty, flatten-join, first-rest, first_trees-join, rest_trees-join, arity-rest_trees}}
-use Rattle.tree_handles.proofs.{Forests.{arity-join, bytes-flatten, all-join, all-first_trees, all-rest_trees, stands}, Joins.holds-join, Outcomes.{by_test, not_left}, Roots.root_held}
+use Rattle.tree_handles.proofs.{Shared.{holds, Stands, forest, IsCounted}, Forests.{join-empty, flatten-join, first-rest, first_trees-join, rest_trees-join, arity-rest_trees}}
+use Rattle.tree_handles.proofs.{Forests.{arity-join, bytes-flatten, all-join, all-first_trees, all-rest_trees, stands}, Joins.holds-join, Outcomes.not_left, Roots.no_root}
 
 pub arity-last_trees : (n : ℕ) (f : Forest) → n ≤ arity f → arity (last_trees n f) ≡ n
 arity-last_trees n f h = omega (arith, arity-rest_trees (arity f - n) f)
@@ -31,9 +31,6 @@ last_none f = ap (last_trees 0) (sym (join-empty f)) ∙ last_trees-join 0 f emp
 -- no node of a forest is one of its parts'
 pub not_below : (i n : ℕ) (f : Forest) → holds i f ≡ false → holds i (before_last n f) ≡ false
 not_below i n f h = not_left _ (holds i (last_trees n f)) (sym (holds-join i (before_last n f) (last_trees n f)) ∙ ap (holds i) (before-last n f) ∙ h)
-
-pub no_root : (i : ℕ) (f : Forest) → holds i f ≡ false → has_root i f ≡ false
-no_root i f h = by_test (λ t. has_root i f ≡ t → t ≡ false) (has_root i f) (λ e q. absurd (cc (root_held i f q, h))) (λ e q. refl) refl
 
 -- ---- the new node
 

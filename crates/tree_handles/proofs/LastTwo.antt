@@ -1,8 +1,8 @@
 -- Two trees that stand last.
-use Rattle.tree_handles.proofs.Shared.{◌≡◌, ℕ, ◌≤◌, [], ◌++◌, refl, sym, ap, ◌∙◌, arith, true, append-nil, used, place_of, since, IsBoundary, State, since-append, Forest}
-use Rattle.tree_handles.proofs.Shared.{empty, join, arity, flatten, forest_of, bytes_in, before_last, last_trees, Ends, has_root, root_tree, without_root, forest, Stands, skip}
+use Rattle.tree_handles.proofs.Shared.{◌≡◌, ℕ, ◌≤◌, [], ◌++◌, refl, sym, ap, ◌∙◌, arith, true, append-nil, used, since, State, since-append, Forest}
+use Rattle.tree_handles.proofs.Shared.{empty, join, arity, flatten, forest_of, bytes_in, before_last, last_trees, Ends, has_root, root_tree, without_root, forest, Stands}
 use Rattle.tree_handles.proofs.{Forests.{arity-join, bytes-flatten, forest_of_whole, join-empty, join_assoc}, Gathering.{before_last-join, last_trees-join}, Lasts.last_rest}
-use Rattle.tree_handles.proofs.{Roots.{root_arity, root_id-root_tree}, Swapping.{no_bytes, split}}
+use Rattle.tree_handles.proofs.{Roots.{root_arity, root_id-root_tree}, Swapping.{no_bytes, block}, Parts.IsTold}
 
 pub record AreLastTwo (a b begin : ℕ) (f : Forest) : Type 0 where
   pub trees : last_trees 2 f ≡ join (root_tree a f) (root_tree b f)
@@ -10,15 +10,15 @@ pub record AreLastTwo (a b begin : ℕ) (f : Forest) : Type 0 where
   pub begins : begin ≡ bytes_in (before_last 2 f)
   pub few : 2 ≤ arity f
 
-pub last_two : (a b from mid end : ℕ) (s : State) → Stands s → has_root a (forest s) ≡ true → has_root b (forest s) ≡ true → from ≡ place_of a s.nodes → mid ≡ place_of b s.nodes
-    → IsBoundary mid s.nodes → since mid s.nodes ≡ skip 1 (since from s.nodes) → IsBoundary end s.nodes → since end s.nodes ≡ skip 1 (since mid s.nodes) → end ≡ used s.nodes → AreLastTwo a b from (forest s)
-last_two a b from mid end s st first second h k bm rm be re e =
+pub last_two : (a b from mid end : ℕ) (s : State) → Stands s → has_root a (forest s) ≡ true → has_root b (forest s) ≡ true → IsTold a from mid s.nodes → IsTold b mid end s.nodes
+    → end ≡ used s.nodes → AreLastTwo a b from (forest s)
+last_two a b from mid end s st first second h k e =
     let f = forest s in
     let ns = s.nodes in
     let t = root_tree a f in
     let u = root_tree b f in
-    let p = split a from mid s st first h bm rm in
-    let q = split b mid end s st second k be re in
+    let p = block a from mid s st first h in
+    let q = block b mid end s st second k in
     let last : since (used ns) ns ≡ [] = ap (since (used ns)) (sym (append-nil ns)) ∙ since-append ns [] in
     let none : q.right ≡ empty = no_bytes q.right (ap used (sym q.ends ∙ ap (λ (j : ℕ). since j ns) e ∙ last)) in
     let tail : flatten p.right ≡ flatten u = sym p.ends ∙ q.here ∙ ap (λ (y : Forest). flatten u ++ flatten y) none ∙ append-nil (flatten u) in

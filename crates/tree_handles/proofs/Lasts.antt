@@ -1,14 +1,13 @@
 -- The tree that stands last.
-use Rattle.tree_handles.proofs.Shared.{◌≡◌, ℕ, cond, eqb, refl, sym, ap, ◌∙◌, subst, arith, Bool, true, false, eqb-true, eq-eqb, State, plain, AllExpressions, IsExpression, Forest, empty, tree, join}
+use Rattle.tree_handles.proofs.Shared.{◌≡◌, ℕ, eqb, refl, sym, ap, ◌∙◌, subst, arith, true, false, eqb-true, eq-eqb, State, plain, AllExpressions, IsExpression, Forest, empty, tree, join}
 use Rattle.tree_handles.proofs.Shared.{arity, kids, root_id, with_root_kids, with_nth, IsHanded, Ends, holds, tree_at, kids_of, has_root, root_tree, without_root, put, Stands}
 use Rattle.tree_handles.proofs.{Shared.forest, Forests.join-empty, Distinct.{Distinct, distinct, distinct_parts, tree_at-root}, Roots.{root_held, root-left, root-right, tree-left, tree-right}}
-use Rattle.tree_handles.proofs.{Roots.{without-left, without-right, put-left, put-right, root-without, root-put}, Outcomes.{by_test, not_left, not_right, eqb-sym}}
+use Rattle.tree_handles.proofs.{Roots.{without-left, without-right, put-left, put-right, root-without, root-put}, Outcomes.{eqb-sym}}
 
 -- one tree, by its root's identifier
 alone_tree : (i : ℕ) (t : Forest) → arity t ≡ 1 → root_id t ≡ i → (has_root i t ≡ true) × (root_tree i t ≡ t) × (without_root i t ≡ empty) × ((n : Forest) → put i n t ≡ with_root_kids n t)
-alone_tree i empty a r = absurd (omega arith)
 alone_tree i (tree l k empty) a r = let e : eqb l.id i ≡ true = eq-eqb l.id i r in (rw e refl, rw e refl, rw e refl, λ n. rw e refl)
-alone_tree i (tree l k (tree m j s)) a r = absurd (omega arith)
+alone_tree i t a r = absurd (omega arith)
 
 pub last_root : {i : ℕ} {t g f : Forest} → Ends i t g f → has_root i f ≡ true
 last_root {i = i} {t = t} {g = g} h = ap (has_root i) h.whole ∙ root-right i g t h.clear ∙ (alone_tree i t h.alone h.root).0
@@ -34,7 +33,7 @@ pub other_tree : {i : ℕ} {t g f : Forest} (j : ℕ) → Ends i t g f → has_r
 other_tree {t = t} {g = g} j h r = ap (root_tree j) h.whole ∙ tree-left j g t r
 
 pub other_apart : {i : ℕ} {t g f : Forest} (j : ℕ) → Ends i t g f → has_root j g ≡ true → eqb i j ≡ false
-other_apart {i = i} {g = g} j h r = by_test (λ u. eqb i j ≡ u → u ≡ false) (eqb i j) (λ e q. absurd (cc (r, ap (λ (x : ℕ). has_root x g) (eqb-true i j q), h.clear))) (λ e q. refl) refl
+other_apart j h r = grind (arith, eqb-true)
 
 pub other_rest : {i : ℕ} {t g f : Forest} (j : ℕ) → Ends i t g f → has_root j g ≡ true → without_root j f ≡ join (without_root j g) t
 other_rest {t = t} {g = g} j h r = ap (without_root j) h.whole ∙ without-left j g t r
@@ -86,25 +85,12 @@ takes_next {i = i} {j = j} {t = t} {f = f} {new = new} at h p e = ends_as (takes
 
 holds_tree : (i j : ℕ) (f : Forest) → holds i f ≡ false → holds i (root_tree j f) ≡ false
 holds_tree i j empty h = refl
-holds_tree i j (tree l k r) h =
-    by_test (λ t. cond t true (cond (holds i k) true (holds i r)) ≡ false → holds i (cond (eqb l.id j) (tree l k empty) (root_tree j r)) ≡ false) (eqb l.id i) (λ e h. absurd cc)
-    (λ e h. by_test (λ t. eqb l.id i ≡ false → holds i (cond t (tree l k empty) (root_tree j r)) ≡ false) (eqb l.id j)
-    (λ u v. rw (v, not_left (holds i k) (holds i r) h) refl) (λ u v. holds_tree i j r (not_right (holds i k) (holds i r) h)) e) h
+holds_tree i j (tree l k r) h = grind (arith, holds_tree i j r)
 
 -- another root is not in the tree of a root
 pub roots_apart : (i j : ℕ) (f : Forest) → Distinct f → eqb i j ≡ false → has_root i f ≡ true → has_root j f ≡ true → holds i (root_tree j f) ≡ false
 roots_apart i j empty d n ha hb = refl
-roots_apart i j (tree l k r) d n ha hb =
-    let p = distinct_parts l k r d in
-    by_test (λ t. eqb l.id j ≡ t → cond (eqb l.id i) true (has_root i r) ≡ true → cond t true (has_root j r) ≡ true → holds i (cond t (tree l k empty) (root_tree j r)) ≡ false) (eqb l.id j)
-    (λ e q h g.
-    let not_here : eqb l.id i ≡ false = ap (λ (x : ℕ). eqb x i) (eqb-true l.id j q) ∙ eqb-sym i j n in
-    let behind : has_root i r ≡ true = ap (λ (t : Bool). cond t true (has_root i r)) (sym not_here) ∙ h in
-    rw (not_here, p.apart i (root_held i r behind)) refl)
-    (λ e q h g.
-    by_test (λ t. eqb l.id i ≡ t → cond t true (has_root i r) ≡ true → holds i (root_tree j r) ≡ false) (eqb l.id i)
-    (λ u v w. holds_tree i j r (subst (λ (x : ℕ). holds x r ≡ false) (eqb-true l.id i v) p.not_behind))
-    (λ u v w. roots_apart i j r p.behind n w g) refl h) refl ha hb
+roots_apart i j (tree l k r) d n ha hb = let p = distinct_parts l k r d in grind (arith, eqb-true, eqb-sym, root_held, holds_tree, roots_apart i j r p.behind n)
 
 pub apart : {s : State} (i j : ℕ) → Stands s → eqb i j ≡ false → has_root i (forest s) ≡ true → has_root j (forest s) ≡ true → holds i (root_tree j (forest s)) ≡ false
 apart {s = s} i j st n a b = roots_apart i j (forest s) (distinct s st) n a b

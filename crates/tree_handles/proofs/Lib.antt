@@ -17,7 +17,6 @@ pub mod Copying
 pub mod Nths
 pub mod Replacing
 pub mod Swapping
-pub mod Exchanging
 pub mod ChildPlaces
 pub mod Measures
 pub mod Lasts

@@ -1,6 +1,6 @@
 -- Walks that measure a tree.
-use Rattle.tree_handles.proofs.Shared.{◌≡◌, ℕ, ◌+◌, ◌≤◌, List, ◌∷◌, ◌++◌, length, ap, ◌∙◌, arith, true, Node, used, place_of, since, State, length_le_used, since-append, place_of-append, Label}
-use Rattle.tree_handles.proofs.{Shared.{Forest, empty, tree, arity, node_of, flatten, nodes_in, holds, tree_at, kids_of, Stands, forest}, Forests.nodes-flatten, Parts.{at, live_at}}
+use Rattle.tree_handles.proofs.Shared.{◌≡◌, ℕ, ◌≤◌, List, ◌∷◌, ◌++◌, length, ap, ◌∙◌, arith, true, Node, place_of, since, State, length_le_used, Label}
+use Rattle.tree_handles.proofs.{Shared.{Forest, empty, tree, arity, node_of, flatten, nodes_in, holds, tree_at, kids_of, Stands, forest}, Forests.nodes-flatten, Parts.{at, found_behind, live_at}}
 
 -- the nodes from a tree's place on
 pub record IsBefore (i at : ℕ) (s : State) : Type 0 where
@@ -13,17 +13,8 @@ pub record IsBefore (i at : ℕ) (s : State) : Type 0 where
 pub before : (i at : ℕ) (s : State) → Stands s → holds i (forest s) ≡ true → at ≡ place_of i s.nodes → IsBefore i at s
 before i at s st h e =
     let p = live_at i s h in
-    let k = kids_of i (forest s) in
-    let m = node_of p.label k in
-    let whole : s.nodes ≡ p.before ++ (m ∷ (flatten k ++ p.after)) = st.flat ∙ p.flat in
-    let here : at ≡ used p.before = e ∙ ap (place_of i) whole ∙ place_of-append i p.before m (flatten k ++ p.after) p.first p.id-is in
-    record {
-      label = p.label;
-      below = k;
-      behind = p.after;
-      tree-is = p.tree-is;
-      nodes = ap (λ (j : ℕ). since j s.nodes) here ∙ ap (since (used p.before)) whole ∙ since-append p.before (m ∷ (flatten k ++ p.after));
-    }
+    let q = found_behind i _ p.before _ s.nodes p.first p.id-is (st.flat ∙ p.flat) in
+    record { label = p.label; below = kids_of i (forest s); behind = p.after; tree-is = p.tree-is; nodes = ap (λ (j : ℕ). since j s.nodes) e ∙ q.here }
 
 nodes_tree_at : (i : ℕ) (f : Forest) → nodes_in (tree_at i f) ≤ nodes_in f
 nodes_tree_at i empty = omega arith

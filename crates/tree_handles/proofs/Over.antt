@@ -18,9 +18,6 @@ pub record IsOver (k : Kind) (i : ℕ) (ts : Trees) (f : Forest) : Type 0 where
 
 -- ---- its tree
 
-no_tree : arity empty ≡ 1 → ⊥
-no_tree e = absurd (omega arith)
-
 holds_mult : (t : Forest) → is_mult (plain t) ≡ true → root_payload t ≡ bare kind.Mult
 holds_mult t h = grind arith
 
@@ -42,13 +39,12 @@ pub over_sum : {i : ℕ} {f : Forest} → IsHanded i f → is_add (plain (root_t
 over_sum {i = i} {f = f} h e = over kind.Add h (holds_add (root_tree i f) e)
 
 over_one : (k : Kind) (ts : Trees) (t : Forest) → arity t ≡ 1 → root_payload t ≡ bare k → root_count t ≡ 1 → Represents (kids t) ts → takes_kind k (count ts) ≡ true → Represents t (more (compound k ts) none)
-over_one k ts empty e p c h w = absurd (no_tree e)
 over_one k ts (tree l b empty) e p c h w = record {
   once = (c, h.once, tt);
   whole = (ap (λ (x : Payload). takes x (arity b)) p ∙ ap (takes_kind k) (represents_count h) ∙ w, h.whole, tt);
   plain_trees = λ i. more (grown (p i) (h.plain_trees i)) none;
 }
-over_one k ts (tree l b (tree m d s)) e p c h w = absurd (omega arith)
+over_one k ts t e p c h w = absurd (omega arith)
 
 pub over_tree : {k : Kind} {i : ℕ} {ts : Trees} {f : Forest} → IsOver k i ts f → takes_kind k (count ts) ≡ true → Represents (root_tree i f) (more (compound k ts) none)
 over_tree {k = k} {i = i} {ts = ts} {f = f} h w = over_one k ts (root_tree i f) (root_arity i f h.root) h.payload h.count h.kids w

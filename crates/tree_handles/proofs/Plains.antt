@@ -114,9 +114,8 @@ sizes-plains (tree l k r) h = grind (arith, grown_whole, size_grown, sizes-plain
 -- ---- one tree
 
 pub alone : (t : Forest) → arity t ≡ 1 → plains t ≡ more (plain t) none
-alone empty e = absurd (omega arith)
 alone (tree l k empty) e = refl
-alone (tree l k (tree m j s)) e = absurd (omega arith)
+alone t e = absurd (omega arith)
 
 pub size-plain : (t : Forest) → arity t ≡ 1 → AllExpressions t → size (plain t) ≡ bytes_in t
 size-plain t e h = let s : sizes (plains t) ≡ size (plain t) + 0 = ap sizes (alone t e) in omega (arith, s, sizes-plains t h)

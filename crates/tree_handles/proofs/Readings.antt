@@ -1,5 +1,5 @@
 -- What a node's header and payload tell of its tree.
-use Rattle.tree_handles.proofs.Shared.{arith, ◌≡◌, ℕ, List, [], ◌∷◌, ◌++◌, cond, eqb, refl, sym, ap, ◌∙◌, subst, Bool, true, false, eq-eqb, Header, lowest, Node}
+use Rattle.tree_handles.proofs.Shared.{arith, ◌≡◌, ℕ, List, [], ◌∷◌, ◌++◌, refl, sym, ap, ◌∙◌, subst, true, false, eq-eqb, Header, lowest, Node}
 use Rattle.tree_handles.proofs.Shared.{header_of, Payload, rational, named, kind_of_payload, IsPayload, Ratio, num, symbol, is_num, is_symbol, root_kind, count, has, place_of, first_of}
 use Rattle.tree_handles.proofs.Shared.{payload_of_id, AreNodes, used, since, State, AreNodes-right, since-append, place_of-append, Label, Forest, empty, tree, arity, node_of, flatten}
 use Rattle.tree_handles.proofs.Shared.{root_payload, root_count, tree_nth, rest_trees, holds, tree_at, kids_of, count_of, payload_in, nth, grown, plains, plain, IsWhole, IsExpression}
@@ -7,12 +7,9 @@ use Rattle.tree_handles.proofs.{Shared.{AllExpressions, children_of, Stands, for
 use Rattle.tree_handles.proofs.Plains.{is_num-plain, is_symbol-plain, root_kind-plain, children_of-plain, count-plains, plain-tree_nth, whole_kids}
 use Rattle.calc_terms.specs.declared.kind.Kind.TheVariants as kind
 
-leaf_step : (t : Bool) (m : Node) (x y : Payload) (b : Bool) → cond t true b ≡ false → (b ≡ false → x ≡ y) → cond t m.payload x ≡ y
-leaf_step t m x y b h k = grind arith
-
 pub payload_of_id-append : (i : ℕ) (a : List Node) (n : Node) (b : List Node) → has i a ≡ false → n.id ≡ i → payload_of_id i (a ++ n ∷ b) ≡ n.payload
-payload_of_id-append i [] n b h e = ap (λ (t : Bool). cond t n.payload (payload_of_id i b)) (eq-eqb n.id i e)
-payload_of_id-append i (m ∷ a) n b h e = leaf_step (eqb m.id i) m (payload_of_id i (a ++ n ∷ b)) n.payload (has i a) h (λ k. payload_of_id-append i a n b k e)
+payload_of_id-append i [] n b h e = grind (arith, eq-eqb)
+payload_of_id-append i (m ∷ a) n b h e = grind (arith, payload_of_id-append i a n b)
 
 -- a node of the forest, as the pool shows it
 pub record IsSeen (i place : ℕ) (s : State) : Type 0 where

@@ -1,11 +1,11 @@
 -- Releasing trees, node after node.
 use Rattle.tree_handles.proofs.Shared.{◌≡◌, ℕ, zero, suc, ◌+◌, ◌-◌, ◌<◌, ◌≤◌, List, [], ◌∷◌, ◌++◌, length, cond, eqb, refl, sym, ap, ◌∙◌, subst, arith}
 use Rattle.tree_handles.proofs.Shared.{append_assoc, Bool, true, false, eqb-false, leb-true, lt-ltb, le-ltb, IsStep, step, unheld, unheld_more, owed_behind, length-append, Node, size_of, has}
-use Rattle.tree_handles.proofs.Shared.{used, first_of, with_count, AreDistinct, until, since, between, without, IsBoundary, State, IsPool, used-append, size_from, length_le_used, since-append}
+use Rattle.tree_handles.proofs.Shared.{used, first_of, with_count, AreDistinct, until, since, between, without, IsBoundary, State, IsPool, used-append, length_le_used, since-append}
 use Rattle.tree_handles.proofs.Shared.{until-append, until-since, cut, boundary-append, with_count-append, without-append, Label, Forest, empty, tree, join, arity, node_of, flatten, first_trees}
 use Rattle.tree_handles.proofs.{Shared.{rest_trees, forest_of, released, release_first, released_at, skip, IsOwed, IsNearer, owed_nodes}, Distinct.not_before}
-use Rattle.tree_handles.proofs.{Forests.{flatten-join, arity-join, join_assoc, forest_of_whole, skip-flatten}, Parts.{place_is, has_mid}}
-use Rattle.std.proofs.Common.{leb, ltb}
+use Rattle.tree_handles.proofs.{Forests.{flatten-join, arity-join, join_assoc, forest_of_whole, skip-flatten}, Parts.{place_is, has_mid, used_some}}
+use Rattle.std.proofs.Common.{leb}
 
 pub since_is : (ns : List Node) (at owed : ℕ) (end : List Node) (o : IsOwed ns at owed end) → since at ns ≡ flatten o.trees
 since_is ns at owed end o = ap (λ (k : ℕ). since k ns) o.place ∙ ap (since (used o.before)) o.whole ∙ since-append o.before (flatten o.trees)
@@ -18,10 +18,6 @@ owed_is ns at owed end o = ap (λ (f : Forest). length (flatten (first_trees owe
 
 pub owed_boundary : (ns : List Node) (at owed : ℕ) (end : List Node) → IsOwed ns at owed end → IsBoundary at ns
 owed_boundary ns at owed end o = subst (IsBoundary at) (sym o.whole) (boundary-append o.before (flatten o.trees) at o.place)
-
-used_some : (f : Forest) → 0 < arity f → 0 < used (flatten f)
-used_some empty h = absurd (omega arith)
-used_some (tree l k r) h = omega (arith, size_from (node_of l k))
 
 pub owed_inside : (ns : List Node) (at owed : ℕ) (end : List Node) → IsOwed ns at owed end → 0 < owed → at < used ns
 owed_inside ns at owed end o h = omega (arith, ap used o.whole, used-append o.before (flatten o.trees), o.place, o.few, used_some o.trees (omega (arith, o.few)))
@@ -36,12 +32,9 @@ owed_start ns at b h e = grind (arith, until-since, some_tree, used-append)
 
 -- ---- laws of release
 
-released_step : (t : Bool) (l : Label) (k a b c d : Forest) → d ≡ join b c → cond t (tree l k d) (join a d) ≡ join (cond t (tree l k b) (join a b)) c
-released_step t l k a b c d e = grind (arith, join_assoc)
-
 pub released-join : (f g : Forest) → released (join f g) ≡ join (released f) (released g)
 released-join empty g = refl
-released-join (tree l k r) g = released_step (ltb 1 l.count) (record l { count = l.count - 1 }) k (released k) (released r) (released g) (released (join r g)) (released-join r g)
+released-join (tree l k r) g = grind (arith, join_assoc, released-join r g)
 
 first_trees-add : (f g : Forest) (n : ℕ) → first_trees (arity f + n) (join f g) ≡ join f (first_trees n g)
 first_trees-add empty g n = ap (λ (k : ℕ). first_trees k g) (omega arith)

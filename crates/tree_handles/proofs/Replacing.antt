@@ -1,46 +1,24 @@
 -- A root beside a node whose children change.
-use Rattle.tree_handles.proofs.Shared.{◌≡◌, ℕ, ◌<◌, ◌≤◌, cond, eqb, refl, ap, ◌∙◌, subst, arith, Bool, true, false, Forest, empty, tree, join, arity, tree_nth, without_nth, with_nth, set_nth, holds}
-use Rattle.tree_handles.proofs.{Shared.{kids_of, with_kids, has_root, root_tree, without_root}, Distinct.held_parent, Forests.arity-without_nth, Nths.with_nth-without_nth, Outcomes.by_test}
+use Rattle.tree_handles.proofs.Shared.{◌≡◌, ℕ, ◌<◌, ◌≤◌, refl, ap, ◌∙◌, arith, true, false, Forest, empty, tree, join, arity, tree_nth, without_nth, with_nth, set_nth, holds}
+use Rattle.tree_handles.proofs.{Shared.{kids_of, with_kids, has_root, root_tree, without_root}, Distinct.held_parent, Forests.arity-without_nth, Nths.with_nth-without_nth}
 use Rattle.tree_handles.proofs.{Joins.{holds-left, kids_of-join_left, with_kids-join_left, holds-with_kids, kids_of-with_kids, with_kids-with_kids}, Roots.{root-left, tree-left, without-left}}
 
 pub has_root-with_kids : (c p : ℕ) (n f : Forest) → has_root c (with_kids p n f) ≡ has_root c f
 has_root-with_kids c p n empty = refl
 has_root-with_kids c p n (tree l k r) = grind (arith, has_root-with_kids c p n r)
 
--- the node is not in the tree of the root
-neither : (t u : Bool) → cond t true (cond u true false) ≡ false → (t ≡ false) × (u ≡ false)
-neither t u h = grind arith
-
 pub root_tree-with_kids : (c p : ℕ) (n f : Forest) → holds p (root_tree c f) ≡ false → root_tree c (with_kids p n f) ≡ root_tree c f
 root_tree-with_kids c p n empty a = refl
-root_tree-with_kids c p n (tree l k r) a =
-    by_test (λ t. eqb l.id c ≡ t → holds p (cond t (tree l k empty) (root_tree c r)) ≡ false
-    → root_tree c (cond (eqb l.id p) (tree l n r) (cond (holds p k) (tree l (with_kids p n k) r) (tree l k (with_kids p n r)))) ≡ cond t (tree l k empty) (root_tree c r)) (eqb l.id c)
-    (λ e q a. let x = neither (eqb l.id p) (holds p k) a in rw (x.0, x.1, q) refl)
-    (λ e q a. by_test (λ t. root_tree c (cond t (tree l n r) (cond (holds p k) (tree l (with_kids p n k) r) (tree l k (with_kids p n r)))) ≡ root_tree c r) (eqb l.id p)
-    (λ u. rw q refl)
-    (λ u. by_test (λ t. root_tree c (cond t (tree l (with_kids p n k) r) (tree l k (with_kids p n r))) ≡ root_tree c r) (holds p k) (λ v. rw q refl) (λ v. rw q (root_tree-with_kids c p n r a)))) refl a
+root_tree-with_kids c p n (tree l k r) a = grind (arith, root_tree-with_kids c p n r)
 
 pub without_root-with_kids : (c p : ℕ) (n f : Forest) → holds p (root_tree c f) ≡ false → without_root c (with_kids p n f) ≡ with_kids p n (without_root c f)
 without_root-with_kids c p n empty a = refl
-without_root-with_kids c p n (tree l k r) a =
-    by_test (λ t. eqb l.id c ≡ t → holds p (cond t (tree l k empty) (root_tree c r)) ≡ false
-    → without_root c (cond (eqb l.id p) (tree l n r) (cond (holds p k) (tree l (with_kids p n k) r) (tree l k (with_kids p n r)))) ≡ with_kids p n (cond t r (tree l k (without_root c r)))) (eqb l.id c)
-    (λ e q a. let x = neither (eqb l.id p) (holds p k) a in rw (x.0, x.1, q) refl)
-    (λ e q a. by_test (λ t. without_root c (cond t (tree l n r) (cond (holds p k) (tree l (with_kids p n k) r) (tree l k (with_kids p n r))))
-    ≡ cond t (tree l n (without_root c r)) (cond (holds p k) (tree l (with_kids p n k) (without_root c r)) (tree l k (with_kids p n (without_root c r))))) (eqb l.id p)
-    (λ u. rw q refl)
-    (λ u. by_test (λ t. without_root c (cond t (tree l (with_kids p n k) r) (tree l k (with_kids p n r))) ≡ cond t (tree l (with_kids p n k) (without_root c r)) (tree l k (with_kids p n (without_root c r)))) (holds p k)
-    (λ v. rw q refl) (λ v. rw q (ap (λ (x : Forest). tree l k x) (without_root-with_kids c p n r a))))) refl a
+without_root-with_kids c p n (tree l k r) a = grind (arith, without_root-with_kids c p n r)
 
 -- a node that is not in the tree of a root is among the others
 pub held_beside : (c p : ℕ) (f : Forest) → holds p (root_tree c f) ≡ false → holds p f ≡ true → holds p (without_root c f) ≡ true
 held_beside c p empty a h = absurd cc
-held_beside c p (tree l k r) a h =
-    by_test (λ t. holds p (cond t (tree l k empty) (root_tree c r)) ≡ false → cond (eqb l.id p) true (cond (holds p k) true (holds p r)) ≡ true → holds p (cond t r (tree l k (without_root c r))) ≡ true) (eqb l.id c)
-    (λ e a h. let x = neither (eqb l.id p) (holds p k) a in subst (λ (t : Bool). cond t true (holds p r) ≡ true) x.1 (subst (λ (t : Bool). cond t true (cond (holds p k) true (holds p r)) ≡ true) x.0 h))
-    (λ e a h. by_test (λ t. cond t true (cond (holds p k) true (holds p r)) ≡ true → cond t true (cond (holds p k) true (holds p (without_root c r))) ≡ true) (eqb l.id p) (λ q h. refl)
-    (λ q h. by_test (λ t. cond t true (holds p r) ≡ true → cond t true (holds p (without_root c r)) ≡ true) (holds p k) (λ v w. refl) (λ v w. held_beside c p r a w) h) h) a h
+held_beside c p (tree l k r) a h = grind (arith, held_beside c p r)
 
 -- ---- a child goes, and a root comes in its stead
 

@@ -1,17 +1,15 @@
 -- Laws of roots that need no more than the tests.
-use Rattle.tree_handles.proofs.Shared.{arith, ◌≡◌, ℕ, cond, eqb, refl, sym, ap, ◌∙◌, Bool, true, false, eqb-true, Label, Forest, empty, tree, join, arity, kids, root_id, holds}
-use Rattle.tree_handles.proofs.{Shared.{has_root, root_tree, without_root, put}, Outcomes.{by_test, or_true, eqb-sym}}
+use Rattle.tree_handles.proofs.Shared.{arith, ◌≡◌, ℕ, eqb, refl, ap, ◌∙◌, true, false, eqb-true, Label, Forest, empty, tree, join, arity, kids, root_id, holds}
+use Rattle.tree_handles.proofs.{Shared.{has_root, root_tree, without_root, put}, Outcomes.{or_true, eqb-sym}}
 
 -- ---- a root is a node
 
 pub root_held : (i : ℕ) (f : Forest) → has_root i f ≡ true → holds i f ≡ true
 root_held i empty h = absurd cc
-root_held i (tree l k r) h =
-    by_test (λ t. cond t true (has_root i r) ≡ true → cond t true (cond (holds i k) true (holds i r)) ≡ true) (eqb l.id i) (λ e h. refl)
-    (λ e h. ap (cond (holds i k) true) (root_held i r h) ∙ or_true (holds i k)) h
+root_held i (tree l k r) h = grind (arith, or_true, root_held i r)
 
 pub no_root : (i : ℕ) (f : Forest) → holds i f ≡ false → has_root i f ≡ false
-no_root i f h = by_test (λ t. has_root i f ≡ t → t ≡ false) (has_root i f) (λ e q. absurd (cc (sym (root_held i f q), h))) (λ e q. refl) refl
+no_root i f h = grind (arith, root_held)
 
 -- what a root's tree is
 pub record IsTop (i : ℕ) (f : Forest) : Type 0 where
@@ -43,9 +41,7 @@ top_behind i l k r e p = record {
 
 pub top : (i : ℕ) (f : Forest) → has_root i f ≡ true → IsTop i f
 top i empty h = absurd cc
-top i (tree l k r) h =
-    by_test (λ t. eqb l.id i ≡ t → cond t true (has_root i r) ≡ true → IsTop i (tree l k r)) (eqb l.id i)
-    (λ e q h. top_here i l k r q) (λ e q h. top_behind i l k r q (top i r h)) refl h
+top i (tree l k r) h = grind (arith, top_here, top_behind, top i r)
 
 pub root_arity : (i : ℕ) (f : Forest) → has_root i f ≡ true → arity (root_tree i f) ≡ 1
 root_arity i f h = ap arity (top i f h).tree-is
@@ -57,47 +53,35 @@ root_id-root_tree i f h = let p = top i f h in ap root_id p.tree-is ∙ p.id-is
 
 pub root-left : (i : ℕ) (f g : Forest) → has_root i f ≡ true → has_root i (join f g) ≡ true
 root-left i empty g h = absurd cc
-root-left i (tree l k r) g h =
-    by_test (λ t. cond t true (has_root i r) ≡ true → cond t true (has_root i (join r g)) ≡ true) (eqb l.id i) (λ e h. refl) (λ e h. root-left i r g h) h
+root-left i (tree l k r) g h = grind (arith, root-left i r g)
 
 pub root-right : (i : ℕ) (f g : Forest) → has_root i f ≡ false → has_root i (join f g) ≡ has_root i g
 root-right i empty g h = refl
-root-right i (tree l k r) g h =
-    by_test (λ t. cond t true (has_root i r) ≡ false → cond t true (has_root i (join r g)) ≡ has_root i g) (eqb l.id i) (λ e h. absurd cc) (λ e h. root-right i r g h) h
+root-right i (tree l k r) g h = grind (arith, root-right i r g)
 
 pub tree-left : (i : ℕ) (f g : Forest) → has_root i f ≡ true → root_tree i (join f g) ≡ root_tree i f
 tree-left i empty g h = absurd cc
-tree-left i (tree l k r) g h =
-    by_test (λ t. cond t true (has_root i r) ≡ true → cond t (tree l k empty) (root_tree i (join r g)) ≡ cond t (tree l k empty) (root_tree i r)) (eqb l.id i) (λ e h. refl) (λ e h. tree-left i r g h) h
+tree-left i (tree l k r) g h = grind (arith, tree-left i r g)
 
 pub tree-right : (i : ℕ) (f g : Forest) → has_root i f ≡ false → root_tree i (join f g) ≡ root_tree i g
 tree-right i empty g h = refl
-tree-right i (tree l k r) g h =
-    by_test (λ t. cond t true (has_root i r) ≡ false → cond t (tree l k empty) (root_tree i (join r g)) ≡ root_tree i g) (eqb l.id i) (λ e h. absurd cc) (λ e h. tree-right i r g h) h
+tree-right i (tree l k r) g h = grind (arith, tree-right i r g)
 
 pub without-left : (i : ℕ) (f g : Forest) → has_root i f ≡ true → without_root i (join f g) ≡ join (without_root i f) g
 without-left i empty g h = absurd cc
-without-left i (tree l k r) g h =
-    by_test (λ t. cond t true (has_root i r) ≡ true → cond t (join r g) (tree l k (without_root i (join r g))) ≡ join (cond t r (tree l k (without_root i r))) g) (eqb l.id i)
-    (λ e h. refl) (λ e h. ap (λ (x : Forest). tree l k x) (without-left i r g h)) h
+without-left i (tree l k r) g h = grind (arith, without-left i r g)
 
 pub without-right : (i : ℕ) (f g : Forest) → has_root i f ≡ false → without_root i (join f g) ≡ join f (without_root i g)
 without-right i empty g h = refl
-without-right i (tree l k r) g h =
-    by_test (λ t. cond t true (has_root i r) ≡ false → cond t (join r g) (tree l k (without_root i (join r g))) ≡ tree l k (join r (without_root i g))) (eqb l.id i)
-    (λ e h. absurd cc) (λ e h. ap (λ (x : Forest). tree l k x) (without-right i r g h)) h
+without-right i (tree l k r) g h = grind (arith, without-right i r g)
 
 pub put-left : (i : ℕ) (n f g : Forest) → has_root i f ≡ true → put i n (join f g) ≡ join (put i n f) g
 put-left i n empty g h = absurd cc
-put-left i n (tree l k r) g h =
-    by_test (λ t. cond t true (has_root i r) ≡ true → cond t (tree l n (join r g)) (tree l k (put i n (join r g))) ≡ join (cond t (tree l n r) (tree l k (put i n r))) g) (eqb l.id i)
-    (λ e h. refl) (λ e h. ap (λ (x : Forest). tree l k x) (put-left i n r g h)) h
+put-left i n (tree l k r) g h = grind (arith, put-left i n r g)
 
 pub put-right : (i : ℕ) (n f g : Forest) → has_root i f ≡ false → put i n (join f g) ≡ join f (put i n g)
 put-right i n empty g h = refl
-put-right i n (tree l k r) g h =
-    by_test (λ t. cond t true (has_root i r) ≡ false → cond t (tree l n (join r g)) (tree l k (put i n (join r g))) ≡ tree l k (join r (put i n g))) (eqb l.id i)
-    (λ e h. absurd cc) (λ e h. ap (λ (x : Forest). tree l k x) (put-right i n r g h)) h
+put-right i n (tree l k r) g h = grind (arith, put-right i n r g)
 
 -- ---- another root
 
@@ -118,13 +102,11 @@ without-swap i j (tree l k r) d = grind (arith, eqb-sym, without-swap i j r d)
 
 pub root-put : (i j : ℕ) (n f : Forest) → has_root j (put i n f) ≡ has_root j f
 root-put i j n empty = refl
-root-put i j n (tree l k r) = by_test (λ t. has_root j (cond t (tree l n r) (tree l k (put i n r))) ≡ cond (eqb l.id j) true (has_root j r)) (eqb l.id i) (λ e. refl) (λ e. ap (cond (eqb l.id j) true) (root-put i j n r))
+root-put i j n (tree l k r) = grind (arith, root-put i j n r)
 
 pub kids-put : (i : ℕ) (n f : Forest) → has_root i f ≡ true → kids (root_tree i (put i n f)) ≡ n
 kids-put i n empty h = absurd cc
-kids-put i n (tree l k r) h =
-    by_test (λ t. eqb l.id i ≡ t → cond t true (has_root i r) ≡ true → kids (root_tree i (cond t (tree l n r) (tree l k (put i n r)))) ≡ n) (eqb l.id i)
-    (λ e q h. ap (λ (t : Bool). kids (cond t (tree l n empty) (root_tree i r))) q) (λ e q h. ap (λ (t : Bool). kids (cond t (tree l k empty) (root_tree i (put i n r)))) q ∙ kids-put i n r h) refl h
+kids-put i n (tree l k r) h = grind (arith, kids-put i n r)
 
 -- the tree of another root
 pub tree-put : (i j : ℕ) (n f : Forest) → eqb i j ≡ false → root_tree j (put i n f) ≡ root_tree j f
@@ -137,7 +119,7 @@ put-put i a b (tree l k r) = grind (arith, put-put i a b r)
 
 pub put-same : (i : ℕ) (f : Forest) → put i (kids (root_tree i f)) f ≡ f
 put-same i empty = refl
-put-same i (tree l k r) = by_test (λ t. cond t (tree l (kids (cond t (tree l k empty) (root_tree i r))) r) (tree l k (put i (kids (cond t (tree l k empty) (root_tree i r))) r)) ≡ tree l k r) (eqb l.id i) (λ e. refl) (λ e. ap (λ (x : Forest). tree l k x) (put-same i r))
+put-same i (tree l k r) = grind (arith, put-same i r)
 
 -- a root goes beside one with other children
 pub without-put : (i j : ℕ) (n f : Forest) → eqb i j ≡ false → without_root j (put i n f) ≡ put i n (without_root j f)

@@ -1,89 +1,101 @@
--- Blocks of children that move within their parent.
-use Rattle.tree_handles.proofs.Shared.{◌≡◌, ℕ, ◌+◌, ◌-◌, ◌<◌, ◌≤◌, List, [], ◌∷◌, ◌++◌, length, drop, refl, sym, ap, ◌∙◌, subst, arith, append_assoc, true, false, append-nil, length-append, Node}
-use Rattle.tree_handles.proofs.Shared.{size_of, has, used, place_of, first_of, with_children, AreDistinct, since, moved, without, exchanged, IsBoundary, State, used-append, size_from, since-append}
-use Rattle.tree_handles.proofs.Shared.{exchanged-append, boundary-append, place_of-append, moved_right, without-append, with_children-append, Forest, empty, tree, join, arity, kids, node_of, flatten}
-use Rattle.tree_handles.proofs.Shared.{first_trees, rest_trees, tree_nth, set_nth, swapped_nth, merged_nth, AllNodes, tree_at, kids_of, with_kids, has_root, root_tree, without_root, forest, Stands}
-use Rattle.tree_handles.proofs.{Shared.{IsCounted, skip}, Counted.{all-kids, all-tree_at, all-with_kids, all-tree_nth, all-set_nth, all-root_tree, all-without_root}}
-use Rattle.tree_handles.proofs.{Distinct.{not_before, held_parent}, Nths.pair, Releases.arity_le, Roots.top, Forests.{flatten-join, join-empty, skip-flatten, arity-join, arity-set_nth}}
-use Rattle.tree_handles.proofs.{Forests.{arity-tree_nth, nth_tree, all-join}, Parts.{live_at, kid_place, place_is, has_mid}}
-
-used_some : (f : Forest) → arity f ≡ 1 → 0 < used (flatten f)
-used_some empty h = absurd (omega arith)
-used_some (tree l k r) h = omega (arith, size_from (node_of l k))
+-- Blocks of trees that change places, and a node that goes from between its children.
+use Rattle.tree_handles.proofs.Shared.{◌≡◌, ℕ, ◌+◌, ◌-◌, ◌<◌, ◌≤◌, List, [], ◌∷◌, ◌++◌, length, drop, sym, refl, ap, ◌∙◌, subst, arith, append_assoc, true, false, append-nil, length-append, Node}
+use Rattle.tree_handles.proofs.Shared.{size_of, has, used, place_of, first_of, with_children, AreDistinct, since, moved, without, exchanged, IsBoundary, State, used-append, size_from}
+use Rattle.tree_handles.proofs.Shared.{AreDistinct-parts, exchanged-append, moved_right, without-append, IsChildAt, AreSiblings, Ends, Forest, empty, tree, join, arity, kids, root_id, node_of}
+use Rattle.tree_handles.proofs.Shared.{flatten, first_trees, rest_trees, tree_nth, set_nth, swapped_nth, merged_nth, AllNodes, kids_of, with_kids, has_root, root_tree, without_root, put, forest}
+use Rattle.tree_handles.proofs.Shared.{Stands, IsCounted, skip}
+use Rattle.tree_handles.proofs.{Counted.{all-kids, all-kids_of, counted-with_kids, all-tree_nth, all-set_nth, all-root_tree, all-without_root}, Nths.pair, Releases.arity_le, Joins.holds-left}
+use Rattle.tree_handles.proofs.{Distinct.{Distinct, distinct, child_tree, clear_front, held_parent, put-root, tree_at-root}, Roots.{top, root_arity, root_id-root_tree}}
+use Rattle.tree_handles.proofs.Forests.{flatten-join, join-empty, has-flatten, arity-join, arity-set_nth, arity-tree_nth, nth_tree, all-join, all-left, all-right}
+use Rattle.tree_handles.proofs.Parts.{at, IsTold, span, kid, kid_here, reput, rekid}
 
 -- ---- two children change places
 
--- what the exchange of their blocks asks for and leaves
-pub record IsSwap (i n m first mid second end : ℕ) (s : State) : Type 0 where
+-- what the exchange of two blocks asks for and leaves
+pub record IsExchange (first mid second end : ℕ) (new : Forest) (ns : List Node) : Type 0 where
   pub low : first ≤ mid
   pub apart : mid ≤ second
   pub high : second ≤ end
-  pub done : exchanged first mid second end s.nodes ≡ flatten (with_kids i (swapped_nth n m (kids_of i (forest s))) (forest s))
+  pub done : exchanged first mid second end ns ≡ flatten new
 
-pub behind_one : (at place : ℕ) (ns x : List Node) (t : Forest) (rest : List Node) → arity t ≡ 1 → IsBoundary at ns → since at ns ≡ skip 1 (since place ns) → since place ns ≡ flatten t ++ rest → ns ≡ x ++ (flatten t ++ rest) → at ≡ used x + used (flatten t)
-behind_one at place ns x t rest one b r h e =
-    let count : 1 ≡ arity t + 0 = omega arith in
-    let behind : since at ns ≡ rest = r ∙ ap (skip 1) h ∙ ap (λ (j : ℕ). skip j (flatten t ++ rest)) count ∙ skip-flatten t 0 rest in
-    place_is at ns (x ++ flatten t) rest b (e ∙ sym (append_assoc x (flatten t) rest)) behind ∙ used-append x (flatten t)
-
-flatten-four : (a b c d e : Forest) → flatten (join a (join b (join c (join d e)))) ≡ flatten a ++ (flatten b ++ (flatten c ++ (flatten d ++ flatten e)))
-flatten-four a b c d e = grind (arith, flatten-join)
-
-regroup : (b : List Node) (m : Node) (x y z u v w : List Node) → b ++ (m ∷ ((x ++ (y ++ (z ++ (u ++ v)))) ++ w)) ≡ (b ++ (m ∷ x)) ++ (y ++ (z ++ (u ++ (v ++ w))))
-regroup b m x y z u v w = grind (arith, append_assoc)
-
-pub swaps : (i n m first mid second end : ℕ) (s : State) → Stands s → n < m → m < arity (kids_of i (forest s))
-    → IsBoundary first s.nodes → since first s.nodes ≡ skip n (drop 1 (since (place_of i s.nodes) s.nodes)) → IsBoundary second s.nodes → since second s.nodes ≡ skip m (drop 1 (since (place_of i s.nodes) s.nodes))
-    → IsBoundary mid s.nodes → since mid s.nodes ≡ skip 1 (since first s.nodes) → IsBoundary end s.nodes → since end s.nodes ≡ skip 1 (since second s.nodes) → IsSwap i n m first mid second end s
-swaps i n m first mid second end s st lt within bf rf bs rs bm rm be re =
+pub swaps : (i n m x y first mid second end : ℕ) (s : State) → Stands s → n < m → AreSiblings i n x m y (forest s) → IsTold x first mid s.nodes → IsTold y second end s.nodes
+    → IsExchange first mid second end (with_kids i (swapped_nth n m (kids_of i (forest s))) (forest s)) s.nodes
+swaps i n m x y first mid second end s st lt h q r =
     let f = forest s in
     let ns = s.nodes in
     let k = kids_of i f in
-    let p = live_at i s (held_parent m i f within) in
-    let q = pair n m k lt within in
-    let node = node_of p.label k in
+    let p = at i f (held_parent n i f h.first.within) in
+    let z = pair n m k lt h.second.within in
     let t = tree_nth n k in
     let u = tree_nth m k in
-    let one = flatten (first_trees n k) in
-    let a = flatten t in
-    let b = flatten q.between in
-    let c = flatten u in
-    let d = flatten q.behind ++ p.after in
-    let x = p.before ++ (node ∷ one) in
-    let single-t : arity t ≡ 1 = arity-tree_nth n k (omega arith) in
-    let single-u : arity u ≡ 1 = arity-tree_nth m k within in
-    let parts : flatten k ≡ one ++ (a ++ (b ++ (c ++ flatten q.behind))) = ap flatten q.whole ∙ flatten-four (first_trees n k) t q.between u q.behind in
-    let whole : ns ≡ x ++ (a ++ (b ++ (c ++ d))) = st.flat ∙ p.flat ∙ ap (λ (l : List Node). p.before ++ (node ∷ (l ++ p.after))) parts ∙ regroup p.before node one a b c (flatten q.behind) p.after in
-    let kp = kid_place i n first f ns p st.flat (omega arith) bf rf in
-    let kq = kid_place i m second f ns p st.flat (omega arith) bs rs in
-    let first-is : first ≡ used x = kp.place-is in
-    let there : since first ns ≡ a ++ (b ++ (c ++ d)) = ap (λ (j : ℕ). since j ns) first-is ∙ ap (since (used x)) whole ∙ since-append x (a ++ (b ++ (c ++ d))) in
-    let mid-is : mid ≡ used x + used a = behind_one mid first ns x t (b ++ (c ++ d)) single-t bm rm there whole in
-    let grouped : ns ≡ (x ++ (a ++ b)) ++ (c ++ d) = whole ∙ ap (λ (l : List Node). x ++ l) (sym (append_assoc a b (c ++ d))) ∙ sym (append_assoc x (a ++ b) (c ++ d)) in
-    let before-u : flatten (first_trees m k) ≡ one ++ (a ++ b) = ap flatten q.first ∙ flatten-join (first_trees n k) (join t q.between) ∙ ap (λ (l : List Node). one ++ l) (flatten-join t q.between) in
-    let second-is : second ≡ used (x ++ (a ++ b)) = kq.place-is ∙ ap (λ (l : List Node). used (p.before ++ (node ∷ l))) before-u ∙ ap used (sym (append_assoc p.before (node ∷ one) (a ++ b))) in
-    let there-u : since second ns ≡ c ++ d = ap (λ (j : ℕ). since j ns) second-is ∙ ap (since (used (x ++ (a ++ b)))) grouped ∙ since-append (x ++ (a ++ b)) (c ++ d) in
-    let end-is : end ≡ used (x ++ (a ++ b)) + used c = behind_one end second ns (x ++ (a ++ b)) u d single-u be re there-u grouped in
-    let sizes : used (x ++ (a ++ b)) ≡ used x + used a + used b = omega (arith, used-append x (a ++ b), used-append a b) in
-    let move : exchanged first mid second end ns ≡ x ++ (c ++ (b ++ (a ++ d))) =
-    ap (exchanged first mid second end) whole ∙ exchanged-append x a b c d first mid second end first-is mid-is (omega (arith, second-is, sizes)) (omega (arith, end-is, sizes)) in
-    let new = swapped_nth n m k in
-    let new-flat : flatten new ≡ one ++ (c ++ (b ++ (a ++ flatten q.behind))) = ap flatten q.swapped ∙ flatten-four (first_trees n k) u q.between t q.behind in
-    let new-arity : arity new ≡ arity k = omega (arith, ap arity q.swapped, ap arity q.whole, arity-join (first_trees n k) (join u (join q.between (join t q.behind))), arity-join u (join q.between (join t q.behind)), arity-join q.between (join t q.behind), arity-join t q.behind, arity-join (first_trees n k) (join t (join q.between (join u q.behind))), arity-join t (join q.between (join u q.behind)), arity-join q.between (join u q.behind), arity-join u q.behind, single-t, single-u) in
-    let target : flatten (with_kids i new f) ≡ x ++ (c ++ (b ++ (a ++ d))) =
-    p.put new ∙ ap (λ (j : ℕ). p.before ++ (record (node_of p.label k) { children = j } ∷ (flatten new ++ p.after))) new-arity ∙ ap (λ (l : List Node). p.before ++ (node ∷ (l ++ p.after))) new-flat ∙ regroup p.before node one c b a (flatten q.behind) p.after in
+    let one = kid n i x f p h.first in
+    let two = kid m i y f p h.second in
+    let node = node_of p.label k in
+    let a = p.before ++ (node ∷ flatten (first_trees n k)) in
+    let b = flatten z.between in
+    let d = flatten z.behind ++ p.after in
+    let whole : ns ≡ a ++ (flatten t ++ (b ++ (flatten u ++ d))) = st.flat ∙ p.flat ∙ ap (λ (l : List Node). p.before ++ (node ∷ (l ++ p.after))) (ap flatten z.whole)
+    ∙ simp (append_assoc, flatten-join) in
+    let left = span x first mid t a (b ++ (flatten u ++ d)) ns st.pool.distinct one.single one.root whole q in
+    let right = span y second end u (a ++ (flatten t ++ b)) d ns st.pool.distinct two.single two.root (whole ∙ simp append_assoc) r in
+    let sizes : used (a ++ (flatten t ++ b)) ≡ used a + used (flatten t) + used b = omega (arith, used-append a (flatten t ++ b), used-append (flatten t) b) in
+    let inner = arity-set_nth m t k h.second.within in
+    let count : arity (swapped_nth n m k) ≡ arity k = omega (arith, arity-set_nth n u (set_nth m t k) (omega (arith, inner, one.single)), inner, one.single, two.single) in
     record {
-      low = omega (arith, first-is, mid-is);
-      apart = omega (arith, mid-is, second-is, sizes);
-      high = omega (arith, end-is, second-is);
-      done = move ∙ sym target;
+      low = omega (arith, left.some);
+      apart = omega (arith, left.stop, right.start, sizes);
+      high = omega (arith, right.some);
+      done = ap (exchanged first mid second end) whole ∙ exchanged-append a (flatten t) b (flatten u) d first mid second end left.start left.stop (omega (arith, right.start, sizes))
+          (omega (arith, right.stop, sizes))
+          ∙ sym (reput i (swapped_nth n m k) f p count ∙ ap (λ (l : List Node). p.before ++ (node ∷ (l ++ p.after))) (ap flatten z.swapped) ∙ simp (append_assoc, flatten-join));
     }
 
 pub counted_swapped : (i n m : ℕ) (s : State) → Stands s → AllNodes IsCounted (with_kids i (swapped_nth n m (kids_of i (forest s))) (forest s))
-counted_swapped i n m s st =
-    let k = kids_of i (forest s) in
-    let h : AllNodes IsCounted k = all-kids IsCounted (tree_at i (forest s)) (all-tree_at IsCounted i (forest s) st.counted) in
-    all-with_kids (λ l. 1 ≤ l.count) i (swapped_nth n m k) (forest s) (all-set_nth IsCounted n (tree_nth m k) (set_nth m (tree_nth n k) k) (all-tree_nth IsCounted m k h) (all-set_nth IsCounted m (tree_nth n k) k (all-tree_nth IsCounted n k h) h)) st.counted
+counted_swapped i n m s st = grind (arith, all-kids_of, counted-with_kids, all-set_nth, all-tree_nth)
+
+-- ---- a root that stands last and a child among the trees before it change places
+
+pub exchange : (i n x j first mid second end : ℕ) (t others : Forest) (s : State) → Stands s → Ends j t others (forest s) → IsChildAt n i x others → IsTold x first mid s.nodes
+    → IsTold j second end s.nodes
+    → IsExchange first mid second end (join (with_kids i (set_nth n t (kids_of i others)) others) (tree_nth n (kids_of i others))) s.nodes
+exchange i n x j first mid second end t others s st h k q r =
+    let ns = s.nodes in
+    let ks = kids_of i others in
+    let p = at i others (held_parent n i others k.within) in
+    let z = kid n i x others p k in
+    let u = tree_nth n ks in
+    let a = p.before ++ (node_of p.label ks ∷ flatten (first_trees n ks)) in
+    let b = flatten (rest_trees 1 (rest_trees n ks)) ++ p.after in
+    let c = flatten u in
+    let d = flatten t in
+    let new = set_nth n t ks in
+    let whole : ns ≡ a ++ (c ++ (b ++ (d ++ []))) = st.flat ∙ ap flatten h.whole ∙ flatten-join others t ∙ ap (λ (l : List Node). l ++ d) z.flat ∙ simp (append_assoc, append-nil) in
+    let left = span x first mid u a (b ++ (d ++ [])) ns st.pool.distinct z.single z.root whole q in
+    let right = span j second end t (a ++ (c ++ b)) [] ns st.pool.distinct h.alone h.root (whole ∙ simp append_assoc) r in
+    let sizes : used (a ++ (c ++ b)) ≡ used a + used c + used b = omega (arith, used-append a (c ++ b), used-append c b) in
+    record {
+      low = omega (arith, left.some);
+      apart = omega (arith, left.stop, right.start, sizes);
+      high = omega (arith, right.some);
+      done = ap (exchanged first mid second end) whole ∙ exchanged-append a c b d [] first mid second end left.start left.stop (omega (arith, right.start, sizes)) (omega (arith, right.stop, sizes))
+          ∙ sym (flatten-join (with_kids i new others) u ∙ ap (λ (l : List Node). l ++ c) (reput i new others p (omega (arith, arity-set_nth n t ks k.within, h.alone)))
+          ∙ simp (append_assoc, append-nil, flatten-join));
+    }
+
+front_distinct : (s : State) (t others : Forest) → Stands s → forest s ≡ join others t → Distinct others
+front_distinct s t others st e = (AreDistinct-parts (flatten others) (flatten t) (subst AreDistinct (ap flatten e ∙ flatten-join others t) (distinct s st))).0
+
+-- both are nodes
+pub known_live : (i n x j : ℕ) (t others : Forest) (s : State) → Stands s → Ends j t others (forest s) → IsChildAt n i x others → has x s.nodes ≡ true
+known_live i n x j t others s h k l = grind (arith, child_tree, front_distinct, has-flatten, holds-left)
+
+pub counted_exchanged : (i n : ℕ) (t others : Forest) (s : State) → Stands s → forest s ≡ join others t → AllNodes IsCounted (join (with_kids i (set_nth n t (kids_of i others)) others) (tree_nth n (kids_of i others)))
+counted_exchanged i n t others s st e = grind (arith, all-left, all-right, all-kids_of, all-join, counted-with_kids, all-set_nth, all-tree_nth)
+
+-- a root's child
+pub exchanged_last : (i n h : ℕ) (t others : Forest) (s u : State) → Stands s → Stands u → forest s ≡ join others t → n < arity (kids_of i others) → forest u ≡ join (with_kids i (set_nth n t (kids_of i others)) others) (tree_nth n (kids_of i others))
+    → h ≡ root_id (tree_nth n (kids_of i others)) → has_root i others ≡ true → Ends h (tree_nth n (kids (root_tree i others))) (put i (set_nth n t (kids (root_tree i others))) others) (forest u)
+exchanged_last i n h t others s u k l e m p q r = grind (arith, front_distinct, tree_at-root, put-root, arity-tree_nth, clear_front)
 
 -- ---- a child's node goes, and its children stay
 
@@ -94,107 +106,60 @@ pub record IsMerge (i n from next : ℕ) (s : State) : Type 0 where
   pub live : next ≡ from + size_of (first_of (since from s.nodes)) → has i (without from next s.nodes) ≡ true
   pub done : next ≡ from + size_of (first_of (since from s.nodes)) → with_children i (arity (kids_of i (forest s)) - 1 + arity (kids (tree_nth n (kids_of i (forest s))))) (without from next s.nodes) ≡ flatten (with_kids i (merged_nth n (kids_of i (forest s))) (forest s))
 
-three : (b : List Node) (m : Node) (x : List Node) (c : Node) (y z w : List Node) → b ++ (m ∷ ((x ++ ((c ∷ y) ++ z)) ++ w)) ≡ (b ++ (m ∷ x)) ++ (c ∷ (y ++ (z ++ w)))
-three b m x c y z w = ap (λ (t : List Node). b ++ (m ∷ t)) (append_assoc x ((c ∷ y) ++ z) w ∙ ap (λ (t : List Node). x ++ (c ∷ t)) (append_assoc y z w)) ∙ sym (append_assoc b (m ∷ x) (c ∷ (y ++ (z ++ w))))
-
 pub merges : (i n from next : ℕ) (s : State) → Stands s → n < arity (kids_of i (forest s)) → IsBoundary from s.nodes → since from s.nodes ≡ skip n (drop 1 (since (place_of i s.nodes) s.nodes)) → IsMerge i n from next s
 merges i n from next s st within b r =
     let f = forest s in
     let ns = s.nodes in
     let k = kids_of i f in
-    let p = live_at i s (held_parent n i f within) in
+    let p = at i f (held_parent n i f within) in
     let q = nth_tree n k within in
     let node = node_of p.label k in
     let one = flatten (first_trees n k) in
-    let below = q.below in
-    let c = node_of q.label below in
-    let y = flatten below in
+    let c = node_of q.label q.below in
+    let y = flatten q.below in
     let z = flatten q.behind in
     let x = p.before ++ (node ∷ one) in
-    let nth : tree_nth n k ≡ tree q.label below empty = ap (first_trees 1) q.rest in
-    let kids-are : kids (tree_nth n k) ≡ below = ap kids nth in
-    let parts : flatten k ≡ one ++ ((c ∷ y) ++ z) = ap flatten q.whole ∙ flatten-join (first_trees n k) (tree q.label below q.behind) in
-    let whole : ns ≡ x ++ (c ∷ (y ++ (z ++ p.after))) = st.flat ∙ p.flat ∙ ap (λ (l : List Node). p.before ++ (node ∷ (l ++ p.after))) parts ∙ three p.before node one c y z p.after in
-    let kp = kid_place i n from f ns p st.flat (omega arith) b r in
-    let from-is : from ≡ used x = kp.place-is in
-    let there : since from ns ≡ c ∷ (y ++ (z ++ p.after)) = ap (λ (j : ℕ). since j ns) from-is ∙ ap (since (used x)) whole ∙ since-append x (c ∷ (y ++ (z ++ p.after))) in
-    let first : first_of (since from ns) ≡ c = ap first_of there in
+    let below : kids (tree_nth n k) ≡ q.below = ap (λ (t : Forest). kids (first_trees 1 t)) q.rest in
+    let whole : ns ≡ x ++ (c ∷ (y ++ (z ++ p.after))) = st.flat ∙ p.flat ∙ ap (λ (t : Forest). p.before ++ (node ∷ (flatten t ++ p.after))) q.whole ∙ simp (append_assoc, flatten-join) in
+    let place = kid_here i n from s p st (omega arith) b r in
+    let first : first_of (since from ns) ≡ c = ap first_of place.rest ∙ ap (λ (t : Forest). first_of (flatten t ++ p.after)) q.rest in
     let new = merged_nth n k in
-    let new-is : new ≡ set_nth n below k = ap (λ (t : Forest). set_nth n t k) kids-are in
-    let behind : rest_trees 1 (rest_trees n k) ≡ q.behind = ap (rest_trees 1) q.rest in
-    let new-flat : flatten new ≡ one ++ (y ++ z) = ap flatten new-is ∙ flatten-join (first_trees n k) (join below (rest_trees 1 (rest_trees n k))) ∙ ap (λ (l : List Node). one ++ l) (flatten-join below (rest_trees 1 (rest_trees n k)) ∙ ap (λ (t : Forest). y ++ flatten t) behind) in
+    let new-is : flatten new ≡ one ++ (y ++ z) = ap (λ (t : Forest). flatten (set_nth n t k)) below ∙ ap (λ (t : Forest). flatten (join (first_trees n k) (join q.below (rest_trees 1 t)))) q.rest
+    ∙ simp flatten-join in
     let new-arity : arity new + 1 ≡ arity k + arity (kids (tree_nth n k)) = arity-set_nth n (kids (tree_nth n k)) k within in
-    let gone : next ≡ from + size_of (first_of (since from ns)) → without from next ns ≡ p.before ++ (node ∷ (one ++ (y ++ (z ++ p.after)))) =
-    λ h. ap (without from next) whole ∙ without-append x (c ∷ []) (y ++ (z ++ p.after)) from next from-is (omega (arith, h, ap size_of first, from-is)) ∙ append_assoc p.before (node ∷ one) (y ++ (z ++ p.after)) in
+    let gone : next ≡ from + size_of (first_of (since from ns)) → without from next ns ≡ p.before ++ (node ∷ (flatten new ++ (p.after ++ []))) =
+    λ h. ap (without from next) whole ∙ without-append x (c ∷ []) (y ++ (z ++ p.after)) from next place.place-is (omega (arith, h, ap size_of first, place.place-is))
+    ∙ sym (ap (λ (l : List Node). p.before ++ (node ∷ (l ++ (p.after ++ [])))) new-is ∙ simp (append_assoc, append-nil)) in
+    let done = λ (h : next ≡ from + size_of (first_of (since from ns))). rekid i (arity k - 1 + arity (kids (tree_nth n k))) new f p [] [] _ refl (omega (arith, new-arity, within)) (gone h) in
     record {
-      inside = omega (arith, ap used whole, used-append x (c ∷ (y ++ (z ++ p.after))), from-is, size_from c);
-      children = ap (λ (j : Node). j.children) first ∙ sym (ap arity kids-are);
-      few = omega (arith, ap length whole, length-append x (c ∷ (y ++ (z ++ p.after))), length-append p.before (node ∷ one), length-append y (z ++ p.after), length-append z p.after, ap length parts, length-append one ((c ∷ y) ++ z), length-append (c ∷ y) z, arity_le below, arity_le q.behind, arity_le (first_trees n k), ap arity q.whole, arity-join (first_trees n k) (tree q.label below q.behind), ap arity kids-are);
-      live = λ h. ap (has i) (gone h) ∙ has_mid i p.before node (one ++ (y ++ (z ++ p.after))) p.id-is;
-      done = λ h.
-          let count : arity k - 1 + arity (kids (tree_nth n k)) ≡ arity new = omega arith in
-          ap (with_children i (arity k - 1 + arity (kids (tree_nth n k)))) (gone h) ∙ with_children-append i (arity k - 1 + arity (kids (tree_nth n k))) p.before node (one ++ (y ++ (z ++ p.after))) p.first p.id-is
-          ∙ ap (λ (j : ℕ). p.before ++ (record node { children = j } ∷ (one ++ (y ++ (z ++ p.after))))) count
-          ∙ sym (p.put new ∙ ap (λ (l : List Node). p.before ++ (node_of p.label new ∷ (l ++ p.after))) new-flat ∙ ap (λ (l : List Node). p.before ++ (node_of p.label new ∷ l)) (append_assoc one (y ++ z) p.after ∙ ap (λ (l : List Node). one ++ l) (append_assoc y z p.after)));
+      inside = omega (arith, ap used whole, used-append x (c ∷ (y ++ (z ++ p.after))), place.place-is, size_from c);
+      children = ap (λ (j : Node). j.children) first ∙ sym (ap arity below);
+      few = omega (
+        arith,
+        ap length whole,
+        length-append x (c ∷ (y ++ (z ++ p.after))),
+        length-append p.before (node ∷ one),
+        length-append y
+            (z ++ p.after),
+        length-append z p.after,
+        arity_le q.below,
+        arity_le q.behind,
+        arity_le (first_trees n k),
+        ap arity q.whole,
+        arity-join (first_trees n k)
+            (tree q.label q.below q.behind),
+        ap arity below,
+      );
+      live = λ h. (done h).live;
+      done = λ h. (done h).nodes ∙ append-nil (flatten (with_kids i new f));
     }
 
 pub counted_merged : (i n : ℕ) (s : State) → Stands s → AllNodes IsCounted (with_kids i (merged_nth n (kids_of i (forest s))) (forest s))
-counted_merged i n s st =
-    let k = kids_of i (forest s) in
-    let h : AllNodes IsCounted k = all-kids IsCounted (tree_at i (forest s)) (all-tree_at IsCounted i (forest s) st.counted) in
-    all-with_kids (λ l. 1 ≤ l.count) i (merged_nth n k) (forest s) (all-set_nth IsCounted n (kids (tree_nth n k)) k (all-kids IsCounted (tree_nth n k) (all-tree_nth IsCounted n k h)) h) st.counted
-
--- ---- a root goes behind all others
-
-pub record IsBlock (i from end : ℕ) (s : State) : Type 0 where
-  pub start : IsBoundary from s.nodes
-  pub stop : end ≤ used s.nodes
-  pub some : from < end
-  pub done : moved from (end - from) (used s.nodes) s.nodes ≡ flatten (join (without_root i (forest s)) (root_tree i (forest s)))
-  pub stays : end ≡ used s.nodes → forest s ≡ join (without_root i (forest s)) (root_tree i (forest s))
-
-pub no_bytes : (f : Forest) → used (flatten f) ≡ 0 → f ≡ empty
-no_bytes empty e = refl
-no_bytes (tree l k r) e = absurd (omega (arith, e, size_from (node_of l k)))
-
-pub block : (i from end : ℕ) (s : State) → Stands s → has_root i (forest s) ≡ true → from ≡ place_of i s.nodes → IsBoundary end s.nodes → since end s.nodes ≡ skip 1 (since from s.nodes) → IsBlock i from end s
-block i from end s st root h b r =
-    let f = forest s in
-    let ns = s.nodes in
-    let x = top i f root in
-    let t = tree x.label x.kids-are empty in
-    let m = node_of x.label x.kids-are in
-    let l = flatten x.left in
-    let c = flatten t in
-    let d = flatten x.right in
-    let noded : ns ≡ l ++ (m ∷ (flatten x.kids-are ++ d)) = st.flat ∙ ap flatten x.whole ∙ flatten-join x.left (tree x.label x.kids-are x.right) in
-    let whole : ns ≡ l ++ (c ++ d) = st.flat ∙ ap flatten x.whole ∙ flatten-join x.left (tree x.label x.kids-are x.right) ∙ ap (λ (y : List Node). l ++ y) (flatten-join t x.right) in
-    let clear : has i l ≡ false = ap (λ (j : ℕ). has j l) (sym x.id-is) ∙ not_before l m (flatten x.kids-are ++ d) (subst AreDistinct noded st.pool.distinct) in
-    let from-is : from ≡ used l = h ∙ ap (place_of i) noded ∙ place_of-append i l m (flatten x.kids-are ++ d) clear x.id-is in
-    let there : since from ns ≡ c ++ d = ap (λ (j : ℕ). since j ns) from-is ∙ ap (since (used l)) whole ∙ since-append l (c ++ d) in
-    let end-is : end ≡ used l + used c = behind_one end from ns l t d refl b r there whole in
-    let all : ns ≡ l ++ (c ++ (d ++ [])) = whole ∙ ap (λ (y : List Node). l ++ (c ++ y)) (sym (append-nil d)) in
-    let size : used ns ≡ used l + used c + used d = omega (arith, ap used whole, used-append l (c ++ d), used-append c d) in
-    let some : 0 < used c = used_some t refl in
-    record {
-      start = subst (IsBoundary from) (sym whole) (boundary-append l (c ++ d) from from-is);
-      stop = omega (arith, end-is, size);
-      some = omega (arith, from-is, end-is, some);
-      done = ap (moved from (end - from) (used ns)) all ∙ moved_right l c d [] from (end - from) (used ns) from-is (omega (arith, from-is, end-is)) size (omega (arith, from-is, end-is, some))
-          ∙ ap (λ (y : List Node). l ++ (d ++ y)) (append-nil c) ∙ sym (append_assoc l d c)
-          ∙ sym (ap flatten (ap (λ (y : Forest). join y (root_tree i f)) x.without ∙ ap (join (join x.left x.right)) x.tree-is) ∙ flatten-join (join x.left x.right) t ∙ ap (λ (y : List Node). y ++ c) (flatten-join x.left x.right));
-      stays = λ e.
-          let none : x.right ≡ empty = no_bytes x.right (omega (arith, e, end-is, size)) in
-          x.whole ∙ ap (λ (y : Forest). join x.left (tree x.label x.kids-are y)) none ∙ ap (λ (y : Forest). join y t) (sym (join-empty x.left) ∙ ap (join x.left) (sym none))
-          ∙ sym (ap (λ (y : Forest). join y (root_tree i f)) x.without ∙ ap (join (join x.left x.right)) x.tree-is);
-    }
-
-pub counted_last : (i : ℕ) (s : State) → Stands s → AllNodes IsCounted (join (without_root i (forest s)) (root_tree i (forest s)))
-counted_last i s st = all-join IsCounted (without_root i (forest s)) (root_tree i (forest s)) (all-without_root IsCounted i (forest s) st.counted) (all-root_tree IsCounted i (forest s) st.counted)
+counted_merged i n s st = grind (arith, all-kids, all-kids_of, counted-with_kids, all-set_nth, all-tree_nth)
 
 -- ---- a root between those before it and those behind it
 
-pub record IsSplit (i from end : ℕ) (s : State) : Type 0 where
+pub record IsBlock (i from end : ℕ) (s : State) : Type 0 where
   pub left : Forest
   pub right : Forest
   pub whole : forest s ≡ join left (join (root_tree i (forest s)) right)
@@ -202,29 +167,43 @@ pub record IsSplit (i from end : ℕ) (s : State) : Type 0 where
   pub begins : from ≡ used (flatten left)
   pub here : since from s.nodes ≡ flatten (root_tree i (forest s)) ++ flatten right
   pub ends : since end s.nodes ≡ flatten right
+  pub stop : end ≤ used s.nodes
+  -- it goes behind all others
+  pub done : moved from (end - from) (used s.nodes) s.nodes ≡ flatten (join (without_root i (forest s)) (root_tree i (forest s)))
+  pub stays : end ≡ used s.nodes → forest s ≡ join (without_root i (forest s)) (root_tree i (forest s))
 
-pub split : (i from end : ℕ) (s : State) → Stands s → has_root i (forest s) ≡ true → from ≡ place_of i s.nodes → IsBoundary end s.nodes → since end s.nodes ≡ skip 1 (since from s.nodes) → IsSplit i from end s
-split i from end s st root h b r =
+pub no_bytes : (f : Forest) → used (flatten f) ≡ 0 → f ≡ empty
+no_bytes empty e = refl
+no_bytes (tree l k r) e = absurd (omega (arith, e, size_from (node_of l k)))
+
+pub block : (i from end : ℕ) (s : State) → Stands s → has_root i (forest s) ≡ true → IsTold i from end s.nodes → IsBlock i from end s
+block i from end s st root q =
     let f = forest s in
     let ns = s.nodes in
     let x = top i f root in
-    let t = tree x.label x.kids-are empty in
-    let m = node_of x.label x.kids-are in
+    let t = root_tree i f in
     let l = flatten x.left in
     let c = flatten t in
     let d = flatten x.right in
-    let noded : ns ≡ l ++ (m ∷ (flatten x.kids-are ++ d)) = st.flat ∙ ap flatten x.whole ∙ flatten-join x.left (tree x.label x.kids-are x.right) in
-    let whole : ns ≡ l ++ (c ++ d) = st.flat ∙ ap flatten x.whole ∙ flatten-join x.left (tree x.label x.kids-are x.right) ∙ ap (λ (y : List Node). l ++ y) (flatten-join t x.right) in
-    let clear : has i l ≡ false = ap (λ (j : ℕ). has j l) (sym x.id-is) ∙ not_before l m (flatten x.kids-are ++ d) (subst AreDistinct noded st.pool.distinct) in
-    let from-is : from ≡ used l = h ∙ ap (place_of i) noded ∙ place_of-append i l m (flatten x.kids-are ++ d) clear x.id-is in
-    let there : since from ns ≡ c ++ d = ap (λ (j : ℕ). since j ns) from-is ∙ ap (since (used l)) whole ∙ since-append l (c ++ d) in
-    let end-is : end ≡ used l + used c = behind_one end from ns l t d refl b r there whole in
+    let split : f ≡ join x.left (join t x.right) = x.whole ∙ ap (λ (y : Forest). join x.left (join y x.right)) (sym x.tree-is) in
+    let whole : ns ≡ l ++ (c ++ d) = st.flat ∙ ap flatten split ∙ simp flatten-join in
+    let y = span i from end t l d ns st.pool.distinct (root_arity i f root) (root_id-root_tree i f root) whole q in
+    let size : used ns ≡ used l + used c + used d = omega (arith, ap used whole, used-append l (c ++ d), used-append c d) in
     record {
       left = x.left;
       right = x.right;
-      whole = x.whole ∙ ap (λ (y : Forest). join x.left (join y x.right)) (sym x.tree-is);
+      whole = split;
       clear = x.clear;
-      begins = from-is;
-      here = there ∙ ap (λ (y : Forest). flatten y ++ d) (sym x.tree-is);
-      ends = ap (λ (j : ℕ). since j ns) (end-is ∙ sym (used-append l c)) ∙ ap (since (used (l ++ c))) (whole ∙ sym (append_assoc l c d)) ∙ since-append (l ++ c) d;
+      begins = y.start;
+      here = y.here;
+      ends = y.behind;
+      stop = omega (arith, y.stop, size);
+      done = ap (moved from (end - from) (used ns)) (whole ∙ simp append-nil) ∙ moved_right l c d [] from (end - from) (used ns) y.start (omega (arith, y.start, y.stop)) size (omega (arith, y.some))
+          ∙ sym (ap (λ (g : Forest). flatten (join g t)) x.without ∙ simp (append_assoc, append-nil, flatten-join));
+      stays = λ e.
+          let none : x.right ≡ empty = no_bytes x.right (omega (arith, e, y.stop, size)) in
+          split ∙ ap (λ (g : Forest). join x.left (join t g)) none ∙ ap (join x.left) (join-empty t) ∙ sym (ap (λ (g : Forest). join g t) (x.without ∙ ap (join x.left) none ∙ join-empty x.left));
     }
+
+pub counted_last : (i : ℕ) (s : State) → Stands s → AllNodes IsCounted (join (without_root i (forest s)) (root_tree i (forest s)))
+counted_last i s st = grind (arith, all-join, all-without_root, all-root_tree)

@@ -1,10 +1,10 @@
 -- Walks over nodes, and what they come to.
 use Rattle.tree_handles.proofs.Shared.{◌≡◌, ℕ, zero, suc, ◌+◌, ◌-◌, ◌<◌, ◌≤◌, List, [], ◌∷◌, ◌++◌, length, drop, refl, sym, ap, ◌∙◌, subst, arith, true, eq-eqb, length-append, length-map, map-append}
-use Rattle.tree_handles.proofs.Shared.{Header, Node, header_of, kind_of_payload, used, place_of, first_of, since, until, IsBoundary, State, IsPool, until-since, length_le_used, Visit, Label, Forest}
-use Rattle.tree_handles.proofs.Shared.{empty, tree, join, arity, node_of, flatten, first_trees, rest_trees, forest_of, kids, root_payload, nodes_in, holds, tree_at, kids_of, Stands, forest, visit_of}
+use Rattle.tree_handles.proofs.Shared.{Header, Node, header_of, used, place_of, first_of, since, until, IsBoundary, State, IsPool, until-since, length_le_used, Visit, Label, Forest}
+use Rattle.tree_handles.proofs.Shared.{empty, tree, join, arity, node_of, flatten, first_trees, rest_trees, forest_of, kids, nodes_in, holds, tree_at, kids_of, Stands, forest, visit_of}
 use Rattle.tree_handles.proofs.{Shared.{visits_of, visit_at, AreFound, BeginsTrees, skip}, Distinct.{Distinct, distinct_parts, distinct-tree_at, holds-tree_at, tree_at-inside, other_id}}
 use Rattle.tree_handles.proofs.{Measures.before, Nths.first_trees-behind, Releases.arity_le, Forests.{arity-join, arity-rest_trees, first-rest, flatten-join, forest_of-flatten, nodes-flatten}}
-use Rattle.tree_handles.proofs.Parts.{is_before, kid_place, live_at}
+use Rattle.tree_handles.proofs.Parts.{is_before, kid_here, live_at}
 use Rattle.std.proofs.{lemmas.Iterator.items_from_drains, lemmas.Iterator.Consumers.YieldsList-from_first, Common.{map, Option, Some, append-nil}}
 use Rattle.std.specs.{Prelude.IsSome, Iterator.{YieldsFirst, Drains}}
 
@@ -34,7 +34,7 @@ walk_of i at s st h e =
 pub walk_below : (i from at : ℕ) (s : State) → Stands s → holds i (forest s) ≡ true → from ≤ arity (kids_of i (forest s)) → IsBoundary at s.nodes → since at s.nodes ≡ skip from (drop 1 (since (place_of i s.nodes) s.nodes)) → IsWalk (arity (kids_of i (forest s)) - from) at (rest_trees from (kids_of i (forest s))) s.nodes
 walk_below i from at s st h within b r =
     let p = live_at i s h in
-    let k = kid_place i from at (forest s) s.nodes p st.flat within b r in
+    let k = kid_here i from at s p st within b r in
     walk_at (arity (kids_of i (forest s)) - from) at (rest_trees from (kids_of i (forest s))) s.nodes p.after k.rest (arity-rest_trees from (kids_of i (forest s)))
 
 -- a node is left
@@ -145,10 +145,6 @@ found_all base (tree l k r) d h =
 -- so are the nodes of a pool's tree
 pub found : (i : ℕ) (s : State) → Stands s → AreFound (forest s) (tree_at i (forest s))
 found i s h = grind (arith, found_all, distinct-tree_at, holds-tree_at, tree_at-inside)
-
--- a tree's root, as a visit
-abbrev root_visit : ℕ → Forest → Visit
-root_visit i t = record { kind = kind_of_payload (root_payload t); id = i; children = arity (kids t) }
 
 -- what a visit tells of its node
 pub record IsSeen (v : Visit) (label : Label) (below base : Forest) : Type 0 where

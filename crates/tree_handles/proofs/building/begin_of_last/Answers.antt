@@ -11,8 +11,14 @@ two : (c : Then-behind-used) → AreLastTwo c.args.left.now c.args.right.now c.l
 two c =
     let s = c.args.pool.now in
     last_two c.args.left.now c.args.right.now c.locate-begin.result c.locate-mid.result c.behind-then-behind-mid.result s c.requires.stands c.requires.first c.requires.second
-    (c.locate-begin.ensures.value ∙ ap (λ (i : ℕ). place_of i s.nodes) c.id.ensures) (c.locate-mid.ensures.value ∙ ap (λ (i : ℕ). place_of i s.nodes) c.id-2.ensures) c.locate-mid.ensures.boundary
-    (ap (λ (j : ℕ). since j s.nodes) (sym c.if-behind-mid.true) ∙ c.behind.ensures.rest) c.behind-then-behind-mid.ensures.boundary c.behind-then-behind-mid.ensures.rest (c.if-behind-used.true ∙ c.used.ensures.value)
+    (record {
+      start = c.locate-begin.ensures.value ∙ ap (λ (i : ℕ). place_of i s.nodes) c.id.ensures;
+      boundary = c.locate-mid.ensures.boundary;
+      rest = ap (λ (j : ℕ). since j s.nodes)
+          (sym c.if-behind-mid.true) ∙ c.behind.ensures.rest;
+    })
+    (record { start = c.locate-mid.ensures.value ∙ ap (λ (i : ℕ). place_of i s.nodes) c.id-2.ensures; boundary = c.behind-then-behind-mid.ensures.boundary; rest = c.behind-then-behind-mid.ensures.rest })
+    (c.if-behind-used.true ∙ c.used.ensures.value)
 
 pub returns-then-behind-used : goal.returns-then-behind-used
 returns-then-behind-used c = record { trees = (two c).trees; others = (two c).others; begin = (two c).begins; few = (two c).few }

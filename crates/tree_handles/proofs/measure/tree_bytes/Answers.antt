@@ -6,5 +6,6 @@ locate-from-requires c = live_node c.args.id c.args.pool.now c.requires.stands c
 
 pub returns : goal.returns
 returns c =
-    let t = tree_here c.args.id c.locate-from.result c.behind.result c.args.pool.now c.requires.stands c.requires.live c.locate-from.ensures.value c.behind.ensures.boundary c.behind.ensures.rest in
+    let t = tree_here c.args.id c.locate-from.result c.behind.result c.args.pool.now c.requires.stands c.requires.live
+    (record { start = c.locate-from.ensures.value; boundary = c.behind.ensures.boundary; rest = c.behind.ensures.rest }) in
     record { value = t.size; plain = λ h. t.size ∙ sym (size-plain (tree_at c.args.id (forest c.args.pool.now)) t.one h.whole) }

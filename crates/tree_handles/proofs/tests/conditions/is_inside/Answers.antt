@@ -7,5 +7,6 @@ locate-from-requires c = root_live c.args.root c.args.pool.now c.requires.stands
 pub returns : goal.returns
 returns c =
     let f = forest c.args.pool.now in
-    let here = tree_here c.args.root c.locate-from.result c.behind-end.result c.args.pool.now c.requires.stands (root_held c.args.root f c.requires.root) c.locate-from.ensures.value c.behind-end.ensures.boundary c.behind-end.ensures.rest in
+    let here = tree_here c.args.root c.locate-from.result c.behind-end.result c.args.pool.now c.requires.stands (root_held c.args.root f c.requires.root)
+    (record { start = c.locate-from.ensures.value; boundary = c.behind-end.ensures.boundary; rest = c.behind-end.ensures.rest }) in
     c.is_among.ensures ∙ ap (has c.args.id) here.block ∙ has-flatten c.args.id _ ∙ ap (holds c.args.id) (tree_of_root c.args.root c.requires.stands c.requires.root)
