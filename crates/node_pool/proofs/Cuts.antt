@@ -7,39 +7,24 @@ use Rattle.node_pool.proofs.{Ids.{AreApart-sym, AreDistinct-append, AreDistinct-
 pub until-append : (a b : List Node) → until (used a) (a ++ b) ≡ a
 until-append [] [] = refl
 until-append [] (n ∷ b) = refl
-until-append (n ∷ a) b =
-    let no : eqb (used (n ∷ a)) 0 ≡ false = ne_eqb _ _ (λ e. absurd (omega (arith, size_from n))) in
-    let less : used (n ∷ a) - size_of n ≡ used a = omega arith in
-    rw (no, less) (ap (λ (x : List Node). n ∷ x) (until-append a b))
+until-append (n ∷ a) b = grind (arith, ne_eqb, size_from, until-append a b)
 
 pub since-append : (a b : List Node) → since (used a) (a ++ b) ≡ b
 since-append [] [] = refl
 since-append [] (n ∷ b) = refl
-since-append (n ∷ a) b =
-    let no : eqb (used (n ∷ a)) 0 ≡ false = ne_eqb _ _ (λ e. absurd (omega (arith, size_from n))) in
-    let less : used (n ∷ a) - size_of n ≡ used a = omega arith in
-    rw (no, less) (since-append a b)
-
-cut_step : (t : Bool) (n : Node) (ns a b : List Node) → a ++ b ≡ ns → cond t [] (n ∷ a) ++ cond t (n ∷ ns) b ≡ n ∷ ns
-cut_step t n ns a b h = grind arith
+since-append (n ∷ a) b = grind (arith, ne_eqb, size_from, since-append a b)
 
 pub until-since : (at : ℕ) (ns : List Node) → until at ns ++ since at ns ≡ ns
 until-since at [] = refl
-until-since at (n ∷ ns) = cut_step (eqb at 0) n ns (until (at - size_of n) ns) (since (at - size_of n) ns) (until-since (at - size_of n) ns)
+until-since at (n ∷ ns) = grind (arith, until-since (at - size_of n) ns)
 
 pub since-append_right : (a b : List Node) (at : ℕ) → used a ≤ at → since at (a ++ b) ≡ since (at - used a) b
 since-append_right [] b at h = let e : at - 0 ≡ at = omega arith in rw e refl
-since-append_right (n ∷ a) b at h =
-    let no : eqb at 0 ≡ false = ne_eqb at 0 (λ e. absurd (omega (arith, size_from n))) in
-    let less : at - size_of n - used a ≡ at - used (n ∷ a) = omega arith in
-    rw (no, ← less) (since-append_right a b (at - size_of n) (omega arith))
+since-append_right (n ∷ a) b at h = grind (arith, ne_eqb, size_from, since-append_right a b (at - size_of n))
 
 pub until-append_right : (a b : List Node) (at : ℕ) → used a ≤ at → until at (a ++ b) ≡ a ++ until (at - used a) b
 until-append_right [] b at h = let e : at - 0 ≡ at = omega arith in rw e refl
-until-append_right (n ∷ a) b at h =
-    let no : eqb at 0 ≡ false = ne_eqb at 0 (λ e. absurd (omega (arith, size_from n))) in
-    let less : at - size_of n - used a ≡ at - used (n ∷ a) = omega arith in
-    rw (no, ← less) (ap (λ (x : List Node). n ∷ x) (until-append_right a b (at - size_of n) (omega arith)))
+until-append_right (n ∷ a) b at h = grind (arith, ne_eqb, size_from, until-append_right a b (at - size_of n))
 
 -- two cuts
 pub record IsCut (at to : ℕ) (ns : List Node) : Type 0 where

@@ -67,18 +67,14 @@ half_split a x y z b i j k l ha hx hy hz h1 h2 h3 =
     let three : used ((a ++ z) ++ x) ≡ j + (l - k) = omega (arith, used-append (a ++ z) x, two) in
     let four : used (((a ++ z) ++ x) ++ y) ≡ l = omega (arith, used-append ((a ++ z) ++ x) y, three) in
     let both : used (x ++ y) ≡ k - i = omega (arith, used-append x y) in
-    let was : a ++ ((x ++ y) ++ (z ++ b)) ≡ ns = ap (λ (t : List Node). a ++ t) (append_assoc x y (z ++ b)) in
-    let is : swapped i k l ns ≡ ms =
-    ap (swapped i k l) (sym was) ∙ swapped-append a (x ++ y) z b i k l (sym ha) (omega arith) (omega arith) ∙ sym (append_assoc a z ((x ++ y) ++ b)) ∙ ap (λ (t : List Node). (a ++ z) ++ t) (append_assoc x y b) in
-    let by_three : ((a ++ z) ++ x) ++ (y ++ b) ≡ ms = append_assoc (a ++ z) x (y ++ b) in
-    let by_four : (((a ++ z) ++ x) ++ y) ++ b ≡ ms = append_assoc ((a ++ z) ++ x) y b ∙ by_three in
-    let turned : swapped (i + (l - k)) (j + (l - k)) l ms ≡ (a ++ z) ++ (y ++ (x ++ b)) = swapped-append (a ++ z) x y b (i + (l - k)) (j + (l - k)) l (sym two) (omega arith) (omega arith) in
-    let all : exchanged i j k l ns ≡ a ++ (z ++ (y ++ (x ++ b))) = exchanged-append a x y z b i j k l (sym ha) (omega arith) (omega arith) (omega arith) in
+    let was : ns ≡ a ++ ((x ++ y) ++ (z ++ b)) = simp append_assoc in
+    let is : swapped i k l ns ≡ ms = ap (swapped i k l) was ∙ swapped-append a (x ++ y) z b i k l (sym ha) (omega arith) (omega arith) ∙ simp append_assoc in
+    let turned = swapped-append (a ++ z) x y b (i + (l - k)) (j + (l - k)) l (sym two) (omega arith) (omega arith) in
     subst (IsHalf i j k l ns) (sym is) (record {
       start = boundary-append (a ++ z) (x ++ (y ++ b)) (i + (l - k)) (sym two);
-      mid = subst (IsBoundary (j + (l - k))) by_three (boundary-append ((a ++ z) ++ x) (y ++ b) (j + (l - k)) (sym three));
-      end = subst (IsBoundary l) by_four (boundary-append (((a ++ z) ++ x) ++ y) b l (sym four));
-      done = turned ∙ append_assoc a z (y ++ (x ++ b)) ∙ sym all;
+      mid = subst (IsBoundary (j + (l - k))) (append_assoc (a ++ z) x (y ++ b)) (boundary-append ((a ++ z) ++ x) (y ++ b) (j + (l - k)) (sym three));
+      end = subst (IsBoundary l) (append_assoc ((a ++ z) ++ x) y b ∙ append_assoc (a ++ z) x (y ++ b)) (boundary-append (((a ++ z) ++ x) ++ y) b l (sym four));
+      done = turned ∙ append_assoc a z (y ++ (x ++ b)) ∙ sym (exchanged-append a x y z b i j k l (sym ha) (omega arith) (omega arith) (omega arith));
     })
 
 pub half : (i j k l : ℕ) (ns : List Node) → AreBlocks i j k l ns → IsHalf i j k l ns (swapped i k l ns)

@@ -1,8 +1,9 @@
 -- A buffer whose bytes are those of a list of nodes.
-use Rattle.node_pool.proofs.Shared.{List, ap, arith, drop, get_or, length, refl, replicate, sym, take, ℕ, Bool, ◌++◌, ◌+◌, ◌-◌, ◌<◌, ◌∙◌, ◌∷◌, ◌≡◌, ◌≤◌}
+use Rattle.node_pool.proofs.Shared.{List, ap, arith, drop, get_or, length, refl, replicate, sym, take, ℕ, Bool, ◌*◌, ◌++◌, ◌+◌, ◌-◌, ◌<◌, ◌∙◌, ◌∷◌, ◌≡◌, ◌≤◌}
 use Rattle.node_pool.proofs.Shared.{bytes_in, code_of, code_small, drop-drop, encoding, form_of, form_small, has_short_form, header_bytes, kind_of_payload, low_bytes, kind_of, Node, from_bytes}
 use Rattle.node_pool.proofs.Shared.{header_in, short_at, header_of, kind_at, kind_or_undef, size_of, size_of_header, Kind, Header, header_in-encoding, Contents, IsContents, nodes_of, IsLaid}
-use Rattle.node_pool.proofs.{Shared.{contents_of, AreNodes, encodings, first_of, used, IsBoundary, since}, Numbers.byte_read, Sizes.{length-nodes_of, nodes_of-encodings, size_from}, Walk.here}
+use Rattle.node_pool.proofs.{Shared.{contents_of, AreNodes, encodings, first_of, used, IsBoundary, since}, Cuts.boundary_le, Numbers.byte_read, Walk.here}
+use Rattle.node_pool.proofs.Sizes.{length-nodes_of, length_le_used, nodes_of-encodings, size_from}
 use Rattle.std.proofs.Common.{◌==◌}
 use Rattle.std.specs.Prelude.{Option}
 use Rattle.node_pool.specs.declared.buffer.Buffer.TheInside.{Inside}
@@ -33,6 +34,18 @@ contents_are b ns h = rw (nodes_are b ns h) refl
 
 pub opened : (b : Inside) (c : Contents) → IsLaid b → contents_of b ≡ c → IsOf b c.nodes
 opened b c h e = grind (arith, length-nodes_of)
+
+-- a place is within the bytes
+pub record IsWithin (at : ℕ) (b : Inside) : Type 0 where
+  pub low : at ≤ b.used
+  pub fits : b.used ≤ length b.store
+  pub small : length b.store ≤ 524280
+  pub count : 8 * b.count ≤ b.used
+
+pub within : (b : Inside) (c : Contents) (at : ℕ) → IsLaid b → contents_of b ≡ c → IsBoundary at c.nodes → IsWithin at b
+within b c at k e p =
+    let o = opened b c k e in
+    record { low = omega (arith, boundary_le at c.nodes p, o.used); fits = omega (arith, o.used, o.fits); small = o.small; count = omega (arith, length_le_used c.nodes, o.count, o.used) }
 
 pub size_is : (b : Inside) (c : Contents) → contents_of b ≡ c → length b.store ≡ c.size
 size_is b c e = ap (λ (x : Contents). x.size) e

@@ -39,12 +39,9 @@ found_behind id n ns e f = record {
   parented = λ c. rw e (ap (λ (x : List Node). n ∷ x) (f.parented c));
 }
 
-found_step : (id : ℕ) (n : Node) (ns : List Node) (t : Bool) → eqb n.id id ≡ t → cond t true (has id ns) ≡ true → (has id ns ≡ true → IsFound id ns) → IsFound id (n ∷ ns)
-found_step id n ns t e h k = grind (arith, found_here, found_behind)
-
 pub found : (id : ℕ) (ns : List Node) → has id ns ≡ true → IsFound id ns
 found id [] h = absurd cc
-found id (n ∷ ns) h = found_step id n ns (eqb n.id id) refl h (found id ns)
+found id (n ∷ ns) h = grind (arith, found_here, found_behind, found id ns)
 
 -- a node in place of one with the same identifier and the same payload
 pub has-same : (a : List Node) (n m : Node) (b : List Node) (i : ℕ) → n.id ≡ m.id → has i (a ++ m ∷ b) ≡ has i (a ++ n ∷ b)

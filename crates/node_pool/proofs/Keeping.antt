@@ -1,11 +1,11 @@
 -- What a change of the nodes leaves of the pool's fields.
-use Rattle.node_pool.proofs.Shared.{Bool, List, [], ap, arith, cond, eqb, false, length, refl, set, subst, sym, true, ℕ, ◌++◌, ◌+◌, ◌-◌, ◌<◌, ◌^◌, ◌∙◌, ◌∷◌, ◌≡◌, ◌≤◌, eq-eqb, eqb-false, eqb-true}
-use Rattle.node_pool.proofs.Shared.{ne_eqb, length-set, Node, fresh, Payload, Contents, IsContents, AreBelow, AreFlagsOf, HasUnused, IsLeastUnused, flag, without_ids, IsKept, state_of, ArePlacesOf}
-use Rattle.node_pool.proofs.Shared.{noted, AreDistinct, has, place_of, used, with_children, with_count, IsBoundary, between, exchanged, put_before, since, swapped, until, without, State, Inside}
+use Rattle.node_pool.proofs.Shared.{Bool, List, [], ap, arith, cond, eqb, false, length, refl, set, subst, sym, true, ℕ, ◌++◌, ◌+◌, ◌-◌, ◌<◌, ◌^◌, ◌∙◌, ◌∷◌, ◌≡◌, ◌≤◌, eq-eqb, eqb-true, length-set}
+use Rattle.node_pool.proofs.Shared.{Node, fresh, Payload, Contents, IsContents, AreBelow, AreFlagsOf, HasUnused, IsLeastUnused, flag, without_ids, IsKept, state_of, ArePlacesOf, place_in, size_of}
+use Rattle.node_pool.proofs.Shared.{noted, AreDistinct, has, place_of, used, IsBoundary, between, exchanged, put_before, since, swapped, until, without, State, Inside}
 use Rattle.node_pool.proofs.{Cuts.{AreDistinct-swap, AreDistinct-without, boundary_le, cut, cut3, until-since}, Exchanges.{AreBlocks, are_exchanged, blocks_of, exchanged_places, half}}
-use Rattle.node_pool.proofs.{Found.{AreDistinct-same, found, has-same}, Ids.{AreApart, AreApart-parts, AreApart-sym, AreDistinct-append, AreDistinct-parts, has-append, not_both, or_is_false}}
+use Rattle.node_pool.proofs.{Found.{AreDistinct-same, has-same}, Ids.{AreApart-parts, AreApart-sym, AreDistinct-append, AreDistinct-parts, has-append, not_both}}
 use Rattle.node_pool.proofs.{Marks.{below, flag-set, flag-without_ids, flag_inside, length-without_ids, unused}, Noting.{before_places, closed_part, closed_places, last_places, length-noted}}
-use Rattle.node_pool.proofs.{Noting.{place-same, pushed_places, turned, turned_end, turned_places, turned_start}, Sizes.{length_le_used}}
+use Rattle.node_pool.proofs.{Noting.{or_true, place-same, pushed_places, turned, turned_end, turned_places, turned_start}, Sizes.{length_le_used}}
 
 -- what is known of a pool's nodes is known of its buffer's
 pub boundary_in : (p : Inside) (s : State) (at : ℕ) → state_of p ≡ s → IsBoundary at s.nodes → IsBoundary at p.buffer.nodes
@@ -30,37 +30,17 @@ kept p q ms k e h l m d f s = grind arith
 pub kept_same : (p q : Inside) (ms : List Node) → IsKept p → q.buffer ≡ record p.buffer { nodes = ms } → IsContents q.buffer → q.taken ≡ p.taken → length q.places ≡ length p.places → SameIds p.buffer.nodes ms → ArePlacesOf ms q.places → IsKept q
 kept_same p q ms k e h t l s o = kept p q ms k e h (ap length t) l s.distinct (λ i. ap (flag i) t ∙ k.flags i ∙ sym (s.same i)) o
 
-pub counted_ids : (id c : ℕ) (ns : List Node) → has id ns ≡ true → AreDistinct ns → SameIds ns (with_count id c ns)
-counted_ids id c ns h d =
-    let f = found id ns h in
-    let m = record f.node { count = c } in
-    record {
-      distinct = subst AreDistinct (sym (f.counted c)) (AreDistinct-same f.before f.node m f.after refl (subst AreDistinct f.whole d));
-      same = λ i. ap (has i) (f.counted c) ∙ has-same f.before f.node m f.after i refl ∙ ap (has i) (sym f.whole);
-    }
-
-pub parented_ids : (id c : ℕ) (ns : List Node) → has id ns ≡ true → AreDistinct ns → SameIds ns (with_children id c ns)
-parented_ids id c ns h d =
-    let f = found id ns h in
-    let m = record f.node { children = c } in
-    record {
-      distinct = subst AreDistinct (sym (f.parented c)) (AreDistinct-same f.before f.node m f.after refl (subst AreDistinct f.whole d));
-      same = λ i. ap (has i) (f.parented c) ∙ has-same f.before f.node m f.after i refl ∙ ap (has i) (sym f.whole);
-    }
-
-pub counted_places : (id c : ℕ) (ns : List Node) (ps : List ℕ) → has id ns ≡ true → ArePlacesOf ns ps → ArePlacesOf (with_count id c ns) ps
-counted_places id c ns ps live h i e =
-    let f = found id ns live in
-    let m = record f.node { count = c } in
-    let there : has i ns ≡ true = ap (has i) f.whole ∙ sym (has-same f.before f.node m f.after i refl) ∙ ap (has i) (sym (f.counted c)) ∙ e in
-    h i there ∙ ap (place_of i) f.whole ∙ sym (place-same f.before f.node m f.after i refl refl) ∙ ap (place_of i) (sym (f.counted c))
-
-pub parented_places : (id c : ℕ) (ns : List Node) (ps : List ℕ) → has id ns ≡ true → ArePlacesOf ns ps → ArePlacesOf (with_children id c ns) ps
-parented_places id c ns ps live h i e =
-    let f = found id ns live in
-    let m = record f.node { children = c } in
-    let there : has i ns ≡ true = ap (has i) f.whole ∙ sym (has-same f.before f.node m f.after i refl) ∙ ap (has i) (sym (f.parented c)) ∙ e in
-    h i there ∙ ap (place_of i) f.whole ∙ sym (place-same f.before f.node m f.after i refl refl) ∙ ap (place_of i) (sym (f.parented c))
+-- one node in place of another of its identifier and its size
+pub changed : (p q : Inside) (ms a b : List Node) (n m : Node) → IsKept p → q.buffer ≡ record p.buffer { nodes = ms } → IsContents q.buffer → q.taken ≡ p.taken → q.places ≡ p.places
+    → p.buffer.nodes ≡ a ++ n ∷ b → ms ≡ a ++ m ∷ b → n.id ≡ m.id → size_of n ≡ size_of m → IsKept q
+changed p q ms a b n m k e h t s was is id size =
+    let ids : SameIds p.buffer.nodes ms = record {
+      distinct = subst AreDistinct (sym is) (AreDistinct-same a n m b id (subst AreDistinct was k.pool.distinct));
+      same = λ i. ap (has i) is
+          ∙ has-same a n m b i id ∙ ap (has i) (sym was);
+    } in
+    kept_same p q ms k e h t (ap length s) ids
+    (λ i live. ap (place_in i) s ∙ k.places i (sym (ids.same i) ∙ live) ∙ ap (place_of i) was ∙ sym (place-same a n m b i id size) ∙ ap (place_of i) (sym is))
 
 -- a node's identifier has a place
 pub inside : (p : Inside) → IsKept p → (i : ℕ) → has i p.buffer.nodes ≡ true → i < length p.places
@@ -77,21 +57,17 @@ has-four i a x y d = grind (arith, has-append)
 swapped_ids : (i j k : ℕ) (ns : List Node) → IsBoundary i ns → IsBoundary j ns → IsBoundary k ns → i ≤ j → j ≤ k → AreDistinct ns → SameIds ns (swapped i j k ns)
 swapped_ids i j k ns a b c h l d = grind (arith, cut3, AreDistinct-swap, has-four, turn)
 
+has_first : (i : ℕ) (a b : List Node) → has i a ≡ true → has i (a ++ b) ≡ true
+has_first i a b h = grind (arith, has-append)
+
+has_later : (i : ℕ) (a b : List Node) → has i b ≡ true → has i (a ++ b) ≡ true
+has_later i a b h = grind (arith, has-append, or_true)
+
 between_has : (i at to : ℕ) (ns : List Node) → IsBoundary at ns → IsBoundary to ns → at ≤ to → has i (between at to ns) ≡ true → has i ns ≡ true
-between_has i at to ns a b le h =
-    let w = (cut at to ns a b le).whole in
-    ap (has i) w ∙ has-append i (until at ns) (between at to ns ++ since to ns) ∙ ap (λ (x : Bool). cond (has i (until at ns)) true x) (has-append i (between at to ns) (since to ns) ∙ ap (λ (x : Bool). cond x true (has i (since to ns))) h) ∙ always (has i (until at ns))
-  where
-    always : (x : Bool) → cond x true true ≡ true
-    always true = refl
-    always false = refl
+between_has i at to ns a b le h = ap (has i) (cut at to ns a b le).whole ∙ has_later i (until at ns) _ (has_first i _ (since to ns) h)
 
 since_has : (i at : ℕ) (ns : List Node) → has i (since at ns) ≡ true → has i ns ≡ true
-since_has i at ns h = ap (has i) (sym (until-since at ns)) ∙ has-append i (until at ns) (since at ns) ∙ ap (λ (x : Bool). cond (has i (until at ns)) true x) h ∙ always (has i (until at ns))
-  where
-    always : (x : Bool) → cond x true true ≡ true
-    always true = refl
-    always false = refl
+since_has i at ns h = ap (has i) (sym (until-since at ns)) ∙ has_later i (until at ns) _ h
 
 pub swapped_known : (p : Inside) (i j k : ℕ) → IsKept p → IsBoundary i p.buffer.nodes → IsBoundary j p.buffer.nodes → IsBoundary k p.buffer.nodes → i ≤ j → j ≤ k → AreBelow (length p.places) (between i k (swapped i j k p.buffer.nodes))
 swapped_known p i j k kept a b c h1 h2 =
@@ -161,6 +137,12 @@ exchanged_blocks p q i j k l kept r same t e h s =
 
 -- ---- one node more
 
+both_ways : (i id : ℕ) (h : Bool) → cond (eqb i id) true h ≡ cond h true (cond (eqb id i) true false)
+both_ways i id h = grind (arith, eqb-true, eq-eqb)
+
+among : (i id : ℕ) (x y : Bool) → cond (eqb i id) true (cond x true y) ≡ cond x true (cond (eqb id i) true y)
+among i id x y = grind (arith, eqb-true, eq-eqb)
+
 pub placed : (p q : Inside) (id : ℕ) (x : Payload) → IsKept p → IsLeastUnused id p.taken → q.taken ≡ set p.taken id true → q.places ≡ set p.places id (used p.buffer.nodes)
     → q.buffer ≡ record p.buffer { nodes = p.buffer.nodes ++ fresh id x ∷ [] } → IsContents q.buffer → IsKept q
 placed p q id x k u t s e h =
@@ -170,37 +152,8 @@ placed p q id x k u t s e h =
     let distinct = AreDistinct-append ns (n ∷ []) k.pool.distinct (refl, tt) (AreApart-sym (n ∷ []) ns (free, tt)) in
     let new : id < length p.places = omega (arith, u.inside, k.flags_length, k.places_length) in
     kept p q (ns ++ n ∷ []) k e h (ap length t ∙ length-set p.taken id true) (ap length s ∙ length-set p.places id (used ns)) distinct
-    (λ i. ap (flag i) t ∙ flag-set i id p.taken true u.inside ∙ ap (λ (b : Bool). cond (eqb i id) true b) (k.flags i) ∙ more i (eqb i id) (has i ns) refl ∙ sym (has-append i ns (n ∷ [])))
+    (λ i. ap (flag i) t ∙ flag-set i id p.taken true u.inside ∙ ap (λ (b : Bool). cond (eqb i id) true b) (k.flags i) ∙ both_ways i id (has i ns) ∙ sym (has-append i ns (n ∷ [])))
     (subst (ArePlacesOf (ns ++ n ∷ [])) (sym s) (pushed_places ns n p.places distinct new k.places))
-  where
-    more : (i : ℕ) (t h : Bool) → eqb i id ≡ t → cond t true h ≡ cond h true (cond (eqb id i) true false)
-    more i true h e = let back : eqb id i ≡ true = eq-eqb id i (sym (eqb-true i id e)) in rw back (either h)
-      where
-        either : (h : Bool) → true ≡ cond h true true
-        either true = refl
-        either false = refl
-    more i false h e = let back : eqb id i ≡ false = ne_eqb id i (λ q. eqb-false i id e (sym q)) in rw back (same h)
-      where
-        same : (h : Bool) → h ≡ cond h true false
-        same true = refl
-        same false = refl
-
--- before others
-neither : (x y : Bool) → cond x true y ≡ false → (x ≡ false) × (y ≡ false)
-neither true y h = absurd cc
-neither false y h = (refl, h)
-
-both_ways : (a b : ℕ) (t : Bool) → eqb a b ≡ t → eqb b a ≡ t
-both_ways a b true e = eq-eqb b a (sym (eqb-true a b e))
-both_ways a b false e = ne_eqb b a (λ q. eqb-false a b e (sym q))
-
-among : (i id : ℕ) (x y : Bool) → cond (eqb i id) true (cond x true y) ≡ cond x true (cond (eqb id i) true y)
-among i id x y = rw (both_ways id i (eqb id i) refl) (either x (eqb id i))
-  where
-    either : (x t : Bool) → cond t true (cond x true y) ≡ cond x true (cond t true y)
-    either true true = refl
-    either true false = refl
-    either false t = refl
 
 -- the nodes behind a place
 pub behind_known : (p : Inside) (to : ℕ) → IsKept p → AreBelow (length p.places) (since to p.buffer.nodes)
@@ -208,6 +161,9 @@ behind_known p to k = below (length p.places) _ (λ i h. inside p k i (since_has
 
 pub new_known : (p : Inside) (n : Node) (at : ℕ) → IsKept p → IsLeastUnused n.id p.taken → AreBelow (length p.places) (n ∷ since at p.buffer.nodes)
 new_known p n at k u = (omega (arith, u.inside, k.flags_length, k.places_length), behind_known p at k)
+
+fresh_distinct : (a : List Node) (n : Node) (c : List Node) → AreDistinct (a ++ c) → has n.id (a ++ c) ≡ false → AreDistinct (a ++ n ∷ c)
+fresh_distinct a n c d h = grind (arith, has-append, AreDistinct-parts, AreDistinct-append, AreApart-sym)
 
 pub placed_before : (p q : Inside) (n : Node) (at : ℕ) → IsKept p → IsBoundary at p.buffer.nodes → IsLeastUnused n.id p.taken → q.taken ≡ set p.taken n.id true → q.places ≡ noted at (n ∷ since at p.buffer.nodes) p.places
     → q.buffer ≡ record p.buffer { nodes = put_before at n p.buffer.nodes } → IsContents q.buffer → IsKept q
@@ -217,9 +173,7 @@ placed_before p q n at k b u t s e h =
     let c = since at ns in
     let whole : ns ≡ a ++ c = sym (until-since at ns) in
     let free : has n.id (a ++ c) ≡ false = ap (has n.id) (sym whole) ∙ sym (k.flags n.id) ∙ u.unused in
-    let no = neither _ _ (sym (has-append n.id a c) ∙ free) in
-    let d = AreDistinct-parts a c (subst AreDistinct whole k.pool.distinct) in
-    let distinct : AreDistinct (a ++ n ∷ c) = AreDistinct-append a (n ∷ c) d.0 (no.1, d.1) (AreApart-sym (n ∷ c) a (no.0, AreApart-sym a c d.2)) in
+    let distinct : AreDistinct (a ++ n ∷ c) = fresh_distinct a n c (subst AreDistinct whole k.pool.distinct) free in
     kept p q (a ++ n ∷ c) k e h (ap length t ∙ length-set p.taken n.id true) (ap length s ∙ length-noted at (n ∷ c) p.places) distinct
     (λ i. ap (flag i) t ∙ flag-set i n.id p.taken true u.inside ∙ ap (λ (x : Bool). cond (eqb i n.id) true x) (k.flags i ∙ ap (has i) whole ∙ has-append i a c) ∙ among i n.id (has i a) (has i c) ∙ sym (has-append i a (n ∷ c)))
     (subst (ArePlacesOf (a ++ n ∷ c)) (sym s)
@@ -232,15 +186,9 @@ room_unused p needed k h room = unused p.buffer.nodes p.taken k.flags (omega (ar
 -- ---- a block goes
 
 without_has : (i : ℕ) (a b c : List Node) → AreDistinct (a ++ (b ++ c)) → cond (has i b) false (has i (a ++ (b ++ c))) ≡ has i (a ++ c)
-without_has i a b c d = by_test (has i b) refl (AreDistinct-parts a (b ++ c) d)
-  where
-    by_test : (t : Bool) → has i b ≡ t → AreDistinct a × AreDistinct (b ++ c) × AreApart a (b ++ c) → cond t false (has i (a ++ (b ++ c))) ≡ has i (a ++ c)
-    by_test true e p =
-        let q = AreDistinct-parts b c p.1 in
-        let first : has i a ≡ false = not_both i b a (AreApart-sym a b (AreApart-parts a b c p.2).0) e in
-        let last : has i c ≡ false = not_both i b c q.2 e in
-        sym (has-append i a c ∙ or_is_false _ _ first last)
-    by_test false e p = has-append i a (b ++ c) ∙ ap (λ (x : Bool). cond (has i a) true x) (has-append i b c ∙ ap (λ (x : Bool). cond x true (has i c)) e) ∙ sym (has-append i a c)
+without_has i a b c d =
+    let p = AreDistinct-parts a (b ++ c) d in
+    grind (arith, has-append, not_both i b a (AreApart-sym a b (AreApart-parts a b c p.2).0), not_both i b c (AreDistinct-parts b c p.1).2)
 
 pub between_below : (p : Inside) (at to : ℕ) → IsKept p → IsBoundary at p.buffer.nodes → IsBoundary to p.buffer.nodes → at ≤ to → AreBelow (length p.taken) (between at to p.buffer.nodes)
 between_below p at to k a b le = below (length p.taken) _ (λ i h. flag_inside i p.taken (k.flags i ∙ between_has i at to p.buffer.nodes a b le h))

@@ -1,7 +1,7 @@
 -- Flags of identifiers, and the identifiers of nodes.
-use Rattle.node_pool.proofs.Shared.{get_or-set_other, get_or-set_same, Bool, List, [], ap, arith, cond, eqb, false, length, refl, set, subst, suc, sym, true, zero, ℕ, ◌<◌, ◌∙◌, ◌∷◌, ◌≡◌, ◌≢◌, eq-eqb}
+use Rattle.node_pool.proofs.Shared.{get_or-set_other, get_or-set_same, Bool, List, [], ap, arith, cond, eqb, false, length, refl, set, subst, suc, sym, true, zero, ℕ, ◌<◌, ◌∙◌, ◌∷◌, ◌≡◌, eq-eqb}
 use Rattle.node_pool.proofs.{Shared.{eqb-false, eqb-true, length-set, Node, AreBelow, AreFlagsOf, AreTakenBelow, HasUnused, flag, without_ids, has}, LeastFree.{holes}}
-use Rattle.std.proofs.Common.{inl, inr, ◌⊎◌}
+use Rattle.std.proofs.{Common.{inl, inr, ◌⊎◌}, lemmas.Bool.{cases_Bool, cases_eq}}
 
 -- ---- what goes
 
@@ -45,34 +45,23 @@ flag-without_ids i (n ∷ ns) flags h =
 -- every identifier of some nodes has a flag
 pub below : (len : ℕ) (ms : List Node) → ((i : ℕ) → has i ms ≡ true → i < len) → AreBelow len ms
 below len [] h = tt
-below len (n ∷ ms) h = (h n.id (ap (λ (b : Bool). cond b true (has n.id ms)) (eq-eqb n.id n.id refl)), below len ms (λ i k. h i (member i k (eqb n.id i))))
-  where
-    member : (i : ℕ) → has i ms ≡ true → (t : Bool) → cond t true (has i ms) ≡ true
-    member i k true = refl
-    member i k false = k
+below len (n ∷ ms) h = (h n.id (rw (eq-eqb n.id n.id refl) refl), below len ms (λ i k. h i (grind arith)))
 
 -- ---- what is not in use
 
 all_or_one : (k : ℕ) (flags : List Bool) → AreTakenBelow k flags ⊎ ((i : ℕ) × (i < k) × (flag i flags ≡ false))
 all_or_one zero flags = inl (λ i h. absurd (omega arith))
-all_or_one (suc k) flags = next (all_or_one k flags)
-  where
-    last : (b : Bool) → flag k flags ≡ b → AreTakenBelow k flags → AreTakenBelow (suc k) flags ⊎ ((i : ℕ) × (i < suc k) × (flag i flags ≡ false))
-    last true e h = inl (λ i lt. at_last i (eqb i k) refl lt)
-      where
-        at_last : (i : ℕ) (t : Bool) → eqb i k ≡ t → i < suc k → flag i flags ≡ true
-        at_last i true q lt = ap (λ (x : ℕ). flag x flags) (eqb-true i k q) ∙ e
-        at_last i false q lt = let ne : i ≢ k = eqb-false i k q in h i (omega arith)
-    last false e h = inr (k, omega arith, e)
-
-    next : AreTakenBelow k flags ⊎ ((i : ℕ) × (i < k) × (flag i flags ≡ false)) → AreTakenBelow (suc k) flags ⊎ ((i : ℕ) × (i < suc k) × (flag i flags ≡ false))
-    next (inl h) = last (flag k flags) refl h
-    next (inr r) = inr (r.0, omega (arith, r.1), r.2)
+all_or_one (suc k) flags = elim (all_or_one k flags) [
+  | inl h ↦ elim (cases_Bool (flag k flags)) [
+    | inl e ↦ inl (λ i lt. elim (cases_eq i k) [ inl q ↦ ap (λ (x : ℕ). flag x flags) q ∙ e | inr ne ↦ h i (omega (arith, ne)) ])
+    | inr e ↦ inr (k, omega arith, e)
+  ]
+  | inr r ↦ inr (r.0, omega (arith, r.1), r.2)
+]
 
 -- where there are fewer nodes than flags, one is not in use
 pub unused : (ns : List Node) (flags : List Bool) → AreFlagsOf ns flags → length ns < length flags → HasUnused flags
-unused ns flags h few = pick (all_or_one (length flags) flags)
-  where
-    pick : AreTakenBelow (length flags) flags ⊎ ((i : ℕ) × (i < length flags) × (flag i flags ≡ false)) → HasUnused flags
-    pick (inl all) = absurd (omega (arith, holes (length flags) ns (λ i lt. sym (h i) ∙ all i lt)))
-    pick (inr r) = record { id = r.0; inside = r.1; unused = r.2 }
+unused ns flags h few = elim (all_or_one (length flags) flags) [
+  | inl all ↦ absurd (omega (arith, holes (length flags) ns (λ i lt. sym (h i) ∙ all i lt)))
+  | inr r ↦ record { id = r.0; inside = r.1; unused = r.2 }
+]

@@ -1,8 +1,8 @@
 -- Places that are noted, and the places of nodes.
 use Rattle.node_pool.proofs.Shared.{get_or-set_other, get_or-set_same, Bool, List, [], ap, append-nil, append_assoc, arith, cond, eqb, false, length, refl, set, subst, sym, true, ℕ, ◌++◌}
-use Rattle.node_pool.proofs.Shared.{◌+◌, ◌-◌, ◌<◌, ◌∙◌, ◌∷◌, ◌≡◌, ◌≢◌, ◌≤◌, eqb-true, length-set, Node, size_of, AreBelow, place_in, noted, ArePlacesOf}
+use Rattle.node_pool.proofs.Shared.{◌+◌, ◌-◌, ◌<◌, ◌∙◌, ◌∷◌, ◌≡◌, ◌≤◌, eq-eqb, eqb-true, length-set, Node, size_of, AreBelow, place_in, noted, ArePlacesOf}
 use Rattle.node_pool.proofs.{Shared.{AreDistinct, has, place_of, used, IsBoundary, between, since, swapped, until, without}, Cuts.{cut3, since-append, until-append, until-since}}
-use Rattle.node_pool.proofs.{Ids.{AreApart, AreApart-parts, AreApart-sym, AreDistinct-parts, has-append, not_both}, Sizes.used-append, Splits.boundary-append}
+use Rattle.node_pool.proofs.{Ids.{AreApart-parts, AreApart-sym, AreDistinct-parts, has-append, not_both}, Sizes.used-append, Splits.boundary-append}
 
 pub length-noted : (at : ℕ) (ns : List Node) (ps : List ℕ) → length (noted at ns ps) ≡ length ps
 length-noted at [] ps = refl
@@ -20,39 +20,19 @@ noted_more places new ms rest n at id next e i s q h =
 
 -- ---- what is noted of a node
 
--- of a node that is not among these
-absent_step : (i : ℕ) (n : Node) (h t : Bool) → eqb n.id i ≡ t → cond t true h ≡ false → (n.id ≢ i) × (h ≡ false)
-absent_step i n h t e k = grind arith
-
 pub noted_other : (i at : ℕ) (ns : List Node) (ps : List ℕ) → has i ns ≡ false → place_in i (noted at ns ps) ≡ place_in i ps
 noted_other i at [] ps h = refl
-noted_other i at (n ∷ ns) ps h =
-    let no = absent_step i n (has i ns) (eqb n.id i) refl h in
-    noted_other i (at + size_of n) ns (set ps n.id at) no.1 ∙ get_or-set_other ps n.id i at 0 (λ e. no.0 (sym e))
-
--- of one among them
-noted_step : (i at : ℕ) (n : Node) (ns : List Node) (ps : List ℕ) (t : Bool) → eqb n.id i ≡ t → cond t true (has i ns) ≡ true → has n.id ns ≡ false → n.id < length ps
-    → (has i ns ≡ true → place_in i (noted (at + size_of n) ns (set ps n.id at)) ≡ at + size_of n + place_of i ns)
-    → place_in i (noted (at + size_of n) ns (set ps n.id at)) ≡ at + cond t 0 (size_of n + place_of i ns)
-noted_step i at n ns ps true e h d lt rec =
-    let same : n.id ≡ i = eqb-true n.id i e in
-    noted_other i (at + size_of n) ns (set ps n.id at) (ap (λ (k : ℕ). has k ns) (sym same) ∙ d) ∙ ap (λ (k : ℕ). place_in k (set ps n.id at)) (sym same) ∙ get_or-set_same ps n.id at 0 lt ∙ omega arith
-noted_step i at n ns ps false e h d lt rec = rec h ∙ omega arith
+noted_other i at (n ∷ ns) ps h = grind (arith, eq-eqb, get_or-set_other, noted_other i (at + size_of n) ns (set ps n.id at))
 
 pub noted_in : (i at : ℕ) (ns : List Node) (ps : List ℕ) → AreDistinct ns → AreBelow (length ps) ns → has i ns ≡ true → place_in i (noted at ns ps) ≡ at + place_of i ns
 noted_in i at [] ps d b h = absurd cc
-noted_in i at (n ∷ ns) ps d b h =
-    noted_step i at n ns ps (eqb n.id i) refl h d.0 b.0
-    (λ k. noted_in i (at + size_of n) ns (set ps n.id at) d.1 (subst (λ (j : ℕ). AreBelow j ns) (sym (length-set ps n.id at)) b.1) k)
+noted_in i at (n ∷ ns) ps d b h = grind (arith, eqb-true, length-set, noted_other, get_or-set_same, noted_in i (at + size_of n) ns (set ps n.id at) d.1)
 
 -- ---- the place of a node in two lists
 
-place_step : (t h : Bool) (s x u y : ℕ) (z : ℕ) → z ≡ cond h x (u + y) → cond t 0 (s + z) ≡ cond (cond t true h) (cond t 0 (s + x)) (s + u + y)
-place_step t h s x u y z e = grind arith
-
 pub place-append : (i : ℕ) (a b : List Node) → place_of i (a ++ b) ≡ cond (has i a) (place_of i a) (used a + place_of i b)
 place-append i [] b = omega arith
-place-append i (n ∷ a) b = place_step (eqb n.id i) (has i a) (size_of n) (place_of i a) (used a) (place_of i b) (place_of i (a ++ b)) (place-append i a b)
+place-append i (n ∷ a) b = grind (arith, place-append i a b)
 
 -- a node in place of one with the same identifier and the same size
 pub place-same : (a : List Node) (n m : Node) (b : List Node) (i : ℕ) → n.id ≡ m.id → size_of n ≡ size_of m → place_of i (a ++ m ∷ b) ≡ place_of i (a ++ n ∷ b)
@@ -67,28 +47,13 @@ pub record AreOutside (a m d : List Node) (ps : List ℕ) : Type 0 where
   pub behind : (i : ℕ) → has i d ≡ true → place_in i ps ≡ used a + (used m + place_of i d)
 
 pub renoted : (a m d : List Node) (ps : List ℕ) → AreDistinct (a ++ (m ++ d)) → AreBelow (length ps) m → AreOutside a m d ps → ArePlacesOf (a ++ (m ++ d)) (noted (used a) m ps)
-renoted a m d ps distinct below o i h = in_first (has i a) refl
-  where
-    parts : AreDistinct a × AreDistinct (m ++ d) × AreApart a (m ++ d)
-    parts = AreDistinct-parts a (m ++ d) distinct
-
-    rest : AreDistinct m × AreDistinct d × AreApart m d
-    rest = AreDistinct-parts m d parts.1
-
-    in_second : (t : Bool) → has i m ≡ t → has i a ≡ false → place_in i (noted (used a) m ps) ≡ used a + place_of i (m ++ d)
-    in_second true e none = noted_in i (used a) m ps rest.0 below e ∙ ap (λ (k : ℕ). used a + k) (sym (place-append i m d ∙ ap (λ (b : Bool). cond b (place_of i m) (used m + place_of i d)) e))
-    in_second false e none =
-        let third : has i d ≡ true = sym (has-append i m d ∙ ap (λ (b : Bool). cond b true (has i d)) e) ∙ sym (has-append i a (m ++ d) ∙ ap (λ (b : Bool). cond b true (has i (m ++ d))) none) ∙ h in
-        noted_other i (used a) m ps e ∙ o.behind i third ∙ ap (λ (k : ℕ). used a + k) (sym (place-append i m d ∙ ap (λ (b : Bool). cond b (place_of i m) (used m + place_of i d)) e))
-
-    in_first : (t : Bool) → has i a ≡ t → place_in i (noted (used a) m ps) ≡ place_of i (a ++ (m ++ d))
-    in_first true e =
-        let apart = AreApart-parts a m d parts.2 in
-        noted_other i (used a) m ps (not_both i a m apart.0 e) ∙ o.before i e ∙ sym (place-append i a (m ++ d) ∙ ap (λ (b : Bool). cond b (place_of i a) (used a + place_of i (m ++ d))) e)
-    in_first false e = in_second (has i m) refl e ∙ sym (place-append i a (m ++ d) ∙ ap (λ (b : Bool). cond b (place_of i a) (used a + place_of i (m ++ d))) e)
+renoted a m d ps distinct below o i h =
+    let p = AreDistinct-parts a (m ++ d) distinct in
+    let q = AreDistinct-parts m d p.1 in
+    grind (arith, has-append, place-append, noted_other, noted_in i (used a) m ps q.0 below, not_both i a m (AreApart-parts a m d p.2).0, o.before i, o.behind i)
 
 -- the same, from what was noted of the nodes when others stood in the middle
-or_true : (x : Bool) → cond x true true ≡ true
+pub or_true : (x : Bool) → cond x true true ≡ true
 or_true x = grind arith
 
 pub before_places : (a r : List Node) (ps : List ℕ) → ArePlacesOf (a ++ r) ps → (i : ℕ) → has i a ≡ true → place_in i ps ≡ place_of i a

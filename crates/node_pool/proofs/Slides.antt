@@ -1,6 +1,6 @@
 -- Bytes that move or go.
 use Rattle.node_pool.proofs.Shared.{List, ap, append_assoc, arith, drop, length, refl, replicate, sym, take, ℕ, ◌++◌, ◌+◌, ◌-◌, ◌∙◌, ◌≡◌, ◌≤◌, drop-drop, drop_at}
-use Rattle.node_pool.proofs.Shared.{length-append, length-drop, length-take-le, take-append-drop, take-take, take_at, cleared, put, rotated, slid, switched}
+use Rattle.node_pool.proofs.Shared.{length-append, length-take-le, take-append-drop, take-take, take_at, cleared, put, rotated, slid, switched}
 
 -- a part goes, what is behind it closes up, and zeros come to the end
 pub closed_up : (a b c z store s1 : List ℕ) (i len j : ℕ) → store ≡ a ++ (b ++ (c ++ z)) → length a ≡ i → length b ≡ len → length c ≡ j → s1 ≡ slid store (i + len) i j
@@ -57,35 +57,3 @@ switched_parts a x y z d store i k len e ha hx hy hz h =
     let two : take (k - (i + len)) (drop (i + len) store) ≡ y = ap (take (k - (i + len))) at-y ∙ take_at y (z ++ d) (k - (i + len)) hy in
     let three : take len (drop i store) ≡ x = ap (take len) at-x ∙ take_at x (y ++ (z ++ d)) len hx in
     rw (front, one, two, three, at-d) refl
-
--- four cuts of bytes
-four_parts : (store : List ℕ) (i k len : ℕ) → i + len ≤ k
-    → store ≡ take i store ++ (take len (drop i store) ++ (take (k - (i + len)) (drop (i + len) store) ++ (take len (drop k store) ++ drop (k + len) store)))
-four_parts store i k len h =
-    let behind : drop (k - (i + len)) (drop (i + len) store) ≡ drop k store = drop-drop (k - (i + len)) (i + len) store ∙ ap (λ (n : ℕ). drop n store) (omega arith) in
-    let last : drop k store ≡ take len (drop k store) ++ drop (k + len) store = sym (take-append-drop len (drop k store)) ∙ ap (λ (t : List ℕ). take len (drop k store) ++ t) (drop-drop len k store) in
-    let middle : drop (i + len) store ≡ take (k - (i + len)) (drop (i + len) store) ++ (take len (drop k store) ++ drop (k + len) store) =
-    sym (take-append-drop (k - (i + len)) (drop (i + len) store)) ∙ ap (λ (t : List ℕ). take (k - (i + len)) (drop (i + len) store) ++ t) (behind ∙ last) in
-    sym (take-append-drop i store) ∙ ap (λ (t : List ℕ). take i store ++ t) (sym (take-append-drop len (drop i store)) ∙ ap (λ (t : List ℕ). take len (drop i store) ++ t) (drop-drop len i store ∙ middle))
-
--- the second part goes before the first, and then what stood between them
-pub switched_twice : (store : List ℕ) (i k len : ℕ) → i + len ≤ k → k + len ≤ length store → switched store i k len ≡ rotated (rotated store i k (k + len)) (i + len) (i + len + len) (k + len)
-switched_twice store i k len h fits =
-    let a = take i store in
-    let x = take len (drop i store) in
-    let y = take (k - (i + len)) (drop (i + len) store) in
-    let z = take len (drop k store) in
-    let d = drop (k + len) store in
-    let s1 = rotated store i k (k + len) in
-    let whole = four_parts store i k len h in
-    let ha : length a ≡ i = length-take-le i store (omega arith) in
-    let hx : length x ≡ len = length-take-le len (drop i store) (omega (arith, length-drop i store)) in
-    let hy : length y ≡ k - (i + len) = length-take-le (k - (i + len)) (drop (i + len) store) (omega (arith, length-drop (i + len) store)) in
-    let hz : length z ≡ len = length-take-le len (drop k store) (omega (arith, length-drop k store)) in
-    let grouped : store ≡ a ++ ((x ++ y) ++ (z ++ d)) = whole ∙ ap (λ (t : List ℕ). a ++ t) (sym (append_assoc x y (z ++ d))) in
-    let first : s1 ≡ a ++ ((z ++ (x ++ y)) ++ d) = turned a (x ++ y) z d store i k (k + len) grouped ha (omega (arith, length-append x y)) (omega arith) (omega arith) (omega arith) in
-    let regrouped : a ++ ((z ++ (x ++ y)) ++ d) ≡ (a ++ z) ++ (x ++ (y ++ d)) = simp append_assoc in
-    let second : rotated s1 (i + len) (i + len + len) (k + len) ≡ (a ++ z) ++ ((y ++ x) ++ d) =
-    turned (a ++ z) x y d s1 (i + len) (i + len + len) (k + len) (first ∙ regrouped) (omega (arith, length-append a z)) (omega arith) (omega arith) (omega arith) (omega arith) in
-    let flat : a ++ (z ++ (y ++ (x ++ d))) ≡ (a ++ z) ++ ((y ++ x) ++ d) = sym (simp append_assoc) in
-    switched_parts a x y z d store i k len whole ha hx hy hz h ∙ flat ∙ sym second

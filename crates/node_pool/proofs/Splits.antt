@@ -1,28 +1,21 @@
 -- Changes of a list of nodes that is known in parts.
-use Rattle.node_pool.proofs.Shared.{Bool, List, [], ap, append_assoc, arith, cond, eqb, false, refl, subst, sym, true, ℕ, ◌++◌, ◌+◌, ◌-◌, ◌<◌, ◌∙◌, ◌∷◌, ◌≡◌, eq-eqb, Node, size_of, has, place_of}
+use Rattle.node_pool.proofs.Shared.{List, [], ap, append_assoc, arith, false, refl, subst, sym, ℕ, ◌++◌, ◌+◌, ◌-◌, ◌<◌, ◌∙◌, ◌∷◌, ◌≡◌, eq-eqb, Node, has, place_of}
 use Rattle.node_pool.proofs.{Shared.{used, with_children, with_count, IsBoundary, between, moved, since, swapped, until, without}, Sizes.used-append, Cuts.{since-append, until-append}}
 
 pub boundary-append : (a b : List Node) (at : ℕ) → at ≡ used a → IsBoundary at (a ++ b)
 boundary-append a b at e = ap (λ (k : ℕ). used (until k (a ++ b))) e ∙ ap used (until-append a b) ∙ sym e
 
--- the place of an identifier that is not before
-place_step : (t : Bool) (i : ℕ) (m : Node) (r s : ℕ) (b : Bool) → cond t true b ≡ false → (b ≡ false → r ≡ s) → cond t 0 (size_of m + r) ≡ size_of m + s
-place_step t i m r s b h k = grind arith
-
 pub place_of-append : (i : ℕ) (a : List Node) (n : Node) (b : List Node) → has i a ≡ false → n.id ≡ i → place_of i (a ++ n ∷ b) ≡ used a
-place_of-append i [] n b h e = ap (λ (t : Bool). cond t 0 (size_of n + place_of i b)) (eq-eqb n.id i e)
-place_of-append i (m ∷ a) n b h e = place_step (eqb m.id i) i m (place_of i (a ++ n ∷ b)) (used a) (has i a) h (λ k. place_of-append i a n b k e)
-
-count_step : (t : Bool) (c : ℕ) (m : Node) (xs ys : List Node) (b : Bool) → cond t true b ≡ false → (b ≡ false → xs ≡ ys) → (zs : List Node) → cond t zs (m ∷ xs) ≡ m ∷ ys
-count_step t c m xs ys b h k zs = grind arith
+place_of-append i [] n b h e = grind (arith, eq-eqb)
+place_of-append i (m ∷ a) n b h e = grind (arith, place_of-append i a n b)
 
 pub with_count-append : (i c : ℕ) (a : List Node) (n : Node) (b : List Node) → has i a ≡ false → n.id ≡ i → with_count i c (a ++ n ∷ b) ≡ a ++ record n { count = c } ∷ b
-with_count-append i c [] n b h e = ap (λ (t : Bool). cond t (record n { count = c } ∷ b) (n ∷ with_count i c b)) (eq-eqb n.id i e)
-with_count-append i c (m ∷ a) n b h e = count_step (eqb m.id i) c m (with_count i c (a ++ n ∷ b)) (a ++ record n { count = c } ∷ b) (has i a) h (λ k. with_count-append i c a n b k e) (record m { count = c } ∷ (a ++ n ∷ b))
+with_count-append i c [] n b h e = grind (arith, eq-eqb)
+with_count-append i c (m ∷ a) n b h e = grind (arith, with_count-append i c a n b)
 
 pub with_children-append : (i c : ℕ) (a : List Node) (n : Node) (b : List Node) → has i a ≡ false → n.id ≡ i → with_children i c (a ++ n ∷ b) ≡ a ++ record n { children = c } ∷ b
-with_children-append i c [] n b h e = ap (λ (t : Bool). cond t (record n { children = c } ∷ b) (n ∷ with_children i c b)) (eq-eqb n.id i e)
-with_children-append i c (m ∷ a) n b h e = count_step (eqb m.id i) c m (with_children i c (a ++ n ∷ b)) (a ++ record n { children = c } ∷ b) (has i a) h (λ k. with_children-append i c a n b k e) (record m { children = c } ∷ (a ++ n ∷ b))
+with_children-append i c [] n b h e = grind (arith, eq-eqb)
+with_children-append i c (m ∷ a) n b h e = grind (arith, with_children-append i c a n b)
 
 -- a block between two places
 pub between-append : (a x b : List Node) (i j : ℕ) → i ≡ used a → j ≡ used a + used x → between i j (a ++ (x ++ b)) ≡ x

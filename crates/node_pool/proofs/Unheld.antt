@@ -14,7 +14,6 @@ unheld_more trees ms n ns e some h =
     let no : eqb trees 0 ≡ false = ne_eqb trees 0 (λ q. absurd (omega arith)) in
     ap (unheld trees) e ∙ rw (no, le-leb n.count 1 h) refl
 
--- they stand first
 prefix_step : (t u : Bool) (n : Node) (a r ns : List Node) → a ++ r ≡ ns → (x : List Node) × (cond t [] (cond u (n ∷ a) []) ++ x ≡ n ∷ ns)
 prefix_step true u n a r ns e = (n ∷ ns, refl)
 prefix_step false true n a r ns e = (r, ap (λ (x : List Node). n ∷ x) e)

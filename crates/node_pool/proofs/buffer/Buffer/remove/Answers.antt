@@ -1,23 +1,14 @@
-use Rattle.node_pool.proofs.{Shared.{arith, refl, ◌+◌, ◌-◌, ap, ℕ, without}, Cuts.{boundary_le, between_few}, Fields.{IsDone, opened}, Changes.{done, removed}}
+use Rattle.node_pool.proofs.{Shared.{arith, refl, ◌+◌, ◌-◌, ap, ℕ, without}, Cuts.between_few, Fields.{IsDone, opened, within}, Changes.{done, removed}}
 use Rattle.node_pool.proofs.buffer.Buffer.remove.Goals as goal
 
 pub overflow_sub-rest : goal.overflow_sub-rest
-overflow_sub-rest c =
-    let o = opened c.self.inside c.args.self.now c.self.invariant c.self.view_is in
-    omega (arith, boundary_le c.args.end c.args.self.now.nodes c.requires.to, o.used, o.fits)
+overflow_sub-rest c = omega (arith, within _ _ c.args.end c.self.invariant c.self.view_is c.requires.to)
 
 pub slide-requires : goal.slide-requires
-slide-requires c =
-    let o = opened c.self.inside c.args.self.now c.self.invariant c.self.view_is in
-    record {
-      source = omega (arith, boundary_le c.args.end c.args.self.now.nodes c.requires.to, o.used, o.fits);
-      target = omega (arith, boundary_le c.args.end c.args.self.now.nodes c.requires.to, o.used, o.fits);
-    }
+slide-requires c = let w = within _ _ c.args.end c.self.invariant c.self.view_is c.requires.to in record { source = omega (arith, w.low, w.fits); target = omega (arith, w.low, w.fits) }
 
 pub clear-requires-clause-order : goal.clear-requires-clause-order
-clear-requires-clause-order c =
-    let o = opened c.self.inside c.args.self.now c.self.invariant c.self.view_is in
-    omega (arith, boundary_le c.args.end c.args.self.now.nodes c.requires.to, o.used, o.fits)
+clear-requires-clause-order c = omega (arith, within _ _ c.args.end c.self.invariant c.self.view_is c.requires.to)
 
 pub overflow_sub-self : goal.overflow_sub-self
 overflow_sub-self c =
