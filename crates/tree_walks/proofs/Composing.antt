@@ -99,8 +99,7 @@ split x u ks ls =
     (sum, ap (λ (n : ℕ). n * size u) sum ∙ omega arith)
 
 symbol_bytes : (x y : List ℕ) (u : Tree) → size (cond (bytes_eq y x) u (symbol y)) + occurrences x (symbol y) * root_size (symbol x) ≡ root_size (symbol y) + occurrences x (symbol y) * size u
-symbol_bytes x y u =
-    by_test (λ t. size (cond t u (symbol y)) + (0 + cond t 1 0) * root_size (symbol x) ≡ root_size (symbol y) + (0 + cond t 1 0) * size u) (bytes_eq y x) (λ e. omega arith) (λ e. omega arith)
+symbol_bytes x y u = grind arith
 
 mutual
   bytes : (x : List ℕ) (u t : Tree) → size (replaced x u t) + occurrences x t * root_size (symbol x) ≡ size t + occurrences x t * size u

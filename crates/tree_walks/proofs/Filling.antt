@@ -1,6 +1,6 @@
 -- A name is replaced in the last tree: how it begins, goes on and ends, and what finds room.
-use Rattle.tree_walks.proofs.Shared.{◌≡◌, ℕ, zero, suc, ◌+◌, ◌-◌, ◌<◌, ◌≤◌, List, ◌∷◌, ◌++◌, length, refl, sym, ap, ◌∙◌, subst, arith, append_assoc, inl, inr, true, false, [], le-leb, lt-leb}
-use Rattle.tree_walks.proofs.Shared.{length-append, Payload, rational, named, bare, Tree, Trees, symbol, none, more, size, root_size, State, free_of, nth, grown, plains, plain, AllExpressions}
+use Rattle.tree_walks.proofs.Shared.{◌≡◌, ℕ, suc, ◌+◌, ◌-◌, ◌<◌, ◌≤◌, List, ◌∷◌, ◌++◌, length, refl, sym, ap, ◌∙◌, subst, arith, append_assoc, inl, inr, true, false, [], le-leb, lt-leb}
+use Rattle.tree_walks.proofs.Shared.{length-append, Payload, Tree, Trees, symbol, none, more, size, root_size, State, free_of, nth, grown, plains, plain, AllExpressions}
 use Rattle.tree_walks.proofs.Shared.{IsExpression, Label, Forest, empty, tree, join, arity, kids, root_id, root_count, root_payload, flatten, set_nth, tree_nth, bytes_in, AllOnce, IsOwned, Ends}
 use Rattle.tree_walks.proofs.Shared.{Gives, IsHanded, KeepsFront, tree_of, holds, tree_at, kids_of, with_kids, payload_in, without_root, Stands, forest, KeepsRefusals, IsRefused, Refuses, Distinct}
 use Rattle.tree_walks.proofs.Shared.{distinct, distinct_parts, other_id, clear_front, arity-tree_nth, bytes_in-join, flatten-join, keeps_none, keeps_after, refuses_after, given_handed, given_other}
@@ -16,9 +16,8 @@ use Rattle.tree_handles.proofs.Room.{given_free, released_free}
 -- ---- a leaf goes
 
 once_leaf : (t : Forest) → arity t ≡ 1 → kids t ≡ empty → root_count t ≡ 1 → AllOnce t
-once_leaf empty a k c = tt
 once_leaf (tree l b empty) a k c = (c, subst AllOnce (sym k) tt, tt)
-once_leaf (tree l b (tree m j s)) a k c = absurd (omega arith)
+once_leaf t a k c = absurd (omega arith)
 
 -- it stands last, and no other root is held by its handle
 pub record IsLastLeaf (t others : Forest) (h : ℕ) (s : State) : Type 0 where
@@ -124,15 +123,10 @@ leaves_now {i = i} {x = x} w = ap (leaves_of x) (tree_of_root i w.stands (last_r
 
 apart : (i : ℕ) (f g : Forest) → Distinct (join f g) → holds i g ≡ true → holds i f ≡ false
 apart i empty g d h = refl
-apart i (tree l k r) g d h =
-    let p = distinct_parts l k (join r g) d in
-    let behind = holds-right i r g h in
-    rw (other_id l.id i (join r g) p.not_behind behind, p.apart i behind) (apart i r g p.behind h)
+apart i (tree l k r) g d h = let p = distinct_parts l k (join r g) d in grind (arith, holds-right, other_id, p.apart i, apart i r g p.behind)
 
 not_root : (x : List ℕ) (t : Forest) (l : Label) (at : ℕ) → arity t ≡ 1 → at < arity t → tree_nth at t ≡ tree l empty empty → has_name x l.payload ≡ true → has_name x (root_payload t) ≡ false → ⊥
-not_root x empty l at a h e p q = absurd (omega arith)
-not_root x (tree m k r) l zero a h e p q = let same : m ≡ l = cc in cc (p, q, ap (λ (y : Label). has_name x y.payload) same)
-not_root x (tree m k r) l (suc at) a h e p q = absurd (omega arith)
+not_root x t l at a h e p q = grind arith
 
 pub record IsNext (i : ℕ) (x : List ℕ) (u : Tree) (start s : State) (n j : ℕ) (rest : List ℕ) : Type 0 where
   pub at : ℕ
@@ -180,9 +174,8 @@ next {i = i} {n = n} {j = j} {x = x} {rest = rest} {u = u} {start = start} {s = 
     }
   where
     one_tree : (c : Forest) {t : Tree} → plains c ≡ more t none → arity c ≡ 1
-    one_tree empty e = absurd cc
     one_tree (tree l k empty) e = refl
-    one_tree (tree l k (tree m b r)) e = absurd cc
+    one_tree c e = absurd cc
 
 -- ---- it ends
 
@@ -228,13 +221,10 @@ pub record IsLeaf (x : List ℕ) (u t : Tree) : Type 0 where
   pub bytes : size t ≡ root_size (symbol x)
 
 leaf_told : (x : List ℕ) (u : Tree) (q : Payload) (ts : Trees) → has_name x q ≡ true → IsLeaf x u (grown q ts)
-leaf_told x u (rational r) ts h = absurd cc
-leaf_told x u (named y) ts h = record { count = rw h refl; told = rw h refl; bytes = refl }
-leaf_told x u (bare k) ts h = absurd cc
+leaf_told x u q ts h = grind arith
 
 leaf_tree : (x : List ℕ) (u : Tree) (t : Forest) → arity t ≡ 1 → has_name x (root_payload t) ≡ true → IsLeaf x u (plain t)
-leaf_tree x u empty a h = absurd (omega arith)
-leaf_tree x u (tree l k r) a h = leaf_told x u l.payload (plains k) h
+leaf_tree x u t a h = grind (arith, leaf_told)
 
 pub leaf : {i : ℕ} {s : State} {Told : Tree → Type 0} (x : List ℕ) (u : Tree) → Stands s → Gives (without_root i (forest s)) (forest s) i Told
     → has_name x (payload_in i (forest s)) ≡ true → IsLeaf x u (tree_of i s)

@@ -1,6 +1,6 @@
 -- A leaf of a name among the nodes of some trees, and what comes of these where another tree stands in its place.
 use Rattle.tree_walks.proofs.Shared.{◌≡◌, ℕ, suc, ◌+◌, ◌-◌, ◌<◌, List, [], ◌∷◌, ◌++◌, length, cond, eqb, refl, sym, ap, ◌∙◌, arith, append_assoc, inl, inr}
-use Rattle.tree_walks.proofs.Shared.{true, false, ◌⊎◌, eq-eqb, length-append, Payload, rational, named, bare, size_of_payload, Tree, Trees, symbol, none, more, append, root_size, grown}
+use Rattle.tree_walks.proofs.Shared.{true, false, ◌⊎◌, eq-eqb, length-append, Payload, size_of_payload, Tree, Trees, symbol, none, more, append, root_size, grown}
 use Rattle.tree_walks.proofs.Shared.{plains, takes, IsWhole, AllExpressions, Label, Forest, empty, tree, join, arity, root_id, root_payload, set_nth, tree_nth, bytes_in, IsOnce, AllOnce, holds}
 use Rattle.tree_walks.proofs.Shared.{kids_of, with_kids, Distinct, distinct_parts, other_id, all-join, arity-join, bytes_in-join, by_test, has_name, leaves_of}
 use Rattle.tree_walks.proofs.{LeafLists.{leaves_at, one_or_none, later, later_root, later-all, later-root, later-join, leaves-join}, Names.leaf_alone}
@@ -92,9 +92,7 @@ pub record IsHole (x : List ℕ) (f : Forest) (passed : List ℕ) (i : ℕ) (res
   pub whole : (c : Forest) → arity c ≡ 1 → AllExpressions c → AllExpressions (fill c)
 
 pub leaf_size : (x : List ℕ) (q : Payload) → has_name x q ≡ true → size_of_payload q ≡ root_size (symbol x)
-leaf_size x (rational r) h = absurd cc
-leaf_size x (named y) h = refl
-leaf_size x (bare k) h = absurd cc
+leaf_size x q h = grind arith
 
 -- it stands first
 hole_here : (x : List ℕ) (l : Label) (r : Forest) → has_name x l.payload ≡ true → AllOnce (tree l empty r) → AllExpressions (tree l empty r) → IsHole x (tree l empty r) [] l.id (leaves_of x r)

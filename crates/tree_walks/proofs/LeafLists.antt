@@ -1,6 +1,7 @@
 -- The leaves of a name, in prefix order, and what comes of them one after another.
-use Rattle.tree_walks.proofs.Shared.{◌≡◌, ℕ, ◌+◌, ◌-◌, ◌≤◌, List, [], ◌∷◌, ◌++◌, length, cond, eqb, refl, sym, ap, ◌∙◌, arith, append_assoc, Bool, true, false, ne_eqb, length-append, Payload, Tree}
-use Rattle.tree_walks.proofs.Shared.{Trees, none, more, append, grown, plains, plain, AllExpressions, Label, Forest, empty, tree, join, arity, nodes_in, by_test, alone, replaced, replaced_in}
+use Rattle.tree_walks.proofs.Shared.{◌≡◌, ℕ, ◌+◌, ◌-◌, ◌≤◌, List, [], ◌∷◌, ◌++◌, length, cond, eqb, refl, ap, ◌∙◌, arith, append_assoc, Bool, true, false, eq-eqb, ne_eqb, length-append}
+use Rattle.tree_walks.proofs.Shared.{Payload, Tree, Trees, none, more, append, grown, plains, plain, AllExpressions, Label, Forest, empty, tree, join, arity, nodes_in, alone}
+use Rattle.tree_walks.proofs.Shared.{replaced_in}
 use Rattle.tree_walks.proofs.{Shared.{occurrences, has_name, leaves_of}, Names.{named_in, named-tree, occurrences_in, occurrences-alone, replaced-other, replaced-named}}
 
 -- how many there are at a node and below it
@@ -16,10 +17,7 @@ leaves-length x l k r = omega (arith, length-append (cond (has_name x l.payload)
 
 pub leaves-join : (x : List ℕ) (f g : Forest) → leaves_of x (join f g) ≡ leaves_of x f ++ leaves_of x g
 leaves-join x empty g = refl
-leaves-join x (tree l k r) g =
-    let here = cond (has_name x l.payload) (l.id ∷ []) [] in
-    ap (λ (y : List ℕ). here ++ (leaves_of x k ++ y)) (leaves-join x r g) ∙ ap (λ (y : List ℕ). here ++ y) (sym (append_assoc (leaves_of x k) (leaves_of x r) (leaves_of x g)))
-    ∙ sym (append_assoc here (leaves_of x k ++ leaves_of x r) (leaves_of x g))
+leaves-join x (tree l k r) g = rw (leaves-join x r g) (simp append_assoc)
 
 -- as many as the name occurs, and no more than there are nodes
 pub leaves-named : (x : List ℕ) (f : Forest) → AllExpressions f → length (leaves_of x f) ≡ named_in x f
@@ -49,22 +47,11 @@ later x u n (tree l k r) = more (later_root x u n l.payload (later x u n k)) (la
 -- where no leaf is left out
 pub later-none : (x : List ℕ) (u : Tree) (n : ℕ) (f : Forest) → n ≡ 0 → later x u n f ≡ replaced_in x u (plains f)
 later-none x u n empty z = refl
-later-none x u n (tree l k r) z =
-    let rest : later x u (n - leaves_at x l k) r ≡ replaced_in x u (plains r) = later-none x u (n - leaves_at x l k) r (omega arith) in
-    let root : later_root x u n l.payload (later x u n k) ≡ replaced x u (grown l.payload (plains k)) =
-    by_test (λ b. has_name x l.payload ≡ b → cond b (cond (eqb n 0) u (grown l.payload (later x u n k))) (grown l.payload (later x u n k)) ≡ replaced x u (grown l.payload (plains k))) (has_name x l.payload)
-    (λ e q. ap (λ (m : ℕ). cond (eqb m 0) u (grown l.payload (later x u n k))) z ∙ sym (replaced-named x u l.payload (plains k) q))
-    (λ e q. ap (grown l.payload) (later-none x u n k z) ∙ sym (replaced-other x u l.payload (plains k) q)) refl in
-    cc (root, rest)
+later-none x u n (tree l k r) z = grind (arith, eq-eqb, replaced-named, replaced-other, later-none x u n k, later-none x u (n - leaves_at x l k) r)
 
 -- and where all are
 passed_root : (x : List ℕ) (u : Tree) (n : ℕ) (l : Label) (k : Forest) → leaves_at x l k ≤ n → later x u n k ≡ plains k → later_root x u n l.payload (later x u n k) ≡ grown l.payload (plains k)
-passed_root x u n l k h below =
-    by_test (λ b. has_name x l.payload ≡ b → cond b (cond (eqb n 0) u (grown l.payload (later x u n k))) (grown l.payload (later x u n k)) ≡ grown l.payload (plains k)) (has_name x l.payload)
-    (λ e q.
-    let some : eqb n 0 ≡ false = ne_eqb n 0 (λ z. absurd (omega (arith, h, z, ap {B = ℕ} (λ (b : Bool). cond b 1 0) q))) in
-    ap (λ (b : Bool). cond b u (grown l.payload (later x u n k))) some ∙ ap (grown l.payload) below)
-    (λ e q. ap (grown l.payload) below) refl
+passed_root x u n l k h below = grind (arith, ne_eqb)
 
 pub later-all : (x : List ℕ) (u : Tree) (n : ℕ) (f : Forest) → length (leaves_of x f) ≤ n → later x u n f ≡ plains f
 later-all x u n empty h = refl

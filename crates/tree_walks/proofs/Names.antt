@@ -1,9 +1,8 @@
 -- Names and replaced names, node by node.
 use Rattle.tree_walks.proofs.Shared.{◌≡◌, ℕ, zero, suc, ◌+◌, List, cond, refl, sym, ap, ◌∙◌, arith, Bool, true, false, count_by, bytes_eq, bytes_eq-Decides, eqb-true, name_of}
-use Rattle.tree_walks.proofs.Shared.{append-nil, sum_by-append, Payload, rational, named, bare, Tree, num, symbol, undef, power, root, neg, sub, div, Trees, none, more, names, names_of, nth}
+use Rattle.tree_walks.proofs.Shared.{append-nil, sum_by-append, Payload, Tree, symbol, Trees, none, more, names, names_of, nth}
 use Rattle.tree_walks.proofs.Shared.{compound, grown, plains, takes, AllExpressions, children_of, Label, Forest, empty, tree, arity, grown_whole, replaced, replaced_in, occurrences, has_name}
 use Rattle.calc_terms.specs.{Name.{before_zero, padded}, declared.name.Name.Name, declared.kind.Kind.Kind}
-use Rattle.calc_terms.specs.declared.kind.Kind.TheVariants as kind
 
 -- ---- how often a name occurs
 
@@ -20,23 +19,13 @@ at_root x (symbol y) = cond (bytes_eq y x) 1 0
 at_root x t = 0
 
 count_node : (x : List ℕ) (t : Tree) → occurrences x t ≡ at_root x t + occurrences_in x (children_of t)
-count_node x (num q) = refl
-count_node x undef = refl
-count_node x (power b e) = rw (append-nil (names e)) (omega arith)
-count_node x (root a) = rw (append-nil (names a)) (omega arith)
-count_node x (neg a) = rw (append-nil (names a)) (omega arith)
-count_node x (sub a b) = rw (append-nil (names b)) (omega arith)
-count_node x (div a b) = rw (append-nil (names b)) (omega arith)
-count_node x t = omega arith
+count_node x t = grind (arith, append-nil)
 
 no_name : (x : List ℕ) (k : Kind) (ts : Trees) → at_root x (compound k ts) ≡ 0
-no_name x kind.Add ts = refl
-no_name x k ts = refl
+no_name x k ts = grind arith
 
 at_grown : (x : List ℕ) (q : Payload) (ts : Trees) → at_root x (grown q ts) ≡ cond (has_name x q) 1 0
-at_grown x (rational r) ts = refl
-at_grown x (named y) ts = refl
-at_grown x (bare k) ts = no_name x k ts
+at_grown x q ts = grind (arith, no_name)
 
 -- at a node of the language, below it and behind it
 pub named-tree : (x : List ℕ) (l : Label) (k r : Forest) → AllExpressions (tree l k r) → named_in x (tree l k r) ≡ cond (has_name x l.payload) 1 0 + (named_in x k + named_in x r)
@@ -57,29 +46,18 @@ nth-replaced x u zero (more t ts) = refl
 nth-replaced x u (suc n) (more t ts) = nth-replaced x u n ts
 
 replaced-compound : (x : List ℕ) (u : Tree) (k : Kind) (ts : Trees) → replaced x u (compound k ts) ≡ compound k (replaced_in x u ts)
-replaced-compound x u kind.Pow ts = cc (nth-replaced x u 0 ts, nth-replaced x u 1 ts)
-replaced-compound x u kind.Root ts = cc (nth-replaced x u 0 ts)
-replaced-compound x u kind.Neg ts = cc (nth-replaced x u 0 ts)
-replaced-compound x u kind.Sub ts = cc (nth-replaced x u 0 ts, nth-replaced x u 1 ts)
-replaced-compound x u kind.Div ts = cc (nth-replaced x u 0 ts, nth-replaced x u 1 ts)
-replaced-compound x u k ts = refl
+replaced-compound x u k ts = grind (arith, nth-replaced)
 
 -- a node other than a leaf of the name stays, and such a leaf becomes the tree
 pub replaced-other : (x : List ℕ) (u : Tree) (q : Payload) (ts : Trees) → has_name x q ≡ false → replaced x u (grown q ts) ≡ grown q (replaced_in x u ts)
-replaced-other x u (rational r) ts h = refl
-replaced-other x u (named y) ts h = ap (λ (b : Bool). cond b u (symbol y)) h
-replaced-other x u (bare k) ts h = replaced-compound x u k ts
+replaced-other x u q ts h = grind (arith, replaced-compound)
 
 pub replaced-named : (x : List ℕ) (u : Tree) (q : Payload) (ts : Trees) → has_name x q ≡ true → replaced x u (grown q ts) ≡ u
-replaced-named x u (rational r) ts h = absurd cc
-replaced-named x u (named y) ts h = ap (λ (b : Bool). cond b u (symbol y)) h
-replaced-named x u (bare k) ts h = absurd cc
+replaced-named x u q ts h = grind arith
 
 -- a leaf of the name has no children
 leaf_takes : (x : List ℕ) (q : Payload) (n : ℕ) → has_name x q ≡ true → takes q n ≡ true → n ≡ 0
-leaf_takes x (rational r) n h e = absurd cc
-leaf_takes x (named y) n h e = eqb-true n 0 e
-leaf_takes x (bare k) n h e = absurd cc
+leaf_takes x q n h e = grind (arith, eqb-true)
 
 no_trees : (f : Forest) → arity f ≡ 0 → f ≡ empty
 no_trees empty h = refl
