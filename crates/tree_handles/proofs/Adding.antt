@@ -72,13 +72,14 @@ added n i ci from end to s st live root apart told h =
     let whole : ns ≡ flatten left ++ (flatten t ++ flatten right) = st.flat ∙ ap flatten split ∙ simp flatten-join in
     let x = span ci from end t (flatten left) (flatten right) ns st.pool.distinct single (root_id-root_tree ci f root) whole told in
     let p = at i f live in
-    let few : arity (kids_of i f) + 1 ≤ length ns = omega (
+    let k = kids_of i f in
+    let few : arity k + 1 ≤ length ns = omega (
       arith,
       ap length (st.flat ∙ p.flat),
-      length-append p.before
-          (node_of p.label (kids_of i f) ∷ (flatten (kids_of i f) ++ p.after)),
-      length-append (flatten (kids_of i f)) p.after,
-      arity_le (kids_of i f),
+      length-append p.before (node_of p.label k ∷ (flatten k ++ p.after)),
+      length-append
+          (flatten k) p.after,
+      arity_le k,
     ) in
     elim (cases_Bool (holds i left)) [
       | inl inside ↦

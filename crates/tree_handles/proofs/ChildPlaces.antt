@@ -155,13 +155,8 @@ placed n i x s st h =
 -- what stands before a child rises with its place
 rises : (n m : ℕ) (f : Forest) → n < m → m ≤ arity f → used (flatten (first_trees n f)) < used (flatten (first_trees m f))
 rises zero (suc m) (tree l k r) lt h = omega (arith, size_from (node_of l k))
-rises (suc n) (suc m) (tree l k r) lt h = omega (
-  arith,
-  used-append (flatten k) (flatten (first_trees n r)),
-  used-append (flatten k) (flatten (first_trees m r)),
-  rises n m r (omega arith)
-      (omega arith),
-)
+rises (suc n) (suc m) (tree l k r) lt h =
+    omega (arith, used-append (flatten k) (flatten (first_trees n r)), used-append (flatten k) (flatten (first_trees m r)), rises n m r (omega arith) (omega arith))
 rises n m f lt h = absurd (omega arith)
 
 -- two children are in the order of the places where they begin

@@ -91,10 +91,7 @@ pub record IsChild (n i : ℕ) (f : Forest) : Type 0 where
   pub tree-is : tree_at (root_id (tree_nth n (kids_of i f))) f ≡ tree_nth n (kids_of i f)
 
 pub child_tree : (n i : ℕ) (f : Forest) → Distinct f → n < arity (kids_of i f) → IsChild n i f
-child_tree n i f d h =
-    let t = tree_at i f in
-    let b = child_below n t (distinct-tree_at i f d) (arity-tree_at i f (some_kids t n h)) h in
-    record { live = holds-tree_at i (root_id (tree_nth n (kids t))) f b.0; tree-is = tree_at-inside i (root_id (tree_nth n (kids t))) f d b.0 ∙ b.1 }
+child_tree n i f d h = let b = child_below n (tree_at i f) (distinct-tree_at i f d) (arity-tree_at i f (some_kids (tree_at i f) n h)) h in grind (arith, holds-tree_at, tree_at-inside)
 
 -- a node with children is a node
 pub held_parent : (n i : ℕ) (f : Forest) → n < arity (kids_of i f) → holds i f ≡ true

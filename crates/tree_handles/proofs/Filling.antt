@@ -75,19 +75,8 @@ pub record IsOpen (i n j : ℕ) (old : Forest) (s : State) : Type 0 where
 
 pub is_open : {p : Place} {i n j : ℕ} {old : Forest} {s : State} → Stands s → IsHanded j (forest s) → IsHole p i n old (without_root j (forest s)) → IsOpen i n j old s
 is_open {i = i} {n = n} {j = j} {old = old} {s = s} st k h =
-    let f : Forest = forest s in
-    let ks : Forest = kids (root_tree i old) in
-    let there : has_root i (without_root j f) ≡ true = ap (has_root i) h.whole ∙ root-put i i (without_nth n ks) old ∙ h.handed.root in
-    let other : eqb j i ≡ false = other_beside i j f (distinct s st) there in
-    let root : has_root i f ≡ true = sym (root-without j i f other) ∙ there in
-    let are : kids (root_tree i f) ≡ without_nth n ks = ap kids (sym (tree-without j i f other)) ∙ ap (λ (x : Forest). kids (root_tree i x)) h.whole ∙ kids-put i (without_nth n ks) old h.handed.root in
     let l = handed_kids h.handed h.within in
-    record {
-      root = root;
-      within = omega (arith, ap arity (kids_of_root i st root), ap arity are, arity-without_nth n ks l, l);
-      apart = apart i j st (eqb-sym j i other) root k.root;
-      kids-are = are;
-    }
+    grind (arith, root-put, other_beside, distinct, root-without, tree-without, kids-put, kids_of_root, arity-without_nth n (kids (root_tree i old)) l, l, apart, eqb-sym)
 
 -- ---- the tree with another child
 

@@ -89,12 +89,9 @@ unfolding forest_of
 forest_of-flatten empty ns = refl
 forest_of-flatten (tree l k r) ns = grind (arith, append_assoc, first_trees-join, rest_trees-join, forest_of-flatten k (flatten r ++ ns), forest_of-flatten r ns)
 
-forest_of-nil : forest_of [] ≡ empty
-unfolding forest_of
-forest_of-nil = refl
-
 pub forest_of_whole : (f : Forest) → forest_of (flatten f) ≡ f
-forest_of_whole f = ap forest_of (sym (append-nil (flatten f))) ∙ forest_of-flatten f [] ∙ ap (join f) forest_of-nil ∙ join-empty f
+unfolding forest_of
+forest_of_whole f = ap forest_of (sym (append-nil (flatten f))) ∙ forest_of-flatten f [] ∙ join-empty f
 
 -- the trees of a forest are skipped
 pub skip-flatten : (f : Forest) (k : ℕ) (ns : List Node) → skip (arity f + k) (flatten f ++ ns) ≡ skip k ns

@@ -1,7 +1,7 @@
 -- Free bytes and those of handed trees, from one pool to the next.
-use Rattle.tree_handles.proofs.Shared.{◌≡◌, ℕ, ◌+◌, ◌≤◌, true, false, eqb, ap, ◌∙◌, subst, arith, ◌<◌, Tree, size, used, State, free_of, plain, Forest, empty, tree, bytes_in}
+use Rattle.tree_handles.proofs.Shared.{◌≡◌, ℕ, ◌+◌, ◌≤◌, true, false, eqb, ap, subst, arith, ◌<◌, Tree, size, used, State, free_of, plain, Forest, empty, tree, bytes_in}
 use Rattle.tree_handles.proofs.{Shared.{IsHanded, tree_of, Gives, has_root, root_tree, without_root, Stands, forest, KeepsRefusals, IsRefused, Full}, Plains.size-plain}
-use Rattle.tree_handles.proofs.{Given.handed_beside, Lasts.last_tree, Forests.{bytes-flatten, bytes_in-join}, Roots.{root_arity, tree-without}, Places.{used_forest}}
+use Rattle.tree_handles.proofs.{Given.handed_beside, Lasts.last_tree, Forests.{bytes_in-join}, Roots.{root_arity, tree-without}, Places.{used_forest}}
 
 -- ---- bytes
 
@@ -9,12 +9,9 @@ pub bytes_without : (i : ℕ) (f : Forest) → has_root i f ≡ true → bytes_i
 bytes_without i empty h = cc
 bytes_without i (tree l k r) h = grind (arith, bytes_without i r)
 
-bytes_used : (s : State) → Stands s → used s.nodes ≡ bytes_in (forest s)
-bytes_used s st = ap used st.flat ∙ bytes-flatten (forest s)
-
 -- the bytes of a tree that goes are free
 pub room_of : (i : ℕ) (s t : State) → Stands s → Stands t → KeepsRefusals s t → IsHanded i (forest s) → forest t ≡ without_root i (forest s) → size (plain (root_tree i (forest s))) ≤ free_of t
-room_of i s t h k l m e = grind (arith, size-plain, root_arity, bytes_without, bytes_used)
+room_of i s t h k l m e = grind (arith, size-plain, root_arity, bytes_without, used_forest)
 
 pub all_bytes : (s : State) → Stands s → free_of s + bytes_in (forest s) ≡ s.size
 all_bytes s st = let fits : used s.nodes ≤ s.size = st.pool.fits in omega (arith, fits, used_forest s st)

@@ -66,15 +66,10 @@ with_kids_root n t = grind arith
 -- a root from those before it
 pub takes_root : {i : ℕ} {t g f new : Forest} (j at : ℕ) → Ends i t g f → has_root j g ≡ true → new ≡ put i (with_nth at (root_tree j f) (kids (root_tree i f))) (without_root j f)
     → Ends i (with_root_kids (with_nth at (root_tree j g) (kids t)) t) (without_root j g) new
-takes_root {i = i} {t = t} {g = g} {f = f} {new = new} j at h r e =
+takes_root {t = t} {g = g} j at h r e =
     let still = ends_without j h r in
-    let n = with_nth at (root_tree j g) (kids t) in
-    record {
-      whole = e ∙ rw (other_tree j h r, last_tree h) (last_put n still);
-      alone = with_kids_alone n t ∙ h.alone;
-      root = with_kids_root n t ∙ h.root;
-      clear = still.clear;
-    }
+    let whole = e ∙ rw (other_tree j h r, last_tree h) (last_put (with_nth at (root_tree j g) (kids t)) still) in
+    record { whole = whole; alone = with_kids_alone _ t ∙ h.alone; root = with_kids_root _ t ∙ h.root; clear = still.clear }
 
 -- the tree just before it
 pub takes_next : {i j : ℕ} {t u g f two new : Forest} (at : ℕ) → Ends j u g f → Ends i t f two → new ≡ put i (with_nth at (root_tree j two) (kids (root_tree i two))) (without_root j two)

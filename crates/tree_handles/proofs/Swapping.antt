@@ -127,6 +127,8 @@ merges i n from next s st within b r =
     let new-is : flatten new ≡ one ++ (y ++ z) = ap (λ (t : Forest). flatten (set_nth n t k)) below ∙ ap (λ (t : Forest). flatten (join (first_trees n k) (join q.below (rest_trees 1 t)))) q.rest
     ∙ simp flatten-join in
     let new-arity : arity new + 1 ≡ arity k + arity (kids (tree_nth n k)) = arity-set_nth n (kids (tree_nth n k)) k within in
+    let counts : arity k + arity (kids (tree_nth n k)) ≤ length one + 1 + length y + length z =
+    omega (arith, arity_le q.below, arity_le q.behind, arity_le (first_trees n k), ap arity q.whole, arity-join (first_trees n k) (tree q.label q.below q.behind), ap arity below) in
     let gone : next ≡ from + size_of (first_of (since from ns)) → without from next ns ≡ p.before ++ (node ∷ (flatten new ++ (p.after ++ []))) =
     λ h. ap (without from next) whole ∙ without-append x (c ∷ []) (y ++ (z ++ p.after)) from next place.place-is (omega (arith, h, ap size_of first, place.place-is))
     ∙ sym (ap (λ (l : List Node). p.before ++ (node ∷ (l ++ (p.after ++ [])))) new-is ∙ simp (append_assoc, append-nil)) in
@@ -134,22 +136,7 @@ merges i n from next s st within b r =
     record {
       inside = omega (arith, ap used whole, used-append x (c ∷ (y ++ (z ++ p.after))), place.place-is, size_from c);
       children = ap (λ (j : Node). j.children) first ∙ sym (ap arity below);
-      few = omega (
-        arith,
-        ap length whole,
-        length-append x (c ∷ (y ++ (z ++ p.after))),
-        length-append p.before (node ∷ one),
-        length-append y
-            (z ++ p.after),
-        length-append z p.after,
-        arity_le q.below,
-        arity_le q.behind,
-        arity_le (first_trees n k),
-        ap arity q.whole,
-        arity-join (first_trees n k)
-            (tree q.label q.below q.behind),
-        ap arity below,
-      );
+      few = omega (arith, ap length whole, length-append x (c ∷ (y ++ (z ++ p.after))), length-append p.before (node ∷ one), length-append y (z ++ p.after), length-append z p.after, counts);
       live = λ h. (done h).live;
       done = λ h. (done h).nodes ∙ append-nil (flatten (with_kids i new f));
     }

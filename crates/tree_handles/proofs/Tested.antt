@@ -12,34 +12,33 @@ pub record IsRootsLeft (i at : ℕ) (ns : List Node) (answer : Bool) : Type 0 wh
 pub roots_start : (i : ℕ) (s : State) → Stands s → IsRootsLeft i 0 s.nodes (has_root i (forest s))
 roots_start i s st = record { trees = forest s; nodes = since-zero s.nodes ∙ st.flat; same = refl }
 
-roots_end_in : (i at : ℕ) (ns : List Node) (f : Forest) → since at ns ≡ flatten f → used ns ≤ at → IsBoundary at ns → has_root i f ≡ false
-roots_end_in i at ns empty e h b = refl
-roots_end_in i at ns (tree l k r) e h b = absurd (omega (arith, ap used (until-since at ns), used-append (until at ns) (since at ns), ap used e, size_from (node_of l k), b))
-
 -- none is left
 pub roots_end : (i at : ℕ) (ns : List Node) (answer : Bool) → IsRootsLeft i at ns answer → used ns ≤ at → IsBoundary at ns → false ≡ answer
-roots_end i at ns answer x h b = sym (roots_end_in i at ns x.trees x.nodes h b) ∙ x.same
+roots_end i at ns answer x h b = by x.trees x.nodes x.same
+  where
+    by : (f : Forest) → since at ns ≡ flatten f → has_root i f ≡ answer → false ≡ answer
+    by empty e s = s
+    by (tree l k r) e s = absurd (omega (arith, ap used (until-since at ns), used-append (until at ns) (since at ns), ap used e, size_from (node_of l k), b))
 
-roots_more_in : (i at next place : ℕ) (ns : List Node) (answer : Bool) (h : Header) (f : Forest) → since at ns ≡ flatten f → has_root i f ≡ answer → at < used ns → IsBoundary at ns → h ≡ header_of (first_of (since at ns)) → since at ns ≡ first_of (since at ns) ∷ since next ns
+pub roots_more : (i at next place : ℕ) (ns : List Node) (answer : Bool) (h : Header) → IsRootsLeft i at ns answer → at < used ns → IsBoundary at ns → h ≡ header_of (first_of (since at ns)) → since at ns ≡ first_of (since at ns) ∷ since next ns
     → since place ns ≡ skip h.children (since next ns) → (h.id ≡ i → ⊥) → IsRootsLeft i place ns answer
-roots_more_in i at next place ns answer h empty e a lt b q rest s other = absurd (omega (arith, ap used (until-since at ns), used-append (until at ns) (since at ns), ap used e, b))
-roots_more_in i at next place ns answer h (tree l k r) e a lt b q rest s other =
-    let same : h ≡ header_of (node_of l k) = q ∙ ap header_of (ap first_of e) in
-    let id : h.id ≡ l.id = ap (λ (x : Header). x.id) same in
-    let children : h.children ≡ arity k + 0 = ap (λ (x : Header). x.children) same ∙ omega arith in
-    let after : since next ns ≡ flatten k ++ flatten r = tail_is (since at ns) (first_of (since at ns)) (node_of l k) (since next ns) (flatten k ++ flatten r) rest e in
-    record {
-      trees = r;
-      nodes = s ∙ ap (skip h.children) after ∙ ap (λ (j : ℕ). skip j (flatten k ++ flatten r)) children ∙ skip-flatten k 0 (flatten r);
-      same = sym (ap (λ (t : Bool). cond t true (has_root i r)) (ne_eqb l.id i (λ d. other (id ∙ d)))) ∙ a;
-    }
+roots_more i at next place ns answer h x lt b q rest s other = by x.trees x.nodes x.same
   where
     tail_is : (xs : List Node) (n m : Node) (ys zs : List Node) → xs ≡ n ∷ ys → xs ≡ m ∷ zs → ys ≡ zs
     tail_is xs n m ys zs e h = cc
 
-pub roots_more : (i at next place : ℕ) (ns : List Node) (answer : Bool) (h : Header) → IsRootsLeft i at ns answer → at < used ns → IsBoundary at ns → h ≡ header_of (first_of (since at ns)) → since at ns ≡ first_of (since at ns) ∷ since next ns
-    → since place ns ≡ skip h.children (since next ns) → (h.id ≡ i → ⊥) → IsRootsLeft i place ns answer
-roots_more i at next place ns answer h x lt b q rest s other = roots_more_in i at next place ns answer h x.trees x.nodes x.same lt b q rest s other
+    by : (f : Forest) → since at ns ≡ flatten f → has_root i f ≡ answer → IsRootsLeft i place ns answer
+    by empty e a = absurd (omega (arith, ap used (until-since at ns), used-append (until at ns) (since at ns), ap used e, b))
+    by (tree l k r) e a =
+        let same : h ≡ header_of (node_of l k) = q ∙ ap header_of (ap first_of e) in
+        let id : h.id ≡ l.id = ap (λ (x : Header). x.id) same in
+        let children : h.children ≡ arity k + 0 = ap (λ (x : Header). x.children) same ∙ omega arith in
+        let after : since next ns ≡ flatten k ++ flatten r = tail_is (since at ns) (first_of (since at ns)) (node_of l k) (since next ns) (flatten k ++ flatten r) rest e in
+        record {
+          trees = r;
+          nodes = s ∙ ap (skip h.children) after ∙ ap (λ (j : ℕ). skip j (flatten k ++ flatten r)) children ∙ skip-flatten k 0 (flatten r);
+          same = sym (ap (λ (t : Bool). cond t true (has_root i r)) (ne_eqb l.id i (λ d. other (id ∙ d)))) ∙ a;
+        }
 
 -- the root at a place
 pub roots_found : (i at : ℕ) (ns : List Node) (answer : Bool) (h : Header) → IsRootsLeft i at ns answer → at < used ns → IsBoundary at ns → h ≡ header_of (first_of (since at ns)) → h.id ≡ i → answer ≡ true

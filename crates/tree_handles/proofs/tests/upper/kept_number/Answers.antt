@@ -1,6 +1,7 @@
 use Rattle.std.proofs.Common.{◌≡◌, ◌⊎◌, inl, inr, ◌∙◌, ap, sym}
-use Rattle.tree_handles.proofs.{Shared.{Fraction, value_of, Tree, num, is_num, without_root, forest}, Fronts.{behind_first, behind_later, front_same, front_at, front_without, front_after}}
+use Rattle.tree_handles.proofs.{Shared.{[], ◌∷◌, Fraction, KeepsFront, value_of, Tree, num, is_num, without_root, forest}, Fronts.{behind_first, behind_later, front_same, front_at, front_without, front_after}}
 use Rattle.tree_handles.proofs.{Given.{gives_as, handed_beside, handed_at, owned}, Lasts.{plain_root}, Roots.{root_held}}
+use Rattle.tree_handles.proofs.tests.upper.kept_number.Goals.{After-number}
 use Rattle.tree_handles.proofs.tests.upper.kept_number.Goals as goal
 
 pub rational-x-requires-clause-live : goal.rational-x-requires-clause-live
@@ -31,14 +32,14 @@ returns-clause-ok c =
     (sym (plain_root c.args.a c.requires.stands c.requires.first.root) ∙ rw (← c.id.ensures) c.rational-x.ensures.plain)
     (sym (plain_root c.args.b c.requires.stands c.requires.second.root) ∙ rw (← c.id-2.ensures) c.rational-y.ensures.plain))
 
-pub returns-clause-front : goal.returns-clause-front
-returns-clause-front c =
+front : (c : After-number) → KeepsFront (c.args.a ∷ c.args.b ∷ []) (forest c.args.pool.now) (forest c.number.new.pool)
+front c =
     let gone = c.release.ensures.owned (owned c.requires.first) in
     let both = c.release-2.ensures.owned (owned (handed_at (handed_beside c.args.a c.requires.apart c.requires.second) gone)) in
     front_after (front_at (front_without (behind_later behind_first) (front_without behind_first front_same)) (both ∙ ap (without_root c.args.b) gone)) c.number.ensures.front
 
+pub returns-clause-front : goal.returns-clause-front
+returns-clause-front c = front (goal.at.returns-clause-front c).After-number
+
 pub returns-in_err-number-clause-front : goal.returns-in_err-number-clause-front
-returns-in_err-number-clause-front c =
-    let gone = c.release.ensures.owned (owned c.requires.first) in
-    let both = c.release-2.ensures.owned (owned (handed_at (handed_beside c.args.a c.requires.apart c.requires.second) gone)) in
-    front_after (front_at (front_without (behind_later behind_first) (front_without behind_first front_same)) (both ∙ ap (without_root c.args.b) gone)) c.number.ensures.front
+returns-in_err-number-clause-front c = front (goal.at.returns-in_err-number-clause-front c).After-number
