@@ -73,14 +73,8 @@ added n i ci from end to s st live root apart told h =
     let x = span ci from end t (flatten left) (flatten right) ns st.pool.distinct single (root_id-root_tree ci f root) whole told in
     let p = at i f live in
     let k = kids_of i f in
-    let few : arity k + 1 ≤ length ns = omega (
-      arith,
-      ap length (st.flat ∙ p.flat),
-      length-append p.before (node_of p.label k ∷ (flatten k ++ p.after)),
-      length-append
-          (flatten k) p.after,
-      arity_le k,
-    ) in
+    let long = ap length (st.flat ∙ p.flat) in
+    let few : arity k + 1 ≤ length ns = omega (arith, long, length-append p.before (node_of p.label k ∷ (flatten k ++ p.after)), length-append (flatten k) p.after, arity_le k) in
     elim (cases_Bool (holds i left)) [
       | inl inside ↦
           let kids : kids_of i f ≡ kids_of i left = ap (kids_of i) split ∙ kids_of-join_left i left (join t right) inside in

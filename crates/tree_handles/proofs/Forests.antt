@@ -41,9 +41,8 @@ arity-first_trees (suc n) empty h = absurd (omega arith)
 arity-first_trees (suc n) (tree l k r) h = ap suc (arity-first_trees n r (omega arith))
 
 pub arity-rest_trees : (n : ℕ) (f : Forest) → arity (rest_trees n f) ≡ arity f - n
-arity-rest_trees zero f = omega arith
-arity-rest_trees (suc n) empty = omega arith
 arity-rest_trees (suc n) (tree l k r) = omega (arith, arity-rest_trees n r)
+arity-rest_trees n f = omega arith
 
 pub arity-tree_nth : (n : ℕ) (f : Forest) → n < arity f → arity (tree_nth n f) ≡ 1
 arity-tree_nth n empty h = absurd (omega arith)

@@ -1,5 +1,5 @@
 -- Free bytes from call to call.
-use Rattle.tree_handles.proofs.Shared.{◌≡◌, ℕ, ◌+◌, ◌≤◌, arith, Tree, num, symbol, undef, add, mult, power, root, neg, sub, div, size, State, free_of, plain}
+use Rattle.tree_handles.proofs.Shared.{◌≡◌, ℕ, ◌+◌, ◌≤◌, arith, Tree, num, size, State, free_of, plain}
 use Rattle.tree_handles.proofs.{Shared.{Gives, IsHanded, root_tree, without_root, Stands, forest, KeepsRefusals}, Forests.bytes_in-join, Lasts.last_tree}
 use Rattle.tree_handles.proofs.{FreeBytes.bytes_without, Places.used_forest, Plains.size-plain, Roots.root_arity}
 use Rattle.calc_terms.proofs.Sizes.{num_least}
@@ -15,12 +15,4 @@ released_free h k r o e = grind (arith, used_forest, bytes_without, size-plain, 
 -- each tree has the bytes of its root
 pub least_size : (t : Tree) → 8 ≤ size t
 least_size (num q) = omega (arith, num_least q)
-least_size (symbol x) = omega arith
-least_size undef = omega arith
-least_size (add ts) = omega arith
-least_size (mult ts) = omega arith
-least_size (power b e) = omega arith
-least_size (root a) = omega arith
-least_size (neg a) = omega arith
-least_size (sub a b) = omega arith
-least_size (div a b) = omega arith
+least_size t = omega arith

@@ -112,9 +112,8 @@ found-join base empty g p q = q
 found-join base (tree l k r) g p q = (p.0, p.1, found-join base r g p.2 q)
 
 pub found-first_trees : (base : Forest) (n : ℕ) (f : Forest) → AreFound base f → AreFound base (first_trees n f)
-found-first_trees base zero f h = tt
-found-first_trees base (suc n) empty h = tt
 found-first_trees base (suc n) (tree l k r) h = (h.0, h.1, found-first_trees base n r h.2)
+found-first_trees base n f h = tt
 
 pub found-rest_trees : (base : Forest) (n : ℕ) (f : Forest) → AreFound base f → AreFound base (rest_trees n f)
 found-rest_trees base zero f h = h

@@ -25,15 +25,11 @@ forward c p i j h =
     let o = ordered p i c.args.first j c.args.second c.args.pool.now c.requires.stands h in
     c.swap_apart.ensures.forest p i j (o.rising (omega (arith, c.locate-left.ensures.value, c.locate-right.ensures.value))) h
 
-pub returns-then-left-right : goal.returns-then-left-right
-returns-then-left-right c =
-    record {
-      forest = forward c;
-      root = λ p i j h. changed_root p c.args.pool.now c.swap_apart.new.pool (λ k. swapped_nth i j k) c.requires.stands
-          (forward c p i j h);
-      kept = search rules;
-      stands = search rules;
-    }
+pub returns-then-left-right-clause-forest : goal.returns-then-left-right-clause-forest
+returns-then-left-right-clause-forest c = forward c
+
+pub returns-then-left-right-clause-root : goal.returns-then-left-right-clause-root
+returns-then-left-right-clause-root c = λ p i j h. changed_root p c.args.pool.now c.swap_apart.new.pool (λ k. swapped_nth i j k) c.requires.stands (forward c p i j h)
 
 back : (c : After-swap_apart-then-right-left) (p i j : ℕ) → AreSiblings p i c.args.first j c.args.second (forest c.args.pool.now)
     → forest c.swap_apart-then-right-left.new.pool ≡ with_kids p (swapped_nth i j (kids_of p (forest c.args.pool.now))) (forest c.args.pool.now)
@@ -44,15 +40,11 @@ back c p i j h =
     let q = pair j i (kids_of p f) lt h.first.within in
     c.swap_apart-then-right-left.ensures.forest p j i lt (turned h) ∙ ap (λ (k : Forest). with_kids p k f) (q.swapped ∙ sym q.back)
 
-pub returns-then-right-left : goal.returns-then-right-left
-returns-then-right-left c =
-    record {
-      forest = back c;
-      root = λ p i j h. changed_root p c.args.pool.now c.swap_apart-then-right-left.new.pool (λ k. swapped_nth i j k) c.requires.stands
-          (back c p i j h);
-      kept = search rules;
-      stands = search rules;
-    }
+pub returns-then-right-left-clause-forest : goal.returns-then-right-left-clause-forest
+returns-then-right-left-clause-forest c = back c
+
+pub returns-then-right-left-clause-root : goal.returns-then-right-left-clause-root
+returns-then-right-left-clause-root c = λ p i j h. changed_root p c.args.pool.now c.swap_apart-then-right-left.new.pool (λ k. swapped_nth i j k) c.requires.stands (back c p i j h)
 
 same : (c : Else-right-left) (p i j : ℕ) → AreSiblings p i c.args.first j c.args.second (forest c.args.pool.now) → forest c.args.pool.now ≡ with_kids p (swapped_nth i j (kids_of p (forest c.args.pool.now))) (forest c.args.pool.now)
 same c p i j h =
