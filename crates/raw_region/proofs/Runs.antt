@@ -1,6 +1,6 @@
 -- Runs of bytes, byte by byte.
 use Rattle.raw_region.proofs.Shared.{◌≡◌, ℕ, ◌+◌, ◌<◌, ◌≤◌, List, [], ◌∷◌, ◌++◌, length, take, refl, sym, ap, ◌∙◌, arith, drop-drop, length-drop, take-append-drop, take-add, put}
-use Rattle.std.proofs.{Math.ListN.set, Common.{drop, get_or, drop-cons}, lemmas.List.{drop-set-add, drop-set-lt, length-set, take-set-le, take_more_set}}
+use Rattle.std.proofs.{Math.ListN.set, Common.{drop, get_or, drop-cons}, lemmas.List.{drop-set-add, drop-set-lt, length-set, take-set-le, take_all, take_more_set}}
 
 -- one byte more of a list
 more_of : (xs : List ℕ) (i : ℕ) → i < length xs → take (i + 1) xs ≡ take i xs ++ get_or xs i 0 ∷ []
@@ -37,12 +37,8 @@ stored_more i at x run old new h k e s =
 
 pub stored_all : (i at : ℕ) (run old new : List ℕ) → length run ≡ i → at + i ≤ length old → IsStored i at run old new → new ≡ put old at run
 stored_all i at run old new n h s =
-    let whole : take i run ≡ run = ap (λ (m : ℕ). take m run) (sym n) ∙ ap (λ (l : List ℕ). take (length run) l) refl ∙ all_of run in
+    let whole : take i run ≡ run = take_all i run (omega arith) in
     let rest : drop at new ≡ run ++ drop (at + length run) old =
     sym (take-append-drop i (drop at new)) ∙ ap (λ (l : List ℕ). l ++ drop i (drop at new)) (s.put_there ∙ whole)
     ∙ ap (λ (l : List ℕ). run ++ l) (drop-drop i at new ∙ s.behind ∙ ap (λ (m : ℕ). drop (at + m) old) (sym n)) in
     sym (take-append-drop at new) ∙ ap (λ (l : List ℕ). l ++ drop at new) s.before ∙ ap (λ (l : List ℕ). take at old ++ l) rest
-  where
-    all_of : (xs : List ℕ) → take (length xs) xs ≡ xs
-    all_of [] = refl
-    all_of (x ∷ xs) = ap (λ (l : List ℕ). x ∷ l) (all_of xs)

@@ -16,13 +16,10 @@ length-slid xs a b n h k = grind (arith, length-run, slid_put, length-put)
 behind : (xs ys : List ℕ) (a b k : ℕ) → b ≤ a → a + k ≤ length xs → ys ≡ slid xs a b k → drop (a + k) ys ≡ drop (a + k) xs
 behind xs ys a b k le h e =
     let p = take k (drop a xs) in
-    let d = drop (b + k) xs in
-    let long : length (take b xs ++ p) ≡ b + k = omega (arith, length-append (take b xs) p, length-take-le b xs (omega arith), length-run xs a k h) in
-    let over : drop (b + k) ys ≡ d = ap (drop (b + k)) (e ∙ sym (append_assoc (take b xs) p d)) ∙ drop_at (take b xs ++ p) d (b + k) long in
-    let to_a = λ (l : List ℕ). drop-drop (a - b) (b + k) l in
-    let one : drop (a - b) (drop (b + k) ys) ≡ drop (a + k) ys = drop-drop (a - b) (b + k) ys ∙ ap (λ (n : ℕ). drop n ys) (omega arith) in
-    let two : drop (a - b) (drop (b + k) xs) ≡ drop (a + k) xs = drop-drop (a - b) (b + k) xs ∙ ap (λ (n : ℕ). drop n xs) (omega arith) in
-    sym one ∙ ap (λ (l : List ℕ). drop (a - b) l) over ∙ two
+    let over : drop (b + k) ys ≡ drop (b + k) xs = ap (drop (b + k)) (e ∙ sym (append_assoc (take b xs) p (drop (b + k) xs)))
+    ∙ drop_at (take b xs ++ p) (drop (b + k) xs) (b + k) (omega (arith, length-append (take b xs) p, length-take-le b xs (omega arith), length-run xs a k h)) in
+    let split = λ (l : List ℕ). let step : drop (a - b) (drop (b + k) l) ≡ drop (a + k) l = drop-drop (a - b) (b + k) l ∙ ap (λ (n : ℕ). drop n l) (omega arith) in step in
+    sym (split ys) ∙ ap (drop (a - b)) over ∙ split xs
 
 -- n bytes more have moved down
 pub slid_more : (xs ys zs run : List ℕ) (a b k n : ℕ) → b ≤ a → a + (k + n) ≤ length xs → ys ≡ slid xs a b k → run ≡ take n (drop (a + k) ys) → zs ≡ put ys (b + k) run → zs ≡ slid xs a b (k + n)
@@ -65,7 +62,8 @@ slid_none xs a b len e = grind (arith, take-append-drop)
 -- ---- both ends at once
 
 -- a run over the end of another
-put_over : (xs ys zs first last : List ℕ) (at k : ℕ) → k ≤ length first → length first ≤ k + length last → at + (k + length last) ≤ length xs → ys ≡ put xs at first → zs ≡ put ys (at + k) last → zs ≡ put xs at (take k first ++ last)
+pub put_over : (xs ys zs first last : List ℕ) (at k : ℕ) → k ≤ length first → length first ≤ k + length last → at + (k + length last) ≤ length xs → ys ≡ put xs at first → zs ≡ put ys (at + k) last
+    → zs ≡ put xs at (take k first ++ last)
 put_over xs ys zs first last at k h1 h2 fits e q =
     let front = take at xs in
     let kept = take k first in

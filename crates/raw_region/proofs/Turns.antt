@@ -1,7 +1,8 @@
 -- Parts of a list that change places.
 use Rattle.raw_region.proofs.Shared.{List, ap, append_assoc, arith, length, refl, replicate, sym, take, ℕ, ◌++◌, ◌+◌, ◌-◌, ◌∙◌, ◌≡◌, ◌≤◌, drop-drop, drop-take}
 use Rattle.raw_region.proofs.Shared.{drop_at, length-append, length-drop, length-take-le, take-take, take_at, put, slid}
-use Rattle.std.proofs.{Common.drop, lemmas.List.{length-replicate, replicate-append-replicate}}
+use Rattle.std.proofs.{Common.drop, lemmas.List.{length-replicate, replicate-append-replicate, take-replicate}}
+use Rattle.raw_region.proofs.Slides.{put_over}
 use Rattle.raw_region.specs.Bytes.{cleared, rotated, switched}
 
 pub rotated_is : (xs ys : List ℕ) (a b c : ℕ) → a ≤ b → b ≤ c → ys ≡ drop (b - a) (take (c - a) (drop a xs)) ++ take (b - a) (take (c - a) (drop a xs)) → take a xs ++ (ys ++ drop (c - a) (drop a xs)) ≡ rotated xs a b c
@@ -50,23 +51,8 @@ rotated_by xs s z room rest a b c h k fits e r q = grind (arith, length-take-le,
 pub cleared_ends : (xs ys zs : List ℕ) (a b n : ℕ) → a + n ≤ b → b ≤ a + n + n → b ≤ length xs → ys ≡ put xs a (replicate n 0) → zs ≡ put ys (b - n) (replicate n 0) → zs ≡ cleared xs a b
 cleared_ends xs ys zs a b n h k fits e q =
     let z : List ℕ = replicate n 0 in
-    let front = take a xs in
-    let more : List ℕ = replicate (b - n - a) 0 in
-    let rest : List ℕ = replicate (n - (b - n - a)) 0 in
-    let d = drop (a + n) xs in
+    let m : ℕ = b - n - a in
     let count : length z ≡ n = length-replicate {A = ℕ} n 0 in
-    let some : length more ≡ b - n - a = length-replicate {A = ℕ} (b - n - a) 0 in
-    let first : length front ≡ a = length-take-le a xs (omega arith) in
-    let now : ys ≡ front ++ (z ++ d) = e ∙ ap (λ (i : ℕ). front ++ (z ++ drop (a + i) xs)) count in
-    let parts : z ≡ more ++ rest = sym (replicate-append-replicate (b - n - a) (n - (b - n - a)) 0 ∙ ap (λ (i : ℕ). replicate i 0) (omega arith)) in
-    let split : ys ≡ (front ++ more) ++ (rest ++ d) = now ∙ ap (λ (l : List ℕ). front ++ (l ++ d)) parts ∙ simp append_assoc in
-    let below : take (b - n) ys ≡ front ++ more = ap (take (b - n)) split ∙ take_at (front ++ more) (rest ++ d) (b - n) (omega (arith, length-append front more)) in
-    let whole : ys ≡ (front ++ z) ++ d = now ∙ sym (append_assoc front z d) in
-    let over : drop (a + n) ys ≡ d = ap (drop (a + n)) whole ∙ drop_at (front ++ z) d (a + n) (omega (arith, length-append front z)) in
-    let reach : a + n + (b - (a + n)) ≡ b = omega arith in
-    let far = λ (l : List ℕ). let step : drop (b - (a + n)) (drop (a + n) l) ≡ drop b l = drop-drop (b - (a + n)) (a + n) l ∙ ap (λ (i : ℕ). drop i l) reach in step in
-    let last : b - n + length z ≡ b = omega (arith, count) in
-    let above : drop (b - n + length z) ys ≡ drop b xs = ap (λ (i : ℕ). drop i ys) last ∙ sym (far ys) ∙ ap (drop (b - (a + n))) over ∙ far xs in
-    let joined : more ++ z ≡ replicate (b - a) 0 = replicate-append-replicate (b - n - a) n 0 ∙ ap (λ (i : ℕ). replicate i 0) (omega arith) in
-    q ∙ ap (λ (l : List ℕ). l ++ (z ++ drop (b - n + length z) ys)) below ∙ ap (λ (l : List ℕ). (front ++ more) ++ (z ++ l)) above
-    ∙ append_assoc front more (z ++ drop b xs) ∙ ap (λ (l : List ℕ). front ++ l) (sym (append_assoc more z (drop b xs)) ∙ ap (λ (l : List ℕ). l ++ drop b xs) joined)
+    let all : take m z ++ z ≡ replicate (b - a) 0 = ap (λ (l : List ℕ). l ++ z) (take-replicate m n 0 (omega arith)) ∙ replicate-append-replicate m n 0 ∙ ap (λ (i : ℕ). replicate i 0) (omega arith) in
+    put_over xs ys zs z z a m (omega (arith, count)) (omega (arith, count)) (omega (arith, count)) e (q ∙ ap (λ (i : ℕ). put ys i z) (omega arith)) ∙ ap (put xs a) all
+    ∙ ap (λ (i : ℕ). take a xs ++ (replicate (b - a) 0 ++ drop i xs)) (omega (arith, length-replicate {A = ℕ} (b - a) 0))
