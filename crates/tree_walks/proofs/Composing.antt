@@ -1,7 +1,7 @@
 -- What comes of a tree in which a name was replaced.
 use Rattle.tree_walks.proofs.Shared.{◌≡◌, ℕ, ◌+◌, ◌*◌, List, [], ◌∷◌, ◌++◌, cond, refl, ap, ◌∙◌, subst, arith, inl, inr, Bool, true, false, Contains, ◌⊎◌}
 use Rattle.tree_walks.proofs.Shared.{count_by, bytes_eq, Contains-append_cases, Contains-append_left, Contains-append_right, Contains-push, Contains-push_cases, sum_by-append, bytes_eq-Decides}
-use Rattle.tree_walks.proofs.Shared.{Tree, num, symbol, undef, add, mult, power, root, neg, sub, div, Trees, none, more, names, names_of, size, sizes, root_size, by_test, replaced, replaced_in}
+use Rattle.tree_walks.proofs.Shared.{Tree, symbol, add, mult, power, root, neg, sub, div, Trees, none, more, names, names_of, size, sizes, root_size, by_test, replaced, replaced_in}
 use Rattle.tree_walks.proofs.{Shared.occurrences, Names.occurrences_in, Searches.{counted, uncounted}}
 use Rattle.std.specs.Prelude.{◌≢◌}
 use Rattle.tree_walks.specs.Laws.{StaysWhereAbsent, NamesOfReplaced, OccursWhereNamed, BytesOfReplaced}
@@ -14,9 +14,7 @@ symbol_stays x y u h = by_test (λ t. bytes_eq y x ≡ t → cond t u (symbol y)
 
 mutual
   stays : (x : List ℕ) (u t : Tree) → (Contains (names t) x → ⊥) → replaced x u t ≡ t
-  stays x u (num q) h = refl
   stays x u (symbol y) h = symbol_stays x y u h
-  stays x u undef h = refl
   stays x u (add ts) h = ap add (stay x u ts h)
   stays x u (mult ts) h = ap mult (stay x u ts h)
   stays x u (power b e) h = cc (stays x u b (λ c. h (Contains-append_left (names b) (names e) x c)), stays x u e (λ c. h (Contains-append_right (names b) (names e) x c)))
@@ -24,6 +22,7 @@ mutual
   stays x u (neg a) h = ap neg (stays x u a h)
   stays x u (sub a b) h = cc (stays x u a (λ c. h (Contains-append_left (names a) (names b) x c)), stays x u b (λ c. h (Contains-append_right (names a) (names b) x c)))
   stays x u (div a b) h = cc (stays x u a (λ c. h (Contains-append_left (names a) (names b) x c)), stays x u b (λ c. h (Contains-append_right (names a) (names b) x c)))
+  stays x u t h = refl
 
   stay : (x : List ℕ) (u : Tree) (ts : Trees) → (Contains (names_of ts) x → ⊥) → replaced_in x u ts ≡ ts
   stay x u none h = refl
@@ -65,9 +64,7 @@ symbol_names x z y u h =
 
 mutual
   from_both : (x : List ℕ) (u t : Tree) (y : List ℕ) → Contains (names (replaced x u t)) y → FromBoth x (names t) (names u) y
-  from_both x u (num q) y h = nobody y h
   from_both x u (symbol z) y h = symbol_names x z y u h
-  from_both x u undef y h = nobody y h
   from_both x u (add ts) y h = all_from x u ts y h
   from_both x u (mult ts) y h = all_from x u ts y h
   from_both x u (power b e) y h = joined x y (names u) (names b) (names e) (names (replaced x u b)) (names (replaced x u e)) (from_both x u b y) (from_both x u e y) h
@@ -75,6 +72,7 @@ mutual
   from_both x u (neg a) y h = from_both x u a y h
   from_both x u (sub a b) y h = joined x y (names u) (names a) (names b) (names (replaced x u a)) (names (replaced x u b)) (from_both x u a y) (from_both x u b y) h
   from_both x u (div a b) y h = joined x y (names u) (names a) (names b) (names (replaced x u a)) (names (replaced x u b)) (from_both x u a y) (from_both x u b y) h
+  from_both x u t y h = nobody y h
 
   all_from : (x : List ℕ) (u : Tree) (ts : Trees) (y : List ℕ) → Contains (names_of (replaced_in x u ts)) y → FromBoth x (names_of ts) (names u) y
   all_from x u none y h = nobody y h
@@ -103,9 +101,7 @@ symbol_bytes x y u = grind arith
 
 mutual
   bytes : (x : List ℕ) (u t : Tree) → size (replaced x u t) + occurrences x t * root_size (symbol x) ≡ size t + occurrences x t * size u
-  bytes x u (num q) = omega arith
   bytes x u (symbol y) = symbol_bytes x y u
-  bytes x u undef = omega arith
   bytes x u (add ts) = omega (arith, all_bytes x u ts)
   bytes x u (mult ts) = omega (arith, all_bytes x u ts)
   bytes x u (power b e) = let s = split x u (names b) (names e) in omega (arith, bytes x u b, bytes x u e, s.0, s.1)
@@ -113,6 +109,7 @@ mutual
   bytes x u (neg a) = omega (arith, bytes x u a)
   bytes x u (sub a b) = let s = split x u (names a) (names b) in omega (arith, bytes x u a, bytes x u b, s.0, s.1)
   bytes x u (div a b) = let s = split x u (names a) (names b) in omega (arith, bytes x u a, bytes x u b, s.0, s.1)
+  bytes x u t = omega arith
 
   all_bytes : (x : List ℕ) (u : Tree) (ts : Trees) → sizes (replaced_in x u ts) + occurrences_in x ts * root_size (symbol x) ≡ sizes ts + occurrences_in x ts * size u
   all_bytes x u none = omega arith

@@ -159,10 +159,10 @@ next {i = i} {n = n} {j = j} {x = x} {rest = rest} {u = u} {start = start} {s = 
           omega (arith, used_forest s w.stands, used_forest v sv, kept.size, w.stands.pool.fits, sv.pool.fits, ap bytes_in w.ends.whole, ap bytes_in whole, bytes_in-join others w.now, bytes_in-join others (p.fill copy), p.bytes copy, size-plain copy one c.is.whole, ap size told, room) in
           record {
             now = p.fill copy;
-            ends = record { whole = whole; alone = p.many copy one ∙ w.ends.alone; root = b.root copy ∙ w.ends.root; clear = w.ends.clear };
+            ends = record { whole = whole; alone = p.many copy one ∙ w.ends.alone; root = (b.root copy).0 ∙ w.ends.root; clear = w.ends.clear };
             once = p.once copy c.is.once;
             whole = p.whole copy one c.is.whole;
-            inner = ap (has_name x) (b.payload copy) ∙ w.inner;
+            inner = ap (has_name x) ((b.root copy).1) ∙ w.inner;
             passed = w.passed ++ leaves_of x copy;
             many = omega (arith, length-append w.passed (leaves_of x copy), w.many, count);
             leaves = p.leaves copy ∙ sym (append_assoc w.passed (leaves_of x copy) rest);

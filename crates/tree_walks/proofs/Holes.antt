@@ -22,8 +22,7 @@ pub record IsBelow (f : Forest) (l : Label) (fill : Forest → Forest) : Type 0 
   pub within : at < arity (kids_of parent f)
   pub tree-is : tree_nth at (kids_of parent f) ≡ tree l empty empty
   pub fill-is : (c : Forest) → fill c ≡ with_kids parent (set_nth at c (kids_of parent f)) f
-  pub root : (c : Forest) → root_id (fill c) ≡ root_id f
-  pub payload : (c : Forest) → root_payload (fill c) ≡ root_payload f
+  pub root : (c : Forest) → (root_id (fill c) ≡ root_id f) × (root_payload (fill c) ≡ root_payload f)
 
 among_kids : {m : Label} {fill : Forest → Forest} (l : Label) (k r : Forest) → IsAmong k m fill → IsBelow (tree l k r) m (λ c. tree l (fill c) r)
 among_kids l k r a =
@@ -35,8 +34,7 @@ among_kids l k r a =
       within = rw here a.within;
       tree-is = rw here a.tree-is;
       fill-is = λ c. rw here (ap (λ (y : Forest). tree l y r) (a.fill-is c));
-      root = λ c. refl;
-      payload = λ c. refl;
+      root = λ c. (refl, refl);
     }
 
 below_kids : {m : Label} {fill : Forest → Forest} (l : Label) (k r : Forest) → Distinct (tree l k r) → IsBelow k m fill → IsBelow (tree l k r) m (λ c. tree l (fill c) r)
@@ -52,8 +50,7 @@ below_kids l k r d b =
       tree-is = rw (other, b.live) b.tree-is;
       fill-is = λ c. ap (λ (y : Forest). tree l y r) (b.fill-is c) ∙ ap (λ (y : Forest). tree l (with_kids b.parent (set_nth b.at c y) k) r) (sym same)
           ∙ there (set_nth b.at c (kids_of b.parent (tree l k r)));
-      root = λ c. refl;
-      payload = λ c. refl;
+      root = λ c. (refl, refl);
     }
 
 below_behind : {m : Label} {fill : Forest → Forest} (l : Label) (k r : Forest) → Distinct (tree l k r) → IsBelow r m fill → IsBelow (tree l k r) m (λ c. tree l k (fill c))
@@ -71,8 +68,7 @@ below_behind l k r d b =
       tree-is = rw (other, apart) b.tree-is;
       fill-is = λ c. ap (λ (y : Forest). tree l k y) (b.fill-is c) ∙ ap (λ (y : Forest). tree l k (with_kids b.parent (set_nth b.at c y) r)) (sym same)
           ∙ there (set_nth b.at c (kids_of b.parent (tree l k r)));
-      root = λ c. refl;
-      payload = λ c. refl;
+      root = λ c. (refl, refl);
     }
 
 -- ---- what comes of them

@@ -1,6 +1,6 @@
 -- A tree is as deep as it has nodes at most, and each node takes eight bytes at least.
 use Rattle.tree_walks.proofs.Shared.{ℕ, ◌+◌, ◌*◌, ◌≤◌, ◌≡◌, ◌++◌, true, ap, length, arith, State, Stands, forest, holds, nodes_in, tree_at, flatten, length-append}
-use Rattle.tree_walks.proofs.Shared.{Tree, Trees, add, depth, div, more, mult, neg, none, num, power, root, sub, symbol, undef}
+use Rattle.tree_walks.proofs.Shared.{Tree, Trees, add, depth, div, more, mult, neg, none, power, root, sub}
 use Rattle.node_pool.specs.{Nodes.{used, place_of}, Places.{since, until, IsBoundary}}
 use Rattle.node_pool.proofs.{Cuts.until-since, Sizes.{length_le_used, used-append}}
 use Rattle.tree_handles.proofs.{Forests.nodes-flatten, Measures.before}
@@ -8,9 +8,6 @@ use Rattle.calc_terms.specs.Trees.{depths, nodes, nodes_of}
 
 mutual
   pub depth_within : (t : Tree) → depth t ≤ nodes t
-  depth_within (num q) = omega arith
-  depth_within (symbol x) = omega arith
-  depth_within undef = omega arith
   depth_within (add ts) = omega (arith, depths_within ts)
   depth_within (mult ts) = omega (arith, depths_within ts)
   depth_within (power b e) = omega (arith, depth_within b, depth_within e)
@@ -18,6 +15,7 @@ mutual
   depth_within (neg a) = omega (arith, depth_within a)
   depth_within (sub a b) = omega (arith, depth_within a, depth_within b)
   depth_within (div a b) = omega (arith, depth_within a, depth_within b)
+  depth_within t = omega arith
 
   depths_within : (ts : Trees) → depths ts ≤ nodes_of ts
   depths_within none = omega arith
