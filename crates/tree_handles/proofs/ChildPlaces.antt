@@ -99,10 +99,9 @@ pub record IsStep (n x : ℕ) (left : List ℕ) (f : Forest) : Type 0 where
   pub left-are : left ≡ root_ids (rest_trees (suc n) f)
 
 pub step_on : (n x : ℕ) (left : List ℕ) (f : Forest) → root_ids (rest_trees n f) ≡ x ∷ left → IsStep n x left f
-step_on zero x left empty e = absurd cc
-step_on (suc n) x left empty e = absurd cc
 step_on zero x left (tree l k r) e = record { item-is = record { within = omega arith; id-is = cc }; left-are = cc }
 step_on (suc n) x left (tree l k r) e = grind (arith, step_on n x left r e)
+step_on n x left f e = absurd cc
 
 -- none is left behind the last
 pub no_more : (n : ℕ) (f : Forest) → root_ids (rest_trees n f) ≡ [] → arity f ≤ n

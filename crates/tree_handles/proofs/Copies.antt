@@ -37,8 +37,6 @@ node_is m k e = ap (λ (c : ℕ). record m { children = c }) e
 
 pub copied : (f : Forest) (ms : List Node) → AreCopies (flatten f) ms → IsCopied f ms
 copied empty [] h = record { copy = empty; nodes = refl; same = tt; arity-is = refl }
-copied empty (m ∷ ms) h = absurd h
-copied (tree l k r) [] h = absurd h
 copied (tree l k r) (m ∷ ms) h =
     let s = split (flatten k) (flatten r) ms h.3 in
     let a = copied k s.left s.one in
@@ -51,6 +49,7 @@ copied (tree l k r) (m ∷ ms) h =
       same = (h.0, h.1, a.same, b.same);
       arity-is = ap suc b.arity-is;
     }
+copied f ms h = absurd h
 
 -- ---- the node at a place
 
