@@ -15,9 +15,8 @@ unheld_more trees ms n ns e some h =
     ap (unheld trees) e ∙ rw (no, le-leb n.count 1 h) refl
 
 prefix_step : (t u : Bool) (n : Node) (a r ns : List Node) → a ++ r ≡ ns → (x : List Node) × (cond t [] (cond u (n ∷ a) []) ++ x ≡ n ∷ ns)
-prefix_step true u n a r ns e = (n ∷ ns, refl)
 prefix_step false true n a r ns e = (r, ap (λ (x : List Node). n ∷ x) e)
-prefix_step false false n a r ns e = (n ∷ ns, refl)
+prefix_step t u n a r ns e = (n ∷ ns, refl)
 
 prefix : (trees : ℕ) (ns : List Node) → (x : List Node) × (unheld trees ns ++ x ≡ ns)
 prefix trees [] = ([], refl)

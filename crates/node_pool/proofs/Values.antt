@@ -1,7 +1,7 @@
 -- What a node holds, read from its bytes.
 use Rattle.node_pool.proofs.Shared.{FitsSigned, List, ap, arith, drop, false, length, pos, refl, replicate, subst, sym, take, true, unsigned_abs, ℕ, ℤ, ◌++◌, ◌+◌, ◌-◌, ◌<◌}
 use Rattle.node_pool.proofs.Shared.{◌∙◌, ◌∷◌, ◌≡◌, ◌≤◌, ints, to_z-of_z, to_z_pos, drop-drop, take_at, w128, Node, from_bytes, number_at, short_at, payload_bytes}
-use Rattle.node_pool.proofs.Shared.{ratio_at, IsPayload, Payload, bare, has_short_form, is_bare, kind_of_payload, named, rational, size_of_payload, IsRat, size_by_form, Kind, drop-encoding}
+use Rattle.node_pool.proofs.Shared.{ratio_at, IsPayload, Payload, has_short_form, is_bare, kind_of_payload, named, rational, size_of_payload, IsRat, size_by_form, Kind, drop-encoding}
 use Rattle.node_pool.proofs.Shared.{short_at-encoding, number_at-number_bytes, short_parts, Contents, IsLaid, contents_of, first_of, has, payload_of_id, place_of, used, IsBoundary, since}
 use Rattle.node_pool.proofs.{Cuts.since-append, Fields.opened, Found.{found, place_boundary}, Walk.{here, place_room}}
 use Rattle.std.proofs.Common.{of_z, to_z, ◌<ℤ◌}
@@ -82,7 +82,6 @@ bare_symbol : (k : Kind) → is_bare k ≡ true → k ≡ kind.Sym → ⊥
 bare_symbol k h e = let no : is_bare k ≡ false = ap is_bare e in cc
 
 pub holds_symbol : (x : Payload) (at : ℕ) (store : List ℕ) → IsHeld x at store → kind_of_payload x ≡ kind.Sym → HoldsSymbol x at store
-holds_symbol (rational r) at store h k = absurd cc
 holds_symbol (named x) at store h k =
     let text : take 8 (drop (at + 8) store) ≡ padded x = ap (take 8) h.bytes ∙ take_at (padded x) h.behind 8 (length-padded x h.valid) in
     let name : before_zero (take 8 (drop (at + 8) store)) ≡ x = ap before_zero text ∙ before_zero-padded x h.valid in
@@ -91,4 +90,4 @@ holds_symbol (named x) at store h k =
       is = ap (λ (y : List ℕ). named y) (sym name);
       name = record { name = ap is_name name ∙ h.valid; whole = text ∙ ap padded (sym name) };
     }
-holds_symbol (bare k) at store h e = absurd (bare_symbol k h.valid e)
+holds_symbol x at store h e = grind (arith, bare_symbol)

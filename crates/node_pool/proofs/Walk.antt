@@ -23,8 +23,10 @@ here at ns store zs e h b lt =
     let parts : AreNodes (a ++ (n ∷ behind)) = subst AreNodes whole h in
     let valid : IsNode n = (AreNodes-right a (n ∷ behind) parts).0 in
     let bytes : store ≡ encodings a ++ (encoding n ++ (encodings behind ++ zs)) = e ∙ ap (λ (x : List Node). encodings x ++ zs) whole ∙ simp (encodings-append, append_assoc) in
-    let there : drop at store ≡ encoding n ++ (encodings behind ++ zs) = ap (drop at) bytes ∙ drop_at (encodings a) (encoding n ++ (encodings behind ++ zs)) at (length-encodings a (AreNodes-left a (n ∷ behind) parts) ∙ b) in
-    (n, record { behind = encodings behind ++ zs; bytes = there; is = ap node_at there ∙ node_at-encoding n (encodings behind ++ zs) valid; rest = s.rest; next = s.boundary; room = s.within; valid = valid })
+    let left = length-encodings a (AreNodes-left a (n ∷ behind) parts) ∙ b in
+    let there : drop at store ≡ encoding n ++ (encodings behind ++ zs) = ap (drop at) bytes ∙ drop_at (encodings a) (encoding n ++ (encodings behind ++ zs)) at left in
+    let is = ap node_at there ∙ node_at-encoding n (encodings behind ++ zs) valid in
+    (n, record { behind = encodings behind ++ zs; bytes = there; is = is; rest = s.rest; next = s.boundary; room = s.within; valid = valid })
 
 -- the beginning and the end
 pub starts : (ns : List Node) → IsBoundary 0 ns
