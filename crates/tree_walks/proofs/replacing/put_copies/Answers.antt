@@ -33,7 +33,9 @@ release-requires-clause-releasable c = inl (leaf_goes c.requires.last (c.in_ok-c
 pub returns-then-is_leaf_of : goal.returns-then-is_leaf_of
 returns-then-is_leaf_of c =
     let given = c.in_ok-copy.ensures.given c.requires.expression in
-    let d = leaf_done (whole (goal.at.returns-then-is_leaf_of c).Then-is_leaf_of) c.requires.stands c.in_ok-copy.ensures.stands c.release.ensures.stands c.requires.last given c.in_ok-copy.ensures.kept c.release.ensures.kept
+    let copy = c.in_ok-copy.ensures in
+    let gone = c.release.ensures in
+    let d = leaf_done (whole (goal.at.returns-then-is_leaf_of c).Then-is_leaf_of) c.requires.stands copy.stands gone.stands c.requires.last given copy.kept gone.kept
     (c.release.ensures.owned (owned (leaf_goes c.requires.last given))) in
     record { ok = d.gives; ok_room = d.room; front = d.front; full = search rules; refuses = search rules; lacks = search rules; kept = search rules; stands = search rules }
 
