@@ -7,7 +7,7 @@ zero_bits z h = grind arith
 
 -- a test that fails
 pub unequal : (a b : ℕ) → (a ≡ b → ⊥) → (a == b) ≡ false
-unequal a b h = by_test (λ t. (a == b) ≡ t → t ≡ false) (a == b) (λ e q. absurd (h (eqb-true a b q))) (λ e q. refl) refl
+unequal a b h = grind (arith, eqb-true)
 
 pub test_fails : (b : Bool) (d e : ℕ) → (IsTrue b ↔ (d ≡ 1)) → b ≡ false → e ≡ d → (e == 1) ≡ false
 test_fails b d e h f g = grind arith

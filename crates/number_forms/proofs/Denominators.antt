@@ -1,17 +1,14 @@
 -- Common denominators stay those of the whole, from one joined term to the next.
-use Rattle.number_forms.proofs.Shared.{◌≡◌, ℕ, zero, suc, ◌<◌, ◌∷◌, ◌++◌, sym, subst, arith, append_assoc, terms_of, Term, Surd, AreWholeOver, Parts, SharesDenominators, parts_append, parts_left}
+use Rattle.number_forms.proofs.Shared.{◌≡◌, ℕ, zero, suc, ◌<◌, [], ◌∷◌, ◌++◌, sym, subst, arith, append_assoc, terms_of, Term, Surd, AreWholeOver, Parts, SharesDenominators, parts_append, parts_left}
 use Rattle.number_forms.proofs.Shared.{parts_right, Tree, Trees, none, more, count, removed, IsExtracted, extracted_den, nth, inserted, ◌∣◌}
 use Rattle.calc_algebra.specs.Numbers.{term_of}
 
 pub shares_eq : {v w : Surd} → v ≡ w → SharesDenominators v w
 shares_eq e = λ d p. subst (Parts d) e p
 
--- a term that was still to come was joined
-pub parts_step : (t u left rest w : Surd) (y : Term) → left ≡ y ∷ rest → SharesDenominators (y ∷ t) u → SharesDenominators w (t ++ left) → SharesDenominators w (u ++ rest)
-parts_step t u left rest w y e h k = λ d p.
-    let q : Parts d (t ++ (y ∷ rest)) = subst (λ (x : Surd). Parts d (t ++ x)) e (k d p) in
-    let r : Parts d (y ∷ rest) = parts_right d t (y ∷ rest) q in
-    parts_append d u rest (h d (record { positive = q.positive; whole = (r.whole.0, (parts_left d t (y ∷ rest) q).whole) })) (record { positive = q.positive; whole = r.whole.1 })
+-- a term in front, and behind
+pub parts_behind : (t u : Surd) (y : Term) → SharesDenominators (y ∷ t) u → SharesDenominators (t ++ (y ∷ [])) u
+parts_behind t u y h = λ d p. h d (record { positive = p.positive; whole = ((parts_right d t (y ∷ []) p).whole.0, (parts_left d t (y ∷ []) p).whole) })
 
 -- no term is still to come
 pub parts_end : (t left w : Surd) → SharesDenominators w (t ++ left) → SharesDenominators w t

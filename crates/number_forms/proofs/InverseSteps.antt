@@ -1,9 +1,12 @@
 -- Inverses by terms.
-use Rattle.number_forms.proofs.Shared.{◌≡◌, ℕ, ◌≤◌, [], ◌∷◌, Some, Err, length, true, false, sym, ap, ◌∙◌, arith, slice_get, None, is_number, is_term, value, Rises, are_alike, Inverts, Term, Surd}
-use Rattle.number_forms.proofs.Shared.{Tree, add, more, none, size, sizes, Inverts-Same, value_rises, number_words, term_words, Same-trans, Same-eq, IsNumberOf, Full, inverse_trees, IsInverseOf}
-use Rattle.number_forms.proofs.Shared.{HasInverse, LacksInverse, inverting_calculations, term_tree, sum_of_terms, Calculation, first_misfit, inverse_of, first_of_inverse, second_of_inverse, building}
-use Rattle.number_forms.proofs.{Over.{of_over}, Shaped.{single_number, sum_number}, Worth.{Same-sym, some_term}}
+use Rattle.number_forms.proofs.Shared.{◌≡◌, ℕ, ◌≤◌, [], ◌∷◌, Some, Err, Bool, if◌then◌else◌, length, true, false, refl, sym, ap, ◌∙◌, subst, arith, slice_get, None, is_number, is_term, value, Rises}
+use Rattle.number_forms.proofs.Shared.{are_alike, Inverts, Term, term, Surd, surd_of, Fraction, is_zero_fraction, Tree, Trees, num, add, more, none, size, sizes, Inverts-Same, value_rises, number_words}
+use Rattle.number_forms.proofs.Shared.{term_words, Same-trans, Same-eq, IsNumberOf, Full, inverse_trees, IsInverseOf, HasInverse, LacksInverse, InverseOverflows, inverting_calculations, term_tree}
+use Rattle.number_forms.proofs.Shared.{sum_of_terms, first_misfit, inverse_of, first_of_inverse, second_of_inverse, building, taking, node_sizes, nodes_sizes, NumberFault, OfOverflow, OfFull}
+use Rattle.number_forms.proofs.{ListedTerms.{term_is, term_words_of}, Over.{of_over}, Placings.{lacking_below, lacking_on, rational_term}, Shaped.{single_number, sum_number}, Worth.{Same-sym, some_term}}
 use Rattle.calc_algebra.specs.Numbers.{term_of}
+use Rattle.surd_terms.specs.{Terms.{term_of as code}, declared.term.Term.{Term as CodeTerm}}
+use Rattle.tree_handles.specs.declared.fault.NumberFault.TheVariants as fault
 
 pub only_term : (v : Surd) (x : Term) → length v ≡ 1 → slice_get v 0 ≡ Some x → v ≡ x ∷ []
 only_term [] x l e = absurd (omega arith)
@@ -19,45 +22,55 @@ both_terms (a ∷ b ∷ c ∷ v) x y l e f = absurd (omega arith)
 pub apart_terms : (t : Tree) (x y : Term) → is_number t ≡ true → value t ≡ x ∷ y ∷ [] → are_alike x.radicand y.radicand ≡ false
 apart_terms t x y h e = grind (arith, value_rises, number_words)
 
-pub inverse_term : (v : Surd) (t : Tree) (x y : Term) → v ≡ x ∷ [] → Inverts (y ∷ []) (x ∷ []) → is_term t ≡ true → term_of t ≡ y → inverse_trees v ≡ more t none
-    → IsInverseOf v t
-inverse_term v t x y e i h f w = grind (arith, single_number, term_words, Inverts-Same, Same-sym, Same-trans, Same-eq)
-
-pub inverse_number : (v w : Surd) (t : Tree) (u : Surd) → v ≡ w → Inverts u w → IsNumberOf u t → inverse_trees v ≡ more t none → IsInverseOf v t
+inverse_number : (v w : Surd) (t : Tree) (u : Surd) → v ≡ w → Inverts u w → IsNumberOf u t → inverse_trees v ≡ more t none → IsInverseOf v t
 inverse_number v w t u e i n r = record { number = n.number; inverts = Inverts-Same (Same-sym n.worth) (Same-eq (sym e)) i; written = r }
 
 -- the terms of a Number of two classes rise, and so do terms with their radicands
-pub two_rise : (t : Tree) (x y p q : Term) → is_number t ≡ true → value t ≡ x ∷ y ∷ [] → p.radicand ≡ x.radicand → q.radicand ≡ y.radicand → Rises (p ∷ q ∷ [])
+two_rise : (t : Tree) (x y p q : Term) → is_number t ≡ true → value t ≡ x ∷ y ∷ [] → p.radicand ≡ x.radicand → q.radicand ≡ y.radicand → Rises (p ∷ q ∷ [])
 two_rise t x y p q h e f g = grind (arith, value_rises, number_words)
 
 -- the sum of two terms whose radicands rise
-pub placed_two : (t u x : Tree) (a b : Term) → t ≡ add (more u (more x none)) → is_term u ≡ true → term_of u ≡ a → is_term x ≡ true → term_of x ≡ b → Rises (a ∷ b ∷ [])
+placed_two : (t u x : Tree) (a b : Term) → t ≡ add (more u (more x none)) → is_term u ≡ true → term_of u ≡ a → is_term x ≡ true → term_of x ≡ b → Rises (a ∷ b ∷ [])
     → IsNumberOf (a ∷ b ∷ []) t
 placed_two t u x a b e h f k g r = grind (arith, of_over, sum_number, term_words)
 
--- ---- the new tree, and whether its bytes suffice
+-- ---- the terms of the inverse
 
-pub tree_of_one : (v : Surd) (x y : Term) → v ≡ x ∷ [] → y ≡ inverse_of x → inverse_trees v ≡ more (term_tree y) none
-tree_of_one v x y e f = ap inverse_trees e ∙ ap (λ (z : Term). more (term_tree z) none) (sym f)
+pub one_inverse : (t : Tree) (x : Term) (s : CodeTerm) → value t ≡ x ∷ [] → Inverts (code s ∷ []) (x ∷ []) → code s ≡ inverse_of x → IsInverseOf (value t) (term_tree (code s))
+one_inverse t x s e i f =
+    inverse_number (value t) (x ∷ []) _ (code s ∷ []) e i (subst (λ (z : Term). IsNumberOf (z ∷ []) (term_tree (code s))) (term_is s).1 (of_over (single_number (term_tree (code s)) (term_words_of s))))
+    (ap inverse_trees e ∙ ap (λ (z : Term). more (term_tree z) none) (sym f))
 
-pub tree_of_two : (v : Surd) (x y p q : Term) → v ≡ x ∷ y ∷ [] → p ≡ first_of_inverse x y → q ≡ second_of_inverse x y → inverse_trees v ≡ more (sum_of_terms p q) none
-tree_of_two v x y p q e f g = ap inverse_trees e ∙ (λ i. more (sum_of_terms (sym f i) (sym g i)) none)
+pub two_inverse : (t : Tree) (x y : Term) (p q : CodeTerm) → is_number t ≡ true → value t ≡ x ∷ y ∷ [] → Inverts (code p ∷ code q ∷ []) (x ∷ y ∷ []) → code p ≡ first_of_inverse x y
+    → code q ≡ second_of_inverse x y → IsInverseOf (value t) (sum_of_terms (code p) (code q))
+two_inverse t x y p q n e i f g =
+    inverse_number (value t) (x ∷ y ∷ []) _ (code p ∷ code q ∷ []) e i
+    (placed_two _ _ _ (code p) (code q) refl (term_is p).0 (term_is p).1 (term_is q).0 (term_is q).1
+    (two_rise t x y (code p) (code q) n e (ap (λ (z : Term). z.radicand) f) (ap (λ (z : Term). z.radicand) g)))
+    (ap inverse_trees e ∙ (λ i. more (sum_of_terms (sym f i) (sym g i)) none))
 
-pub fits_as : (v w : Surd) → v ≡ w → None ≡ first_misfit (inverting_calculations w) → first_misfit (inverting_calculations v) ≡ None
-fits_as v w e m = ap (λ (u : Surd). first_misfit (inverting_calculations u)) e ∙ sym m
+-- the inverse of a rational is one
+pub rational_inverse : (t u : Tree) (q : Fraction) → t ≡ num q → IsInverseOf (value t) u → (r : Fraction) × (u ≡ num r)
+rational_inverse t u q e i = by (is_zero_fraction q) (ap inverse_trees (ap value (sym e)) ∙ i.written)
+  where
+    tree_is : {a b : Tree} → more a none ≡ more b none → b ≡ a
+    tree_is h = cc
 
-pub unfit : (v w : Surd) (c : Calculation) (free : ℕ) → v ≡ w → Some c ≡ first_misfit (inverting_calculations w) → HasInverse v free → ⊥
-unfit v w c free e m h = let k : first_misfit (inverting_calculations w) ≡ None = ap (λ (u : Surd). first_misfit (inverting_calculations u)) (sym e) ∙ h.calculated in cc (m, k)
+    by : (b : Bool) → inverse_trees (if b then [] else surd_of q) ≡ more u none → (r : Fraction) × (u ≡ num r)
+    by true w = absurd cc
+    by false w = ((inverse_of (term q 1)).coefficient, tree_is w ∙ rational_term (inverse_of (term q 1)) refl)
 
-pub has_inverse : (v : Surd) (t : Tree) (free : ℕ) → first_misfit (inverting_calculations v) ≡ None → inverse_trees v ≡ more t none → size t ≤ free → HasInverse v free
-has_inverse v t free m w l = record { calculated = m; room = omega (arith, ap sizes w, l) }
+-- ---- where it fits, and its bytes suffice
 
-pub room_for : (v : Surd) (t : Tree) (free : ℕ) → inverse_trees v ≡ more t none → HasInverse v free → size t ≤ free
-room_for v t free w h = omega (arith, ap sizes w, h.room)
+pub has_inverse : (v : Surd) {t : Tree} (free : ℕ) → first_misfit (inverting_calculations v) ≡ None → IsInverseOf v t → size t ≤ free → HasInverse v free
+has_inverse v free m i l = record { calculated = m; room = omega (arith, ap sizes i.written, l) }
 
-pub lacks_inverse : (v : Surd) (t : Tree) (now free : ℕ) (full : Full) → first_misfit (inverting_calculations v) ≡ None → inverse_trees v ≡ more t none → now ≡ free
-    → building now t ≡ Err full → LacksInverse v free full
-lacks_inverse v t now free full m w e b = grind arith
+pub no_inverse : (v : Surd) (free : ℕ) (e : NumberFault) → OfOverflow (InverseOverflows v) e → OfFull (LacksInverse v free) e → HasInverse v free → ⊥
+no_inverse v free (fault.Full full) m l h = absurd (omega (arith, lacking_below free (inverse_trees v) full l.lacks, h.room))
+no_inverse v free (fault.Overflow o) m l h = absurd cc
+
+pub lacks_inverse : (v : Surd) {t : Tree} (free : ℕ) (full : Full) → first_misfit (inverting_calculations v) ≡ None → IsInverseOf v t → building free t ≡ Err full → LacksInverse v free full
+lacks_inverse v {t} free full m i b = record { calculated = m; lacks = ap (λ (ts : Trees). taking free (nodes_sizes ts)) i.written ∙ lacking_on free (node_sizes t) [] full b }
 
 -- none is made for no class, or for three or more
 pub none_to_make : (v : Surd) (free : ℕ) → length v ≡ 0 → HasInverse v free

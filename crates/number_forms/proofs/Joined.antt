@@ -16,11 +16,12 @@ apart_turned r s h = alike_turned s r ∙ h
 
 -- ---- put in
 
+-- a radicand that is not alike with another is another
+pub other_radicand : (r s : ℕ) → 0 < r → are_alike r s ≡ false → r ≡ s → ⊥
+other_radicand r s h a e = cc (alike_itself r h, ap (are_alike r) e, a)
+
 unequal : (r s : ℕ) → 0 < r → are_alike r s ≡ false → r ≤ s → r < s
-unequal r s h a l = grind (arith, differ)
-  where
-    differ : r ≡ s → ⊥
-    differ e = absurd (cc (alike_itself r h, ap (are_alike r) e, a))
+unequal r s h a l = grind (arith, other_radicand)
 
 below_rising : (t u : Term) (v : Surd) → t.radicand < u.radicand → IsBelowAll u v → IsApart t.radicand v → IsBelowAll t v
 below_rising t u [] h b a = tt

@@ -3,7 +3,7 @@ use Rattle.number_forms.proofs.Shared.{◌≡◌, ◌≢◌, ◌⊎◌, ℕ, zer
 use Rattle.number_forms.proofs.Shared.{subst, arith, append-nil, pos, if◌then◌else◌, refill, insert, remove, clean_square_free, IsProper, Fraction, mult, num_most, root, size, sizes, whole_fraction}
 use Rattle.number_forms.proofs.Shared.{IsExtracted, IsNumberOver, Parts, Same-append, Same-refl, is_number, joined_den, num, number_test, value, zero_fraction, lowest, gcd, AreTerms, IsTerm, IsSumOf}
 use Rattle.number_forms.proofs.Shared.{IsPlace, AreBelow, Same, Same-trans, Same-eq, SharesDenominators, Surd, Term, Trees, add, none, more, count, nth, removed, inserted, is_term, is_one_fraction}
-use Rattle.number_forms.proofs.Shared.{one_fraction, one_is, term_of, term_tree, term_words, terms_of, value_of, are_alike, append, AreListed, AreSmall, AreTermsOf, number_tree, trees_of, IsGcd-same}
+use Rattle.number_forms.proofs.Shared.{one_fraction, one_is, term_of, term_tree, term_words, terms_of, value_of, are_alike, append, AreListed, AreSmall, AreTermsOf, number_tree, trees_of, IsGcd-same, Tree}
 use Rattle.number_forms.proofs.{Shared.{drop_all, length-set, take_all, take_more, same_from_IsGcd, Joins}, Kept.{zero_value}, Denominators.{parts_extracted, shares_eq}, Exchanged.{place_removed}}
 use Rattle.number_forms.proofs.{Joined.{are_removed, rises_removed}, Placings.{rational_term, root_term, multiple_term, one_test}, Pairs.{term_is_number}, Shaped.{sum_number, term_value}}
 use Rattle.number_forms.proofs.{SquareFreeSums.{apart_at_place, apart_small}, SumChanges.{inserted_of, cancelled, made_one, apart_rest}, TermTrees.{rational_tree, root_tree, multiple_tree}}
@@ -33,6 +33,9 @@ term_is t = elim (is_one t.radicand) [
     by n false e =
         let o : value_of t.coefficient ≢ one_fraction = λ k. absurd (cc (ap is_one_fraction k ∙ one_test, e)) in
         multiple_tree (value_of t.coefficient) t.radicand (term_of t) (term_tree (term_of t)) refl t.not_zero o refl (two t.radicand t.positive n) t.clean (multiple_term (term_of t) n o)
+
+pub term_told : (t : CodeTerm) {u : Tree} → u ≡ term_tree (term_of t) → (is_term u ≡ true) × (term_of_tree u ≡ term_of t)
+term_told t e = (ap is_term e ∙ (term_is t).0, ap term_of_tree e ∙ (term_is t).1)
 
 pub term_words_of : (t : CodeTerm) → IsTerm (term_tree (term_of t))
 term_words_of t = term_words (term_tree (term_of t)) (term_is t).0
@@ -122,12 +125,8 @@ module _ (ts : List CodeTerm) (n : ℕ) (t : CodeTerm) (h : AreListed ts) (m : t
   inserted_terms p u =
       let many = count_trees ts in
       let within : n ≤ length ts = omega (arith, p.within, many) in
-      let other : n < count (trees_of ts) → are_alike t.radicand (term_of_tree (nth n (trees_of ts))).radicand ≡ false =
-      (λ l.
-      let there : n < length ts = omega (arith, l, many) in
-      let x = get_or ts n t in
-      subst (λ (y : Term). are_alike t.radicand y.radicand ≡ false) (sym (nth_tree ts n t there))
-      (apart_small t.radicand x.radicand (clean_square_free t.radicand t.clean m) (clean_square_free x.radicand x.clean (small_at ts n t there h.small)) (λ e. u there (sym e)))) in
+      let other = λ (l : n < count (trees_of ts)) (e : t.radicand ≡ (term_of_tree (nth n (trees_of ts))).radicand).
+      u (omega (arith, l, many)) (sym (e ∙ ap (λ (y : Term). y.radicand) (nth_tree ts n t (omega (arith, l, many))))) in
       let apart = apart_at_place (add (trees_of ts)) t.radicand n h.sum t.clean m (small_below ts h.small) p other in
       listed_as (insert ts n t) _ (trees_insert ts n t within)
       (inserted_of n (term_of t) (term_tree (term_of t)) (trees_of ts) (terms_of (trees_of ts)) (term_words_of t) (term_is t).1 refl t.positive apart p h.sum.0 h.sum.1)
@@ -224,9 +223,7 @@ terms_size [] = omega arith
 terms_size (t ∷ ts) = omega (arith, term_size (term_of t), terms_size ts)
 
 pub one_tree_of : (ts : List CodeTerm) (t : CodeTerm) → length ts ≡ 1 → t ≡ get_or ts 0 t → term_tree (term_of t) ≡ number_tree ts
-one_tree_of [] t l e = absurd (omega (arith, l))
-one_tree_of (u ∷ []) t l e = ap (λ (x : CodeTerm). term_tree (term_of x)) e
-one_tree_of (u ∷ w ∷ ts) t l e = absurd (omega (arith, l))
+one_tree_of ts t l e = grind arith
 
 pub no_tree_of : (ts : List CodeTerm) → length ts ≡ 0 → num (lowest (pos 0) 1) ≡ number_tree ts
 unfolding zero_fraction
@@ -234,9 +231,7 @@ no_tree_of [] l = refl
 no_tree_of (t ∷ ts) l = absurd (omega (arith, l))
 
 pub sum_tree_of : (ts : List CodeTerm) → (length ts ≡ 0 → ⊥) → (length ts ≡ 1 → ⊥) → add (trees_of ts) ≡ number_tree ts
-sum_tree_of [] n o = absurd (n refl)
-sum_tree_of (t ∷ []) n o = absurd (o refl)
-sum_tree_of (t ∷ u ∷ ts) n o = refl
+sum_tree_of ts n o = grind arith
 
 -- ---- as a Number
 

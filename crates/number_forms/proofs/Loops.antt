@@ -1,8 +1,8 @@
 -- Sums to which the terms of a list are joined one by one.
 use Rattle.number_forms.proofs.Shared.{◌≡◌, ℕ, zero, suc, ◌≤◌, ◌∷◌, ◌++◌, length, refl, sym, ap, subst, arith, [], value, Same, Term, Surd, SharesDenominators, Tree, Same-trans, Same-refl, State}
 use Rattle.number_forms.proofs.Shared.{IsSum, IsSumOf, plain, Gives, KeepsFront, root_tree, without_root, Stands, forest, KeepsRefusals, behind_first, front_after_one, front_same, given_told}
-use Rattle.number_forms.proofs.{Shared.{given_rest, gives_as, kept_same, kept_after, gives_itself}, Denominators.{shares_eq, parts_step, parts_end, parts_part}}
-use Rattle.number_forms.proofs.Worth.{terms_from, join_step, join_end, part_step}
+use Rattle.number_forms.proofs.{Shared.{given_rest, gives_as, kept_same, kept_after, gives_itself}, Denominators.{shares_eq, parts_behind, parts_end, parts_part}}
+use Rattle.number_forms.proofs.Worth.{terms_from, same_behind, join_end, part_step}
 
 -- a sum, and with what is left of a list it is worth the whole, over the common denominators of the whole
 pub record IsSumWith (left whole : Surd) (t : Tree) : Type 0 where
@@ -25,20 +25,6 @@ joined_none i v s st e = record {
   stands = st;
 }
 
-pub joined_more : (i : ℕ) (left rest whole w : Surd) (y : Term) (old now new : State) → IsJoined i left whole old now → left ≡ y ∷ rest
-    → Same w (y ∷ value (plain (root_tree i (forest now)))) → SharesDenominators (y ∷ value (plain (root_tree i (forest now)))) w
-    → Gives (without_root i (forest now)) (forest new) i (IsSumOf w) → KeepsFront (i ∷ []) (forest now) (forest new) → KeepsRefusals now new → Stands new → IsJoined i rest whole old new
-joined_more i left rest whole w y old now new j e s p g f k st = record {
-  gives = gives_as g (given_rest j.gives) (λ t h. record {
-    sum = h.sum;
-    worth = join_step (value (plain (root_tree i (forest now)))) (value t) left rest whole y e (Same-trans h.worth s) (given_told j.gives).worth;
-    parts = parts_step (value (plain (root_tree i (forest now)))) (value t) left rest whole y e (λ d q. h.parts d (p d q)) (given_told j.gives).parts;
-  });
-  front = front_after_one behind_first j.front f;
-  kept = kept_after j.kept k;
-  stands = st;
-}
-
 pub joined_part : (i : ℕ) (left row rest whole : Surd) (old now new : State) → IsJoined i left whole old now → left ≡ row ++ rest
     → Gives (without_root i (forest now)) (forest new) i (IsSumOf (value (plain (root_tree i (forest now))) ++ row))
     → KeepsFront (i ∷ []) (forest now) (forest new) → KeepsRefusals now new → Stands new → IsJoined i rest whole old new
@@ -52,6 +38,14 @@ joined_part i left row rest whole old now new j e g f k st = record {
   kept = kept_after j.kept k;
   stands = st;
 }
+
+pub joined_more : (i : ℕ) (left rest whole w : Surd) (y : Term) (old now new : State) → IsJoined i left whole old now → left ≡ y ∷ rest
+    → Same w (y ∷ value (plain (root_tree i (forest now)))) → SharesDenominators (y ∷ value (plain (root_tree i (forest now)))) w
+    → Gives (without_root i (forest now)) (forest new) i (IsSumOf w) → KeepsFront (i ∷ []) (forest now) (forest new) → KeepsRefusals now new → Stands new → IsJoined i rest whole old new
+joined_more i left rest whole w y old now new j e s p g f k st =
+    let v = value (plain (root_tree i (forest now))) in
+    joined_part i left (y ∷ []) rest whole old now new j e
+    (gives_as g refl (λ t h. record { sum = h.sum; worth = same_behind v (value t) y (Same-trans h.worth s); parts = parts_behind v (value t) y (λ d q. h.parts d (p d q)) })) f k st
 
 pub joined_all : {i : ℕ} {left whole : Surd} {old now : State} → IsJoined i left whole old now → left ≡ [] → Gives (without_root i (forest old)) (forest now) i (IsSumOf whole)
 joined_all {left = left} {whole = whole} j e = gives_as j.gives refl (λ t h. record { sum = h.sum; worth = join_end (value t) left whole e h.worth; parts = parts_end (value t) left whole h.parts })

@@ -1,7 +1,7 @@
 -- Numbers over the common denominators of what they are worth, and of powers of it.
-use Rattle.number_forms.proofs.Shared.{◌≡◌, ℕ, ◌+◌, ◌*◌, ◌/◌, ◌%◌, ◌^◌, ◌≢◌, ◌++◌, Result, Ok, Err, sym, subst, arith, IfOk, pow-add, value, Same, Surd, surd_times, surd_power, surd_power-squared}
+use Rattle.number_forms.proofs.Shared.{◌≡◌, ℕ, ◌+◌, ◌*◌, ◌/◌, ◌%◌, ◌^◌, ◌≢◌, ◌++◌, Result, Ok, Err, sym, subst, arith, IfOk, pow-add, value, Same, Surd, surd_times, surd_power, surd_power-squared, surd_power-multiplied}
 use Rattle.number_forms.proofs.Shared.{Same-trans, IsNoLarger, SharesPowers, Parts, SharesDenominators, power_once, parts_append, parts_times, no_larger, parts_left, parts_right, Tree, IsNumberOf}
-use Rattle.number_forms.proofs.{Shared.{IsNumberOver, IsPowerOver, State, Forest, tree_of, Gives, forest, given_told}, PowerSteps.{half_even, half_odd, power_odd}}
+use Rattle.number_forms.proofs.{Shared.{IsNumberOver, IsPowerOver, State, Forest, tree_of, Gives, forest, given_told}, PowerSteps.{half_even, half_odd}}
 
 pub of_over : {v : Surd} {t : Tree} → IsNumberOver v t → IsNumberOf v t
 of_over n = record { number = n.number; worth = n.worth }
@@ -42,14 +42,12 @@ squared_power v h q n i j = record {
   parts = subst (λ k. SharesPowers v k (value q)) (omega arith) (shares_times v (value h) (value h) (value q) n n i.parts i.parts j.parts);
 }
 
-pub even_power : (v : Surd) (h t : Tree) (n : ℕ) → n % 2 ≡ 0 → IsPowerOver v (n / 2) h → IsNumberOver (surd_times (value h) (value h)) t → IsPowerOver v n t
-even_power v h t n e i j = subst (λ k. IsPowerOver v k t) (half_even n e) (squared_power v h t (n / 2) i j)
+pub even_power : (v : Surd) (t : Tree) (n : ℕ) → n % 2 ≡ 0 → IsPowerOver v (2 * (n / 2)) t → IsPowerOver v n t
+even_power v t n e i = subst (λ k. IsPowerOver v k t) (half_even n e) i
 
-pub odd_power : (h q a t : Tree) (n : ℕ) → n % 2 ≢ 0 → IsPowerOver (value a) (n / 2) h → IsNumberOver (surd_times (value h) (value h)) q → IsNumberOver (surd_times (value q) (value a)) t
-    → IsPowerOver (value a) n t
-odd_power h q a t n e i j k = record {
+pub odd_power : (q a t : Tree) (n : ℕ) → n % 2 ≢ 0 → IsPowerOver (value a) (2 * (n / 2)) q → IsNumberOver (surd_times (value q) (value a)) t → IsPowerOver (value a) n t
+odd_power q a t n e i k = record {
   number = k.number;
-  worth = power_odd (value a) (value h) (value q) (value t) n e i.worth j.worth k.worth;
-  parts = subst (λ m. SharesPowers (value a) m (value t)) (omega (arith, half_odd n e))
-      (shares_times (value a) (value q) (value a) (value t) (2 * (n / 2)) 1 (squared_power (value a) h q (n / 2) i j).parts (shares_once (value a)) k.parts);
+  worth = Same-trans k.worth (subst (λ (m : ℕ). Same (surd_times (value q) (value a)) (surd_power (value a) m)) (half_odd n e) (surd_power-multiplied (value a) (value q) (2 * (n / 2)) i.worth));
+  parts = subst (λ m. SharesPowers (value a) m (value t)) (omega (arith, half_odd n e)) (shares_times (value a) (value q) (value a) (value t) (2 * (n / 2)) 1 i.parts (shares_once (value a)) k.parts);
 }

@@ -1,7 +1,7 @@
 -- What a call on Numbers is refused for, from the call that was refused.
 use Rattle.number_forms.proofs.Shared.{◌≡◌, ℕ, ◌+◌, ◌*◌, ◌/◌, ◌<◌, ◌≤◌, Some, inl, ap, ◌∙◌, subst, arith, value, Same, Term, Surd, surd_times, Tree, count, Same-trans, Same-append, Same-refl}
 use Rattle.number_forms.proofs.Shared.{SharesDenominators, IsNumberOver, IsPowerOver, JoinOverflows, SumOverflows, ProductOverflows, SquareOverflows, PowerOverflows, Overflow, calculation_of}
-use Rattle.number_forms.proofs.{Shared.{first_misfit, joining_calculations, children_of, nth}, Over.{shares_append, squared_power}}
+use Rattle.number_forms.proofs.{Shared.{first_misfit, joining_calculations, children_of, nth}, Over.{shares_append}}
 use Rattle.calc_algebra.specs.Numbers.{term_of}
 
 -- the term of a sum at a place, once it is read
@@ -43,10 +43,9 @@ power_overflows_more v m n o l p = record {
 pub square_overflows : (v : Surd) (h : Tree) (n : ℕ) (o : Overflow) → 1 ≤ n / 2 → IsPowerOver v (n / 2) h → SquareOverflows (value h) o → PowerOverflows v n o
 square_overflows v h n o l i p = grind arith
 
-pub last_overflows : (h q a : Tree) (n : ℕ) (o : Overflow) → 1 ≤ n / 2 → 2 * (n / 2) + 1 ≤ n → IsPowerOver (value a) (n / 2) h → IsNumberOver (surd_times (value h) (value h)) q
-    → IsPowerOver (value a) 1 a
+pub last_overflows : (q a : Tree) (n : ℕ) (o : Overflow) → 1 ≤ n / 2 → 2 * (n / 2) + 1 ≤ n → IsPowerOver (value a) (2 * (n / 2)) q → IsPowerOver (value a) 1 a
     → ProductOverflows (value q) (value a) o → PowerOverflows (value a) n o
-last_overflows h q a n o l w s i j p = record {
+last_overflows q a n o l w i j p = record {
   low = 2 * (n / 2);
   high = 1;
   within = w;
@@ -54,7 +53,7 @@ last_overflows h q a n o l w s i j p = record {
   high_positive = omega arith;
   first = q;
   second = a;
-  first_power = squared_power (value a) h q (n / 2) s i;
+  first_power = i;
   second_power = j;
   product = inl p;
 }

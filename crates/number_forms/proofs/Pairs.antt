@@ -1,6 +1,6 @@
 -- Two trees that were made one after the other.
-use Rattle.number_forms.proofs.Shared.{◌≡◌, ℕ, eqb, true, false, ap, ◌∙◌, Fraction, is_number, is_term, Tree, num, number_test, term_words, other_plain, plain, Forest, IsHanded, Gives, root_tree}
-use Rattle.number_forms.proofs.Shared.{without_root, given_handed, given_root, given_told, given_other, given_apart, given_rest, given_without, eqb-sym, IsNumberOf, Surd, IfOk, Result}
+use Rattle.number_forms.proofs.Shared.{◌≡◌, ℕ, [], ◌∷◌, more, none, eqb, true, false, ap, ◌∙◌, Fraction, is_number, is_term, Tree, num, number_test, term_words, other_plain, plain, Forest, IsHanded, Gives, root_tree}
+use Rattle.number_forms.proofs.Shared.{without_root, given_handed, given_root, given_told, given_other, given_apart, given_rest, given_without, eqb-sym, front_after, front_after_two, front_same, behind_new, KeepsFront, IsNumberOf, Surd, IfOk, Result}
 use Rattle.number_forms.proofs.{TermTrees.{if_given}, Shaped.{term_number}}
 
 pub first_handed : {f g h : Forest} {a b : ℕ} {P Q : Tree → Type 0} → Gives f g a P → Gives g h b Q → IsHanded a h
@@ -14,6 +14,14 @@ first_told {a = a} x y = ap is_number (other_plain a y (given_root x))
 
 pub pair_rest : {f g h : Forest} {a b : ℕ} {P Q : Tree → Type 0} → Gives f g a P → Gives g h b Q → without_root b (without_root a h) ≡ f
 pair_rest x y = given_without y (given_handed x) ∙ given_rest x
+
+-- what a node over them stands over
+pub pair_trees : {f g h : Forest} {x y : Tree} (a b : ℕ) → Gives f g a (λ t. t ≡ x) → Gives g h b (λ t. t ≡ y)
+    → more (plain (root_tree a h)) (more (plain (root_tree b h)) none) ≡ more x (more y none)
+pair_trees a b p q = λ i. more ((other_plain a q (given_root p) ∙ given_told p) i) (more (given_told q i) none)
+
+pub pair_front : {f g h n : Forest} {a b : ℕ} {P Q : Tree → Type 0} → Gives f g a P → Gives g h b Q → KeepsFront [] f g → KeepsFront [] g h → KeepsFront (a ∷ b ∷ []) h n → KeepsFront [] f n
+pair_front p q k l m = front_after_two (behind_new p.ends front_same) (behind_new q.ends k) (front_after k l) m
 
 pub rational_test : (t : Tree) (q : Fraction) → t ≡ num q → is_number t ≡ true
 rational_test t q e = ap is_number e ∙ number_test (num q) tt

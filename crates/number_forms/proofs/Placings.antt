@@ -1,6 +1,6 @@
 -- Whether the bytes of a term's tree suffice.
-use Rattle.number_forms.proofs.Shared.{◌≡◌, ◌≢◌, ◌↔◌, ℕ, ◌+◌, ◌-◌, ◌==◌, ◌<◌, ◌≤◌, true, false, Bool, pos, List, [], ◌∷◌, ◌++◌, Result, Ok, Err, refl, sym, ap, ◌∙◌, subst, arith, IsOk, IsErr}
-use Rattle.number_forms.proofs.Shared.{IfOk, IfErr, nat_le, if◌then◌else◌, gives_as, eq-eqb, lt-leb, leb-false, Fraction, lowest, one_fraction, is_one_fraction, whole_fraction, gcd, Tree, num}
+use Rattle.number_forms.proofs.Shared.{◌≡◌, ◌≢◌, ◌↔◌, ℕ, ◌+◌, ◌-◌, ◌==◌, ◌<◌, ◌≤◌, true, false, Bool, pos, List, [], ◌∷◌, ◌++◌, Result, Ok, Err, refl, sym, ap, ◌∙◌, subst, arith, IsOk, IsErr, OnOk}
+use Rattle.number_forms.proofs.Shared.{IfOk, IfErr, nat_le, if◌then◌else◌, eq-eqb, lt-leb, leb-false, Fraction, lowest, one_fraction, is_one_fraction, whole_fraction, gcd, Tree, num}
 use Rattle.number_forms.proofs.Shared.{add, mult, power, root, neg, sub, div, Trees, more, none, size, sizes, root_size, one_is, value, classes, Term, State, free_of, Full, term_tree, building}
 use Rattle.number_forms.proofs.Shared.{node_sizes, nodes_sizes, taking, LacksLongForm, Forest, tree_of, Gives, root_tree, plain, last_tree, Stands, forest, KeepsRefusals, IsRefused, given_told}
 use Rattle.number_forms.proofs.Shared.{given_free, size_by_form, is_short}
@@ -10,10 +10,7 @@ use Rattle.calc_terms.specs.declared.kind.Kind.TheVariants as kind
 pub free_before : {s t : State} {i : ℕ} {u : Tree} → Stands s → Stands t → KeepsRefusals s t → Gives (forest s) (forest t) i (λ x. x ≡ u) → free_of s ≡ free_of t + size u
 free_before {t = t} h k r g = given_free h k r g ∙ ap (λ x. free_of t + size x) (given_told g)
 
--- an answer where a fact holds, and a refusal where it does not
-pub answered : {A E : Type 0} (r : Result A E) (P : Type 0) → IsOk r → P → IsOk r ↔ P
-answered r P o p = (λ _. p, λ _. o)
-
+-- a refusal where a fact does not hold
 pub refused : {A E : Type 0} (r : Result A E) (P : Type 0) → IsErr r → (P → ⊥) → IsOk r ↔ P
 refused r P e n = grind arith
 
@@ -86,9 +83,28 @@ lacking_total free (n ∷ ns) full e = by (nat_le n free) refl e (lacking_total 
 pub lacking_below : (free : ℕ) (ts : Trees) (full : Full) → taking free (nodes_sizes ts) ≡ Err full → free < sizes ts
 lacking_below free ts full e = omega (arith, lacking_total free (nodes_sizes ts) full e, total-nodes_sizes ts)
 
--- two trees for which there is room, before other nodes
-pub placed_before : (free mid left : ℕ) (x y : Tree) (ms : List ℕ) → free ≡ mid + size x → mid ≡ left + size y → taking free (nodes_sizes (more x (more y none)) ++ ms) ≡ taking left ms
-placed_before free mid left x y ms e f = past free left (nodes_sizes (more x (more y none))) ms (omega (arith, total-nodes_sizes (more x (more y none))))
+-- an answer where the bytes suffice, and only there
+pub exact : {s t : State} (u : Tree) (r : Result ℕ Full) → Stands s → Stands t → OnOk r (KeepsRefusals s t) → IfOk r (λ h. Gives (forest s) (forest t) h (λ x. x ≡ u))
+    → IfErr r (λ full. building (free_of s) u ≡ Err full) → IsOk r ↔ (size u ≤ free_of s)
+exact u (Ok h) st su k g e = (λ o. omega (arith, free_before st su k g), λ l. refl)
+exact {s = s} u (Err full) st su k g e = (λ o. absurd cc, λ l. absurd (omega (arith, l, lacking_total (free_of s) (node_sizes u) full e, total-node_sizes u)))
+
+-- ---- two trees, and then other nodes
+
+pub first_lacks : (free : ℕ) (x y : Tree) (ms : List ℕ) {full : Full} → building free x ≡ Err full → taking free (nodes_sizes (more x (more y none)) ++ ms) ≡ Err full
+first_lacks free x y ms e = lacking_on free (nodes_sizes (more x (more y none))) ms _ (lacking_on free (node_sizes x) (nodes_sizes (more y none)) _ e)
+
+module _ {r s : State} {x : Tree} {a : ℕ} (sr : Stands r) (ss : Stands s) (k : KeepsRefusals r s) (p : Gives (forest r) (forest s) a (λ u. u ≡ x)) where
+  pub second_lacks : (y : Tree) (ms : List ℕ) {full : Full} → building (free_of s) y ≡ Err full → taking (free_of r) (nodes_sizes (more x (more y none)) ++ ms) ≡ Err full
+  second_lacks y ms e =
+      lacking_on (free_of r) (nodes_sizes (more x (more y none))) ms _
+      (built (free_of r) (free_of s) x (nodes_sizes (more y none)) (free_before sr ss k p) ∙ lacking_on (free_of s) (node_sizes y) [] _ e)
+
+  pub parent_lacks : {t u : State} {y : Tree} {b n : ℕ} {full : Full} → Stands t → KeepsRefusals s t → Gives (forest s) (forest t) b (λ u. u ≡ y) → IsRefused n t u full
+      → taking (free_of r) (nodes_sizes (more x (more y none)) ++ n ∷ []) ≡ Err full
+  parent_lacks {t} {y = y} {n = n} st l q f =
+      past (free_of r) (free_of t) (nodes_sizes (more x (more y none))) (n ∷ [])
+      (omega (arith, total-nodes_sizes (more x (more y none)), free_before sr ss k p, free_before ss st l q)) ∙ lacking [] f
 
 pub number_lacks : {A : Type 0} (s t : State) (n : ℕ) (r : Result A Full) → IfErr r (IsRefused n s t) → IfErr r (λ full. taking (free_of s) (n ∷ []) ≡ Err full)
 number_lacks s t n r h = grind arith
@@ -134,11 +150,11 @@ rational_radicand t q x e f = grind arith
 pub told_tree : {E : Type 0} (r : Result ℕ E) (f : Forest) (s : State) (u v : Tree) → IfOk r (λ h. Gives f (forest s) h (λ t. t ≡ u)) → u ≡ v → IfOk r (λ h. tree_of h s ≡ v)
 told_tree r f s u v g e = grind (arith, given_told)
 
--- what is told of it, and that it is this one
-pub given_tree : {f g : Forest} {i : ℕ} {P : Tree → Type 0} {u : Tree} → Gives f g i P → plain (root_tree i g) ≡ u → Gives f g i (λ t. P t × (t ≡ u))
-given_tree g e = record { tree = g.tree; ends = g.ends; once = g.once; whole = g.whole; told = (g.told, sym (ap plain (last_tree g.ends)) ∙ e) }
+-- what is given is this one
+pub given_is : {f g : Forest} {i : ℕ} {P : Tree → Type 0} {u : Tree} → Gives f g i P → plain (root_tree i g) ≡ u → Gives f g i (λ t. t ≡ u)
+given_is g e = record { tree = g.tree; ends = g.ends; once = g.once; whole = g.whole; told = sym (ap plain (last_tree g.ends)) ∙ e }
 
 pub if_tree : {E : Type 0} (r : Result ℕ E) (f : Forest) (s : State) (P : Tree → Type 0) (u v : Tree) → IfOk r (λ h. Gives f (forest s) h P) → IfOk r (λ h. tree_of h s ≡ u) → u ≡ v
     → IfOk r (λ h. Gives f (forest s) h (λ t. t ≡ v))
-if_tree (Ok h) f s P u v g e q = gives_as (given_tree g e) refl (λ t k. k.1 ∙ q)
+if_tree (Ok h) f s P u v g e q = given_is g (e ∙ q)
 if_tree (Err x) f s P u v g e q = tt

@@ -9,13 +9,11 @@ use Rattle.number_forms.specs.declared.calculating.Joint.TheVariants as joint
 -- ---- what an operation answers
 
 pub plain_answer : (op : Operation) (p q : Fraction) (t : Tree) → (operation_fits op p q ≡ false → ⊥) → t ≡ num (result_of op p q) → IsPlainAnswer (calculated op p q) t
-plain_answer op p q t h e =
-    by_test (λ b. operation_fits op p q ≡ b → IsPlainAnswer (if b then exactly (result_of op p q) else overflow op p q) t) (operation_fits op p q) (λ x y. e) (λ x y. absurd (h y)) refl
+plain_answer op p q t h e = grind arith
 
 pub plain_overflow : (op : Operation) (p q : Fraction) (o : Overflow) → operation_fits op p q ≡ false → operation_of o.op ≡ op → value_of o.a ≡ p → value_of o.b ≡ q
     → IsPlainOverflow (calculated op p q) o
-plain_overflow op p q o h x y z = by_test (λ b. operation_fits op p q ≡ b → IsPlainOverflow (if b then exactly (result_of op p q) else overflow op p q) o) (operation_fits op p q)
-    (λ e f. absurd (cc (f, h))) (λ e f. (x, y, z)) refl
+plain_overflow op p q o h x y z = grind arith
 
 pub num_same : {p q : Fraction} → num p ≡ num q → p ≡ q
 num_same e = cc

@@ -85,12 +85,7 @@ pub record SumParts (ts : Trees) : Type 0 where
   pub others : none_is is_number (other_terms ts) ≡ true
 
 sum_parts : (ts : Trees) → sum_form ts ≡ true → SumParts ts
-sum_parts ts h =
-    let (h3, _) = and_parts (has_two ts && none_is is_add ts && rises (terms_of (number_terms ts)) && none_is is_number (other_terms ts)) (rises_by part_of (other_terms ts)) h in
-    let (h2, others) = and_parts (has_two ts && none_is is_add ts && rises (terms_of (number_terms ts))) (none_is is_number (other_terms ts)) h3 in
-    let (h1, rising) = and_parts (has_two ts && none_is is_add ts) (rises (terms_of (number_terms ts))) h2 in
-    let (two, _) = and_parts (has_two ts) (none_is is_add ts) h1 in
-    record { two = two; rising = rising; others = others }
+sum_parts ts h = grind (arith, and_parts)
 
 sum_by_terms : (ts : Trees) → SumParts ts → AreAllTerms ts → is_number (add ts) ≡ true
 unfolding is_number

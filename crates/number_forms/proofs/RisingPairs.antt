@@ -15,31 +15,13 @@ pub record IsOneTerm (t : Tree) (x : Term) : Type 0 where
   pub term : x ≡ term_of_tree t
 
 pub one_term : (t : Tree) (x : Term) → is_number t ≡ true → classes t ≡ 1 → slice_get (value t) 0 ≡ Some x → IsOneTerm t x
-one_term t x h k e = by (as_number t (number_words t h))
-  where
-    by : AsNumber t → IsOneTerm t x
-    by (inl z) = absurd (omega (arith, k, ap (λ (v : Surd). length v) z.value_is))
-    by (inr (inl s)) = record { is = s.one; term = some_term (sym e ∙ ap (λ (v : Surd). slice_get v 0) s.value_is) }
-    by (inr (inr s)) = absurd (omega (arith, k, ap (λ (v : Surd). length v) s.value_is, s.two))
+one_term t x h k e = grind (arith, as_number, number_words, some_term)
 
 pub ranked : (o : Ordering) (a b : Tree) (x y : Term) → IsOneTerm a x → IsOneTerm b y → RanksTerms o x y → Ranks o a b
-ranked Less a b x y f g r = record {
-  first = f.is;
-  second = g.is;
-  rises = subst (λ (t : Term). Rises (t ∷ term_of_tree b ∷ [])) f.term (subst (λ (t : Term). Rises (x ∷ t ∷ [])) g.term r);
-}
-ranked Equal a b x y f g r = tt
-ranked Greater a b x y f g r = record {
-  first = g.is;
-  second = f.is;
-  rises = subst (λ (t : Term). Rises (t ∷ term_of_tree a ∷ [])) g.term (subst (λ (t : Term). Rises (y ∷ t ∷ [])) f.term r);
-}
+ranked o a b x y f g r = grind arith
 
 pub rising_pair : (a b t : Tree) → AreRising a b → t ≡ add (more a (more b none)) → IsNumberOver (value a ++ value b) t
-rising_pair a b t h e =
-    subst (λ (u : Tree). IsNumberOver (value a ++ value b) u) (sym e)
-    (subst (λ (v : Surd). IsNumberOver v (add (more a (more b none)))) (λ i. sym (term_value a h.first) i ++ sym (term_value b h.second) i)
-    (sum_number (more a (more b none)) (omega arith) (h.first, (h.second, tt)) h.rises))
+rising_pair a b t h e = grind (arith, term_value, sum_number)
 
 pub falling_pair : (a b t : Tree) → AreRising b a → t ≡ add (more b (more a none)) → IsNumberOver (value a ++ value b) t
 falling_pair a b t h e =

@@ -134,21 +134,15 @@ pub power_lacks : (gs : List ℕ) (free : ℕ) (a : Tree) → is_number a ≡ tr
 power_lacks gs free a h s l = omega (arith, number_size gs a h s, pow_pos (length gs))
 
 -- no rational is larger
-pub few_for_sum : (gs : List ℕ) (bytes : ℕ) → bytes < 40 → bytes < sum_need * 2 ^ length gs
-few_for_sum gs bytes l = omega (arith, pow_pos (length gs))
+pub few_for : (gs : List ℕ) (bytes : ℕ) → bytes < 40 → bytes < 40 * 2 ^ length gs
+few_for gs bytes l = omega (arith, pow_pos (length gs))
 
-pub few_for_product : (gs : List ℕ) (bytes : ℕ) → bytes < 40 → bytes < product_need * 2 ^ length gs
-few_for_product gs bytes l = omega (arith, pow_pos (length gs))
+pub few_for_sum : (gs : List ℕ) (bytes : ℕ) → bytes < 40 → bytes < sum_need * 2 ^ length gs
+few_for_sum gs bytes l = omega (arith, few_for gs bytes l)
 
 pub few_for_joint : (j : Joint) (gs : List ℕ) (bytes : ℕ) → bytes < 40 → bytes < joint_need j * 2 ^ length gs
-few_for_joint joint.Sum gs bytes l = few_for_sum gs bytes l
-few_for_joint joint.Product gs bytes l = few_for_product gs bytes l
-
-pub few_for_power : (gs : List ℕ) (bytes : ℕ) → bytes < 40 → bytes < power_need * 2 ^ length gs
-few_for_power gs bytes l = omega (arith, pow_pos (length gs))
-
-pub few_for_joining : (gs : List ℕ) (bytes : ℕ) → bytes < 40 → bytes < joining_need * 2 ^ length gs
-few_for_joining gs bytes l = omega (arith, pow_pos (length gs))
+few_for_joint joint.Sum gs bytes l = omega (arith, few_for gs bytes l)
+few_for_joint joint.Product gs bytes l = omega (arith, few_for gs bytes l)
 
 -- ---- inverses
 

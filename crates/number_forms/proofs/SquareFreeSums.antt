@@ -1,7 +1,8 @@
 -- Sums of terms whose radicands are so small that each class has one.
 use Rattle.number_forms.proofs.Shared.{◌∷◌, [], ◌≡◌, ℕ, zero, suc, ◌<◌, ◌≤◌, ◌^◌, ◌⊎◌, inl, inr, false, ap, ◌∙◌, subst, arith, false_from_ne_true, IsClean, IsBelowAll, Rises, terms_of, are_alike}
 use Rattle.number_forms.proofs.Shared.{Term, SharesDenominators, Tree, Trees, none, more, count, IsSum, IsApart, IsPlace, AreBelow, joined_den, nth, children_of, IsSquareFree, clean_square_free}
-use Rattle.number_forms.proofs.{Shared.{alike_square_free, term_simplest, Joined, Joins, IfTerm}, Rooms.{sum_parts}, Joined.{apart_each}, Shaped.{nth_is_term}}
+use Rattle.number_forms.specs.Joins.{IsOther}
+use Rattle.number_forms.proofs.{Shared.{alike_square_free, sym, term_simplest, Joined, Joins, IfTerm}, Rooms.{sum_parts}, Joined.{apart_each}, Shaped.{nth_is_term}}
 use Rattle.calc_algebra.specs.Numbers.{term_of}
 use Rattle.surd_terms.specs.{Sums.{IsSum as IsSumOfTwo}, Terms.{term_of as term_of_code}, declared.term.Term.{Term as CodeTerm}}
 use Rattle.surd_terms.specs.declared.sums.Joined.TheVariants as joined
@@ -70,8 +71,8 @@ pub apart_small : (r s : ℕ) → IsSquareFree r → IsSquareFree s → (r ≡ s
 apart_small r s f g h = false_from_ne_true (are_alike r s) (λ a. absurd (h (alike_square_free r s a f g)))
 
 pub apart_at_place : (t : Tree) (r n : ℕ) → IsSum t → IsClean r → r < 10 ^ 12 → AreBelow (10 ^ 12) (children_of t) → IsPlace n r (children_of t)
-    → (n < count (children_of t) → are_alike r (term_of (nth n (children_of t))).radicand ≡ false) → IsApart r (terms_of (children_of t))
-apart_at_place t r n h c l s p at = apart_each r ts (λ k x. by k x (order k n))
+    → IsOther n r (children_of t) → IsApart r (terms_of (children_of t))
+apart_at_place t r n h c l s p other = apart_each r ts (λ k x. by k x (order k n))
   where
     ts : Trees
     ts = children_of t
@@ -87,7 +88,7 @@ apart_at_place t r n h c l s p at = apart_each r ts (λ k x. by k x (order k n))
         let a : r ≤ (term_of (nth n ts)).radicand = p.above (omega (arith, x, y)) in
         let b = rises_in_sum t n k h y x in
         unequal k x (λ e. absurd (omega (arith, a, b, e)))
-    behind k x (inr e) = subst (λ (j : ℕ). are_alike r (term_of (nth j ts)).radicand ≡ false) e (at (omega (arith, x, e)))
+    behind k x (inr e) = unequal k x (λ q. other (omega (arith, x, e)) (q ∙ ap (λ (j : ℕ). (term_of (nth j ts)).radicand) (sym e)))
 
     by : (k : ℕ) → k < count ts → (k < n) ⊎ (n ≤ k) → are_alike r (term_of (nth k ts)).radicand ≡ false
     by k x (inl y) =

@@ -1,6 +1,6 @@
 -- Lists to which terms are joined one by one.
 use Rattle.number_forms.proofs.Shared.{◌≡◌, ℕ, zero, suc, ◌+◌, ◌<◌, ◌≤◌, List, [], ◌∷◌, ◌++◌, length, get_or, drop, refl, sym, ap, ◌∙◌, arith, add-one, Same, SharesDenominators, Surd, Term, term_of}
-use Rattle.number_forms.proofs.{Shared.{AreListed, AreTermsOf}, Denominators.{parts_end, parts_part, parts_step}, Worth.{join_end, join_step, part_step}}
+use Rattle.number_forms.proofs.{Shared.{AreListed, AreTermsOf}, Denominators.{parts_behind, parts_end, parts_part}, Worth.{join_end, part_step, same_behind}}
 use Rattle.number_forms.specs.Values.{surd_of}
 use Rattle.surd_terms.specs.declared.term.Term.{Term as CodeTerm}
 
@@ -10,13 +10,6 @@ pub record AreTermsWith (left whole : Surd) (ts : List CodeTerm) : Type 0 where
   pub worth : Same (surd_of ts ++ left) whole
   pub parts : SharesDenominators whole (surd_of ts ++ left)
 
-pub with_step : {left rest whole : Surd} {ts us : List CodeTerm} (y : Term) → left ≡ y ∷ rest → AreTermsOf (y ∷ surd_of ts) us → AreTermsWith left whole ts → AreTermsWith rest whole us
-with_step {left} {rest} {whole} {ts} {us} y e h k = record {
-  listed = h.listed;
-  worth = join_step (surd_of ts) (surd_of us) left rest whole y e h.worth k.worth;
-  parts = parts_step (surd_of ts) (surd_of us) left rest whole y e h.parts k.parts;
-}
-
 pub with_part : {left rest whole : Surd} {ts us : List CodeTerm} (row : Surd) → left ≡ row ++ rest → AreTermsOf (surd_of ts ++ row) us → AreTermsWith left whole ts
     → AreTermsWith rest whole us
 with_part {left} {rest} {whole} {ts} {us} row e h k = record {
@@ -24,6 +17,10 @@ with_part {left} {rest} {whole} {ts} {us} row e h k = record {
   worth = part_step (surd_of ts) (surd_of us) left row rest whole e h.worth k.worth;
   parts = parts_part (surd_of ts) (surd_of us) left row rest whole e h.parts k.parts;
 }
+
+pub with_step : {left rest whole : Surd} {ts us : List CodeTerm} (y : Term) → left ≡ y ∷ rest → AreTermsOf (y ∷ surd_of ts) us → AreTermsWith left whole ts → AreTermsWith rest whole us
+with_step {ts = ts} {us = us} y e h k =
+    with_part (y ∷ []) e (record { listed = h.listed; worth = same_behind (surd_of ts) (surd_of us) y h.worth; parts = parts_behind (surd_of ts) (surd_of us) y h.parts }) k
 
 pub with_none : {left whole : Surd} {ts : List CodeTerm} → left ≡ [] → AreTermsWith left whole ts → AreTermsOf whole ts
 with_none {left} {whole} {ts} e k = record { listed = k.listed; worth = join_end (surd_of ts) left whole e k.worth; parts = parts_end (surd_of ts) left whole k.parts }

@@ -31,12 +31,9 @@ get_from (suc m) zero v l = absurd (omega arith)
 get_from (suc m) (suc n) [] l = refl
 get_from (suc m) (suc n) (x ∷ v) l = ap (slice_get (terms_from m v)) (omega arith) ∙ get_from m n v (omega arith)
 
--- a term that was still to come was joined
-pub join_step : (t u left rest w : Surd) (y : Term) → left ≡ y ∷ rest → Same u (y ∷ t) → Same (t ++ left) w → Same (u ++ rest) w
-join_step t u left rest w y e h k =
-    let one : Same (u ++ rest) (y ∷ (t ++ rest)) = Same-append h (Same-refl rest) in
-    let two : Same (y ∷ (t ++ rest)) (t ++ (y ∷ rest)) = Same-sym (Same-to_front t y rest) in
-    Same-trans one (Same-trans two (subst (λ (x : Surd). Same (t ++ x) w) e k))
+-- a term in front, and behind
+pub same_behind : (t u : Surd) (y : Term) → Same u (y ∷ t) → Same u (t ++ (y ∷ []))
+same_behind t u y h = Same-trans h (Same-append_comm (y ∷ []) t)
 
 -- no term is still to come
 pub join_end : (t left w : Surd) → left ≡ [] → Same (t ++ left) w → Same t w

@@ -3,9 +3,10 @@ use Rattle.std.specs.Prelude.{ℕ, ⊤, ◌≡◌, ◌≤◌, true, None, Err, [
 use Rattle.calc_algebra.specs.{Numbers.{is_number, value, classes}, SquareClasses.{Inverts}, Surds.{Surd}}
 use Rattle.calc_terms.specs.Trees.{Tree, Trees, none, more, sizes}
 use Rattle.node_pool.specs.declared.full.Full.{Full}
-use Rattle.number_forms.specs.{Overflows.{inverting_calculations}, Shapes.{term_tree, sum_of_terms}, declared.inverting.Inverse.{Inverse}}
+use Rattle.number_forms.specs.{Overflows.{inverting_calculations}, Shapes.{term_tree, sum_of_terms}, declared.inverting.{Inverse.{Inverse}, Terms.{Terms}}}
 use Rattle.number_forms.specs.declared.inverting.Inverse.TheVariants as inverse
-use Rattle.surd_terms.specs.{Calculations.{first_misfit}, Inverses.{inverse_of, first_of_inverse, second_of_inverse}}
+use Rattle.number_forms.specs.declared.inverting.Terms.TheVariants as terms
+use Rattle.surd_terms.specs.{Calculations.{first_misfit}, Inverses.{inverse_of, first_of_inverse, second_of_inverse}, Terms.{term_of}}
 use Rattle.tree_handles.specs.{Building.{nodes_sizes, taking}, Forest.{Forest}, Handed.{Gives}, Roots.{without_root}}
 
 -- the new tree for the inverse of one term, or of the sum of two; there is none for others
@@ -13,6 +14,11 @@ abbrev pub inverse_trees : Surd → Trees
 inverse_trees (x ∷ []) = more (term_tree (inverse_of x)) none
 inverse_trees (x ∷ y ∷ []) = more (sum_of_terms (first_of_inverse x y) (second_of_inverse x y)) none
 inverse_trees _ = none
+
+-- the tree of the terms of an inverse
+abbrev pub tree_of_terms : Terms → Tree
+tree_of_terms (terms.One s) = term_tree (term_of s)
+tree_of_terms (terms.Two s t) = sum_of_terms (term_of s) (term_of t)
 
 -- a Number that inverts v, written as the terms of the formula
 pub record IsInverseOf (v : Surd) (t : Tree) : Type 0 where

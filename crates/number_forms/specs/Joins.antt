@@ -1,5 +1,5 @@
 -- How a term meets a sum of terms.
-use Rattle.std.specs.Prelude.{◌<◌, [], ◌∷◌}
+use Rattle.std.specs.Prelude.{ℕ, ◌≡◌, ◌<◌, [], ◌∷◌}
 use Rattle.calc_algebra.specs.{Numbers.{term_of, terms_of}, Surds.{Term}}
 use Rattle.calc_bits.specs.Denominators.{SharesDenominators}
 use Rattle.calc_terms.specs.Trees.{Trees, count}
@@ -14,3 +14,7 @@ abbrev pub IsMatch : Term → Trees → Match → Type 0
 IsMatch t ts (match.Apart at) = IsApart t.radicand (terms_of ts) × IsPlace at t.radicand ts
 IsMatch t ts (match.Zero at) = (at < count ts) × Joins joined.Zero (term_of (nth at ts)) t
 IsMatch t ts (match.Term at s) = (at < count ts) × Joins (joined.Term s) (term_of (nth at ts)) t × SharesDenominators (term_of (nth at ts) ∷ t ∷ []) (term_of_code s ∷ [])
+
+-- the term at a place, if there is one, has another radicand
+abbrev pub IsOther : ℕ → ℕ → Trees → Type 0
+IsOther at r ts = at < count ts → r ≡ (term_of (nth at ts)).radicand → ⊥

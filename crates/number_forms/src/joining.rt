@@ -1,12 +1,12 @@
 //! Terms joined to a sum of terms that stands last.
-ghost use Rattle.std.specs.Prelude.{◌≡◌, ◌<◌, ◌≤◌, ◌-◌, ◌^◌, ◌∷◌, [], ℕ, IsTrue, IfOk, IfErr, IfSome, OnOk};
+ghost use Rattle.std.specs.Prelude.{◌≡◌, ◌<◌, ◌≤◌, ◌-◌, ◌^◌, ◌∷◌, [], ℕ, IsTrue, IfOk, IfErr, MatchOption, OnOk};
 ghost use Rattle.calc_algebra.specs.Clean.{IsClean};
 ghost use Rattle.calc_algebra.specs.Numbers.{value, term_of as term_of_tree, terms_of};
 ghost use Rattle.calc_terms.specs.Trees.{count};
 ghost use Rattle.node_pool.specs.State.{free_of};
 ghost use Rattle.child_lists.specs.Lists.{Lists};
 ghost use Rattle.number_forms.specs.Sums.{IsSum, IsSumOf, IsApart, IsPlace, AreBelow, removed};
-ghost use Rattle.number_forms.specs.Joins.{IsMatch};
+ghost use Rattle.number_forms.specs.Joins.{IsMatch, IsOther};
 ghost use Rattle.tree_handles.specs.Lacking.{OfFull};
 ghost use Rattle.number_forms.specs.Overflows.{JoinOverflows};
 ghost use Rattle.tree_handles.specs.Standing.{LacksBytes, Stands, forest, KeepsRefusals, Refuses};
@@ -87,33 +87,31 @@ fn match_in<const N: usize>(
     ensures overflow { IfErr result (JoinOverflows (plain (tree_at sum (forest pool.now))) (term_of term)) }
     ensures caused { IfErr result Overflows }
 {
-    if term.radicand() < SQUARE_FREE_BELOW && are_square_free(pool, sum, list) {
-        return match_at_place(pool, sum, list, term);
-    }
-    match match_equal(pool, sum, list, term, seen) {
+    let at = place_near(pool, sum, list, term.radicand(), seen);
+    match match_equal(pool, sum, list, term, at) {
         Ok(Some(found)) => Ok(found),
-        Ok(None) => match_anywhere(pool, sum, list, term),
+        Ok(None) => match_other(pool, sum, list, term, at),
         Err(overflow) => Err(overflow),
     }
 }
 
-/// How a term meets the one of a sum that has its radicand, if there is one.
+/// How a term meets the one of a sum that has its radicand, if there is one, which stands at its place.
 fn match_equal<const N: usize>(
     pool: &Pool,
     sum: Id,
     list: &ChildList<N>,
     term: Term,
-    seen: u16,
+    at: u16,
 ) -> Result<Option<Match>, Overflow>
     requires stands { Stands pool.now }
     requires expression { IsExpression sum (forest pool.now) }
     requires sum { IsSum (plain (tree_at sum (forest pool.now))) }
     requires lists { Lists list.now sum (forest pool.now) }
-    ensures ok { IfOk result (λ found. IfSome found (IsMatch (term_of term) (children_of (plain (tree_at sum (forest pool.now)))))) }
+    requires place { IsPlace at (term_of term).radicand (children_of (plain (tree_at sum (forest pool.now)))) }
+    ensures ok { IfOk result (λ found. MatchOption found (IsOther at (term_of term).radicand (children_of (plain (tree_at sum (forest pool.now))))) (IsMatch (term_of term) (children_of (plain (tree_at sum (forest pool.now)))))) }
     ensures overflow { IfErr result (JoinOverflows (plain (tree_at sum (forest pool.now))) (term_of term)) }
     ensures caused { IfErr result Overflows }
 {
-    let at = place_near(pool, sum, list, term.radicand(), seen);
     if at == children(pool, sum) {
         return Ok(None);
     }
@@ -145,47 +143,37 @@ fn are_square_free<const N: usize>(pool: &Pool, sum: Id, list: &ChildList<N>) ->
     radicand_at(pool, sum, list, many - 1) < SQUARE_FREE_BELOW
 }
 
-/// The same where all radicands are square-free, so that only an equal one is alike.
-fn match_at_place<const N: usize>(
+/// The same where none has its radicand, whose place is told: only an equal one is alike where all are square-free.
+fn match_other<const N: usize>(
     pool: &Pool,
     sum: Id,
     list: &ChildList<N>,
     term: Term,
+    at: u16,
 ) -> Result<Match, Overflow>
     requires stands { Stands pool.now }
     requires expression { IsExpression sum (forest pool.now) }
     requires sum { IsSum (plain (tree_at sum (forest pool.now))) }
     requires lists { Lists list.now sum (forest pool.now) }
-    requires term_below { (term_of term).radicand < 10 ^ 12 }
-    requires sum_below { AreBelow (10 ^ 12) (children_of (plain (tree_at sum (forest pool.now)))) }
+    requires place { IsPlace at (term_of term).radicand (children_of (plain (tree_at sum (forest pool.now)))) }
+    requires other { IsOther at (term_of term).radicand (children_of (plain (tree_at sum (forest pool.now)))) }
     ensures ok { IfOk result (IsMatch (term_of term) (children_of (plain (tree_at sum (forest pool.now))))) }
     ensures overflow { IfErr result (JoinOverflows (plain (tree_at sum (forest pool.now))) (term_of term)) }
     ensures caused { IfErr result Overflows }
 {
-    let at = place_of(pool, sum, list, term.radicand());
-    if at == children(pool, sum) {
-        return Ok(Match::Apart(at));
-    }
-    let other = term_at(pool, list.child(pool, sum, at));
-    let joined = join(other, term)?;
-    match joined {
-        Joined::Apart => Ok(Match::Apart(at)),
-        Joined::Zero => Ok(Match::Zero(at)),
-        Joined::Term(one) => Ok(Match::Term(at, one)),
+    if term.radicand() < SQUARE_FREE_BELOW && are_square_free(pool, sum, list) {
+        Ok(Match::Apart(at))
+    } else {
+        match_anywhere(pool, sum, term, at)
     }
 }
 
-/// The same for any radicands.
-fn match_anywhere<const N: usize>(
-    pool: &Pool,
-    sum: Id,
-    list: &ChildList<N>,
-    term: Term,
-) -> Result<Match, Overflow>
+/// The same for any radicands: each term is looked at.
+fn match_anywhere(pool: &Pool, sum: Id, term: Term, place: u16) -> Result<Match, Overflow>
     requires stands { Stands pool.now }
     requires expression { IsExpression sum (forest pool.now) }
     requires sum { IsSum (plain (tree_at sum (forest pool.now))) }
-    requires lists { Lists list.now sum (forest pool.now) }
+    requires place { IsPlace place (term_of term).radicand (children_of (plain (tree_at sum (forest pool.now)))) }
     ensures ok { IfOk result (IsMatch (term_of term) (children_of (plain (tree_at sum (forest pool.now))))) }
     ensures overflow { IfErr result (JoinOverflows (plain (tree_at sum (forest pool.now))) (term_of term)) }
     ensures caused { IfErr result Overflows }
@@ -199,7 +187,6 @@ fn match_anywhere<const N: usize>(
             Joined::Term(joined) => return Ok(Match::Term(at, joined)),
         }
     }
-    let place = place_of(pool, sum, list, term.radicand());
     Ok(Match::Apart(place))
 }
 

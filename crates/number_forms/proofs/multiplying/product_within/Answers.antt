@@ -1,7 +1,7 @@
 use Rattle.number_forms.proofs.Shared.{◌≡◌, ℕ, ◌++◌, refl, sym, ap, ◌∙◌, subst, arith, ◌*◌, ◌^◌, ◌<◌, length, is_number, value, surd_times, Same-trans, Same-eq, IsSum, lists_at, lists_none}
 use Rattle.number_forms.proofs.Shared.{lists_listed, root_ids, kids_of_last, expression_root, Tree, other_plain, gives_rest, kept_after, overflow_as, tree_of, IsHanded, IsExpression, without_root}
 use Rattle.number_forms.proofs.Shared.{forest, behind_new, front_same, front_after_one, given_told, given_other, given_rest, gives_as, handed_at, ProductOverflows, OfOverflow, passed_on, Spans}
-use Rattle.number_forms.proofs.{Shared.{free_of, LacksRoom, joining_need, refused_below, given_free}, Denominators.{shares_eq}, Over.{over_as}, Rooms.{full_as, few_for_joining, number_spans}}
+use Rattle.number_forms.proofs.{Shared.{free_of, LacksRoom, joining_need, refused_below, given_free}, Denominators.{shares_eq}, Over.{over_as}, Rooms.{full_as, few_for, number_spans}}
 use Rattle.tree_handles.specs.declared.fault.NumberFault.TheVariants as fault
 use Rattle.number_forms.proofs.multiplying.product_within.Goals as goal
 
@@ -9,7 +9,7 @@ pub returns-in_err-sum-clause-room : goal.returns-in_err-sum-clause-room
 returns-in_err-sum-clause-room g c = λ gs s t.
     let few : free_of c.args.pool.now < 8 = refused_below c.in_err-sum.ensures.full in
     passed_on c.from_residual.result (fault.Full c.in_err-sum.field-0.0) (LacksRoom joining_need (free_of c.args.pool.now) gs) c.from_residual.ensures.0 c.from_residual.ensures.1
-    (few_for_joining gs _ (omega arith))
+    (omega (arith, few_for gs (free_of c.args.pool.now) (omega arith)))
 
 pub returns-in_err-join_rows-clause-room : goal.returns-in_err-join_rows-clause-room
 returns-in_err-join_rows-clause-room g c = λ gs s t.
@@ -32,7 +32,7 @@ returns-in_err-number_of-clause-room g c = λ gs s t.
     let free = given_free c.requires.stands c.in_ok-join_rows.ensures.stands (kept_after c.in_ok-sum.ensures.kept c.in_ok-join_rows.ensures.kept) rows in
     passed_on c.from_residual-in_err-number_of.result (fault.Full c.in_err-number_of.field-0.0)
     (LacksRoom joining_need (free_of c.args.pool.now) gs) c.from_residual-in_err-number_of.ensures.0 c.from_residual-in_err-number_of.ensures.1
-    (few_for_joining gs _ (subst (λ (n : ℕ). n < 40) (sym free) c.in_err-number_of.ensures.room))
+    (omega (arith, few_for gs (free_of c.args.pool.now) (subst (λ (n : ℕ). n < 40) (sym free) c.in_err-number_of.ensures.room)))
 
 pub join_rows-requires : goal.join_rows-requires
 join_rows-requires g c = (omega (arith, c.requires.few), (c.in_ok-sum.ensures.stands, (gives_rest (c.in_ok-sum.ensures.given refl) (λ t e. subst IsSum (sym e) (tt, tt)), (lists_none c.new-list.ensures (ap root_ids (kids_of_last c.in_ok-sum.ensures.stands c.in_ok-sum.ensures.ok)), (subst (λ (i : ℕ). IsHanded i (without_root c.in_ok-sum.sum (forest c.node.new.pool))) (sym c.id-2.ensures) (handed_at c.requires.first (given_rest (c.in_ok-sum.ensures.given refl))), (subst (λ (i : ℕ). IsHanded i (without_root c.in_ok-sum.sum (forest c.node.new.pool))) (sym c.id-3.ensures) (handed_at c.requires.second (given_rest (c.in_ok-sum.ensures.given refl))), (ap (λ (i : ℕ). is_number (tree_of i c.node.new.pool)) c.id-2.ensures ∙ ap is_number (other_plain c.args.a.now (c.in_ok-sum.ensures.given refl) c.requires.first.root) ∙ c.requires.first_number, (ap (λ (i : ℕ). is_number (tree_of i c.node.new.pool)) c.id-3.ensures ∙ ap is_number (other_plain c.args.b.now (c.in_ok-sum.ensures.given refl) c.requires.second.root) ∙ c.requires.second_number, lists_at (c.id-3.ensures ∙ sym c.id.ensures) (lists_listed _ c.of-terms.ensures)))))))))

@@ -1,5 +1,5 @@
-use Rattle.number_forms.proofs.Shared.{◌<◌, ◌*◌, List, length, take, refl, subst, arith, length-take-le, take_all, Trees, forest, free_of, front_after, front_same, gives_as, kept_after, kept_same}
-use Rattle.number_forms.proofs.{Shared.{passed_on, Adds, trees_of}, ListedTerms.{terms_size, trees_more}, Placings.{given_tree}, Planted.{adds_free, adds_more, adds_none}}
+use Rattle.number_forms.proofs.Shared.{◌<◌, ◌*◌, List, length, take, subst, arith, length-take-le, take_all, Trees, forest, free_of, front_after, front_same, kept_after, kept_same}
+use Rattle.number_forms.proofs.{Shared.{passed_on, Adds, trees_of}, ListedTerms.{terms_size, trees_more}, Placings.{given_is}, Planted.{adds_free, adds_more, adds_none}}
 use Rattle.surd_terms.specs.declared.term.Term.{Term}
 use Rattle.number_forms.proofs.placing.place_all.Goals as goal
 
@@ -10,7 +10,7 @@ pub loop-term-preserved : goal.loop-term-preserved
 loop-term-preserved c =
     let i = c.loop-term.invariant in
     let more = trees_more c.args.terms.now c.loop-term.term-index c.term-item.result c.loop-term-test.true c.term-item.is in
-    let placed = gives_as (given_tree c.in_ok-_term.ensures.ok c.in_ok-_term.ensures.tree) refl (λ t h. h.1) in
+    let placed = given_is c.in_ok-_term.ensures.ok c.in_ok-_term.ensures.tree in
     record {
       placed = omega (arith, i.placed);
       adds = subst (λ (ts : Trees). Adds ts (forest c.args.pool.now) (forest c.place_term.new.pool)) more (adds_more i.adds placed);

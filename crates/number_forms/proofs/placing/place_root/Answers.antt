@@ -21,15 +21,6 @@ bytes q = root_size (num q)
 mid : (c : In_ok-rational) → free_of c.args.pool.now ≡ free_of c.number.new.pool + bytes (whole_fraction (pos c.args.radicand))
 mid c = free_before c.requires.stands c.number.ensures.stands c.in_ok-rational.ensures.kept c.in_ok-rational.ensures.given ∙ ap (λ (q : Fraction). free_of c.number.new.pool + bytes q) c.whole.ensures
 
-pub returns-in_err-rational-clause-exactly : goal.returns-in_err-rational-clause-exactly
-returns-in_err-rational-clause-exactly c =
-    refused c.from_residual.result _ c.from_residual.ensures.0 (λ enough. absurd (cc (c.in_err-rational.ensures.exactly.1 (omega (arith, enough, ap bytes c.whole.ensures)))))
-
-pub returns-clause-exactly : goal.returns-clause-exactly
-returns-clause-exactly c =
-    let m = mid (goal.at.returns-clause-exactly c).In_ok-rational in
-    (λ o. let least : 8 ≤ free_of c.number.new.pool = c.node_over.ensures.exactly.0 o in omega (arith, least, m), λ enough. c.node_over.ensures.exactly.1 (omega (arith, enough, m)))
-
 -- ---- the first node that lacks bytes
 
 abbrev Short : ℕ → ℕ → Full → Type 0

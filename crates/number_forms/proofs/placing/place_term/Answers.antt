@@ -1,11 +1,8 @@
-use Rattle.number_forms.proofs.Shared.{◌≡◌, ◌≢◌, ◌↔◌, ℕ, subst, ◌≤◌, sym, ap, ◌∙◌, arith, rules, to_z, of_z, FitsSigned, ℤ, pos, IsOk, IfErr, Err, w128, to_z-of_z, one_fraction, whole_fraction}
+use Rattle.number_forms.proofs.Shared.{◌≡◌, ◌≢◌, ◌↔◌, ℕ, subst, ◌≤◌, sym, ap, ◌∙◌, rules, to_z, of_z, FitsSigned, ℤ, pos, IsOk, IfErr, Err, w128, to_z-of_z, one_fraction, whole_fraction}
 use Rattle.number_forms.proofs.{Shared.{value_of, Tree, num, root, mult, more, none, size, term_tree, root_size, free_of, building, term_of}, Placings.{number_lacks, rational_term, root_term}}
-use Rattle.number_forms.proofs.{Placings.{multiple_term, told_tree}, TermTrees.{rational_tree, root_tree, multiple_tree, if_gives, is_one_value, not_one_num, not_one_den}}
+use Rattle.number_forms.proofs.{ListedTerms.{term_told}, Placings.{exact, multiple_term, told_tree}, TermTrees.{if_gives, is_one_value, not_one_num, not_one_den}}
 use Rattle.number_forms.proofs.placing.place_term.Goals.{After-radicand-then-den-eq1, After-radicand-else-num-eq1, else-num-eq1-via-then-num-eq1+else-den-eq1, else-num-eq1-via-else-num-eq1}
 use Rattle.number_forms.proofs.placing.place_term.Goals as goal
-
-two : (n : ℕ) → 1 ≤ n → n ≢ 1 → 2 ≤ n
-two n l h = grind arith
 
 one_bits : (z : ℤ) → FitsSigned w128 z → of_z w128 z ≡ 1 → z ≡ pos 1
 one_bits z fits e = sym (to_z-of_z w128 z fits) ∙ ap (to_z w128) e
@@ -41,24 +38,16 @@ multiplied c = (λ i. mult (more (num (c.coefficient-coefficient.ensures.value i
     ∙ sym (multiple_term (term_of c.args.term) (λ k. c.if-radicand-eq1.false (c.radicand.ensures.value ∙ k)) (λ k. other c (c.coefficient-coefficient.ensures.value ∙ k)))
 
 pub returns-then-radicand-eq1-clause-ok : goal.returns-then-radicand-eq1-clause-ok
-returns-then-radicand-eq1-clause-ok c =
-    if_gives c.number.result _ _ _ _ c.number.ensures.given
-    (λ t e. rational_tree _ _ t c.coefficient-coefficient.ensures.value c.coefficient-coefficient.ensures.not_zero (sym c.radicand.ensures.value ∙ c.if-radicand-eq1.true) e)
+returns-then-radicand-eq1-clause-ok c = if_gives c.number.result _ _ _ _ c.number.ensures.given
+    (λ u e. term_told c.args.term (e ∙ ap num c.coefficient-coefficient.ensures.value ∙ sym (rational_term (term_of c.args.term) (sym c.radicand.ensures.value ∙ c.if-radicand-eq1.true))))
 
 pub returns-then-den-eq1-clause-ok : goal.returns-then-den-eq1-clause-ok
 returns-then-den-eq1-clause-ok c =
-    let same = c.radicand-then-den-eq1.ensures.value ∙ sym c.radicand.ensures.value in
-    if_gives c.place_root.result _ _ _ _ c.place_root.ensures.ok
-    (λ t e. root_tree _ _ t (sym (one (goal.at.returns-then-den-eq1-clause-ok c).After-radicand-then-den-eq1) ∙ c.coefficient-coefficient.ensures.value) c.radicand-then-den-eq1.ensures.value
-    (two _ c.radicand-then-den-eq1.ensures.positive (λ k. c.if-radicand-eq1.false (sym same ∙ k))) c.radicand-then-den-eq1.ensures.clean e)
+    if_gives c.place_root.result _ _ _ _ c.place_root.ensures.ok (λ u e. term_told c.args.term (e ∙ rooted (goal.at.returns-then-den-eq1-clause-ok c).After-radicand-then-den-eq1))
 
 pub returns-else-num-eq1-clause-ok : goal.returns-else-num-eq1-clause-ok
 returns-else-num-eq1-clause-ok c =
-    let same = c.radicand-else-num-eq1.ensures.value ∙ sym c.radicand.ensures.value in
-    if_gives c.place_multiple.result _ _ _ _ c.place_multiple.ensures.ok
-    (λ t e. multiple_tree _ _ _ t c.coefficient-coefficient.ensures.value c.coefficient-coefficient.ensures.not_zero
-    (other (goal.at.returns-else-num-eq1-clause-ok c).After-radicand-else-num-eq1) c.radicand-else-num-eq1.ensures.value
-    (two _ c.radicand-else-num-eq1.ensures.positive (λ k. c.if-radicand-eq1.false (sym same ∙ k))) c.radicand-else-num-eq1.ensures.clean e)
+    if_gives c.place_multiple.result _ _ _ _ c.place_multiple.ensures.ok (λ u e. term_told c.args.term (e ∙ multiplied (goal.at.returns-else-num-eq1-clause-ok c).After-radicand-else-num-eq1))
 
 -- ---- exactly where the bytes suffice
 
@@ -69,11 +58,11 @@ returns-then-radicand-eq1-clause-exactly c =
 
 pub returns-then-den-eq1-clause-exactly : goal.returns-then-den-eq1-clause-exactly
 returns-then-den-eq1-clause-exactly c = subst (λ (t : Tree). IsOk c.place_root.result ↔ (size t ≤ free_of c.args.pool.now))
-    (rooted (goal.at.returns-then-den-eq1-clause-exactly c).After-radicand-then-den-eq1) c.place_root.ensures.exactly
+    (rooted (goal.at.returns-then-den-eq1-clause-exactly c).After-radicand-then-den-eq1) (exact _ c.place_root.result c.requires.stands c.place_root.ensures.stands c.place_root.ensures.kept c.place_root.ensures.ok c.place_root.ensures.first_lack)
 
 pub returns-else-num-eq1-clause-exactly : goal.returns-else-num-eq1-clause-exactly
 returns-else-num-eq1-clause-exactly c = subst (λ (t : Tree). IsOk c.place_multiple.result ↔ (size t ≤ free_of c.args.pool.now))
-    (multiplied (goal.at.returns-else-num-eq1-clause-exactly c).After-radicand-else-num-eq1) c.place_multiple.ensures.exactly
+    (multiplied (goal.at.returns-else-num-eq1-clause-exactly c).After-radicand-else-num-eq1) (exact _ c.place_multiple.result c.requires.stands c.place_multiple.ensures.stands c.place_multiple.ensures.kept c.place_multiple.ensures.ok c.place_multiple.ensures.first_lack)
 
 pub returns-then-den-eq1-clause-first_lack : goal.returns-then-den-eq1-clause-first_lack
 returns-then-den-eq1-clause-first_lack c = subst (λ (t : Tree). IfErr c.place_root.result (λ full. building (free_of c.args.pool.now) t ≡ Err full))

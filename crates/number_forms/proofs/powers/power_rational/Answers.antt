@@ -1,7 +1,7 @@
 use Rattle.number_forms.proofs.Shared.{sym, ap, ◌∙◌, subst, rules, FitsSigned, ◌+◌, ◌<◌, arith, ℤ, nat_abs, w128, to_z-of_z, pow_op, fraction_power, operation_fits, Fraction, whole_fraction}
 use Rattle.number_forms.proofs.Shared.{calculated, value_of, num, root_size, size, whole_numerator, IsPlainAnswer, tree_of, behind_first, front_same, front_at, front_without, front_after, given_told}
 use Rattle.number_forms.proofs.{Shared.{gives_as, power_need, num_most, free_of, LacksRoom, refused_below, passed_on, released_free}, RationalCalls.{plain_answer, rational_power_over, rational_power}}
-use Rattle.number_forms.proofs.{RationalCalls.{num_same}, RationalBits.{power_parts}, Rooms.{few_for_power}}
+use Rattle.number_forms.proofs.{RationalCalls.{num_same}, RationalBits.{power_parts}, Rooms.{few_for}}
 use Rattle.tree_handles.specs.declared.fault.NumberFault.TheVariants as fault
 use Rattle.number_forms.proofs.powers.power_rational.Goals as goal
 
@@ -15,7 +15,7 @@ returns-in_err-number-clause-room c = λ gs.
     let free = released_free c.requires.stands c.take_rational-q.ensures.stands c.take_rational-q.ensures.kept c.requires.handed c.take_rational-q.ensures.gone in
     passed_on c.from_residual-in_err-number.result (fault.Full c.in_err-number.field-0.0)
     (LacksRoom power_need (free_of c.args.pool.now + size (tree_of c.args.a c.args.pool.now)) gs) c.from_residual-in_err-number.ensures.0 c.from_residual-in_err-number.ensures.1
-    (few_for_power gs _ (omega (arith, few, free, num_most (value_of c.in_ok-power.power))))
+    (let least : free_of c.args.pool.now + size (tree_of c.args.a c.args.pool.now) < 40 = omega (arith, few, free, num_most (value_of c.in_ok-power.power)) in omega (arith, few_for gs _ least))
 
 pub returns-in_err-power-clause-front : goal.returns-in_err-power-clause-front
 returns-in_err-power-clause-front c = front_at (front_without behind_first front_same) c.take_rational-q.ensures.gone

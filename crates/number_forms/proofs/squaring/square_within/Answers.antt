@@ -2,7 +2,7 @@ use Rattle.number_forms.proofs.Shared.{◌≡◌, ℕ, ◌++◌, refl, sym, ap, 
 use Rattle.number_forms.proofs.Shared.{lists_listed, root_ids, kids_of_last, expression_root, Tree, other_plain, gives_rest, kept_after, overflow_as, tree_of, IsHanded, IsExpression, without_root}
 use Rattle.number_forms.proofs.Shared.{forest, behind_new, front_same, front_after_one, given_told, given_other, given_rest, gives_as, handed_at, SquareOverflows, OfOverflow, passed_on, Spans}
 use Rattle.number_forms.proofs.{Shared.{free_of, LacksRoom, joining_need, refused_below, given_free}, Squares.{square_same, square_parts}, Denominators.{shares_eq}, Over.{over_as}}
-use Rattle.number_forms.proofs.Rooms.{full_as, few_for_joining, number_spans}
+use Rattle.number_forms.proofs.Rooms.{full_as, few_for, number_spans}
 use Rattle.tree_handles.specs.declared.fault.NumberFault.TheVariants as fault
 use Rattle.number_forms.proofs.squaring.square_within.Goals as goal
 
@@ -10,7 +10,7 @@ pub returns-in_err-sum-clause-room : goal.returns-in_err-sum-clause-room
 returns-in_err-sum-clause-room g c = λ gs s.
     let few : free_of c.args.pool.now < 8 = refused_below c.in_err-sum.ensures.full in
     passed_on c.from_residual.result (fault.Full c.in_err-sum.field-0.0) (LacksRoom joining_need (free_of c.args.pool.now) gs) c.from_residual.ensures.0 c.from_residual.ensures.1
-    (few_for_joining gs _ (omega arith))
+    (omega (arith, few_for gs (free_of c.args.pool.now) (omega arith)))
 
 pub returns-in_err-join_squares-clause-room : goal.returns-in_err-join_squares-clause-room
 returns-in_err-join_squares-clause-room g c = λ gs s.
@@ -30,7 +30,7 @@ returns-in_err-number_of-clause-room g c = λ gs s.
     let free = given_free c.requires.stands c.in_ok-join_squares.ensures.stands (kept_after c.in_ok-sum.ensures.kept c.in_ok-join_squares.ensures.kept) squares in
     passed_on c.from_residual-in_err-number_of.result (fault.Full c.in_err-number_of.field-0.0)
     (LacksRoom joining_need (free_of c.args.pool.now) gs) c.from_residual-in_err-number_of.ensures.0 c.from_residual-in_err-number_of.ensures.1
-    (few_for_joining gs _ (subst (λ (n : ℕ). n < 40) (sym free) c.in_err-number_of.ensures.room))
+    (omega (arith, few_for gs (free_of c.args.pool.now) (subst (λ (n : ℕ). n < 40) (sym free) c.in_err-number_of.ensures.room)))
 
 pub join_squares-requires : goal.join_squares-requires
 join_squares-requires g c =

@@ -1,0 +1,6 @@
+use Rattle.number_forms.proofs.{Shared.{ap, sym}, Placings.{if_tree}}
+use Rattle.number_forms.specs.Inverses.{tree_of_terms}
+use Rattle.number_forms.proofs.inverting.place_inverse.Goals as goal
+
+pub returns-in-One-clause-ok : goal.returns-in-One-clause-ok
+returns-in-One-clause-ok c = if_tree c.place_term.result _ c.place_term.new.pool _ _ _ c.place_term.ensures.ok c.place_term.ensures.tree (ap tree_of_terms (sym c.in-One.is))
