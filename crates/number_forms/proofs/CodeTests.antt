@@ -1,10 +1,6 @@
 -- Tests of numbers of the code.
 use Rattle.number_forms.proofs.Shared.{arith, ◌≡◌, ℕ, ℤ, Bool, false, ◌↔◌, refl, FitsSigned, of_z, nat_eq, IsTrue, ◌==◌, w128, eqb-true, int_is_zero, by_test}
 
--- a whole number of the code is 0 where its bits are
-pub zero_bits : (z : ℤ) → FitsSigned w128 z → nat_eq (of_z w128 z) 0 ≡ int_is_zero z
-zero_bits z h = grind arith
-
 -- a test that fails
 pub unequal : (a b : ℕ) → (a ≡ b → ⊥) → (a == b) ≡ false
 unequal a b h = grind (arith, eqb-true)

@@ -16,12 +16,6 @@ kept_last i h k l m = grind (arith, tree-without, gives_as, represents_handed, h
 pub zero_value : (t : Tree) → is_zero t ≡ true → value t ≡ []
 zero_value t h = grind arith
 
-pub with_zero : (a b t : Tree) → is_zero a ≡ true → is_number b ≡ true → t ≡ b → IsNumberOver (value a ++ value b) t
-with_zero a b t h k e = grind arith
-
-pub zero_with : (a b t : Tree) → is_zero b ≡ true → is_number a ≡ true → t ≡ a → IsNumberOver (value a ++ value b) t
-zero_with a b t h k e = grind (arith, zero_value, nothing_more, Same-eq, shares_eq)
-
 pub no_zero : (t : Tree) → is_num t ≡ false → is_zero t ≡ false
 no_zero t h = grind arith
 
@@ -30,31 +24,22 @@ no_zero t h = grind arith
 pub one_value : (t : Tree) → is_num_one t ≡ true → value t ≡ surd_one
 one_value t h = grind (arith, one_is, zero_test, one_not_zero)
 
-pub one_with : (a b t : Tree) → is_num_one a ≡ true → is_number b ≡ true → t ≡ b → IsNumberOver (surd_times (value a) (value b)) t
-one_with a b t h k e = grind (arith, one_value, surd_times-surd_one, Same-eq, shares_eq)
-
 whole_by_one : (d : ℕ) (v : Surd) → Parts d (surd_times v surd_one) → AreWholeOver d v
 whole_by_one d [] p = tt
 whole_by_one d (x ∷ v) p =
     let own : times x.coefficient one_fraction ≡ x.coefficient = times_comm x.coefficient one_fraction ∙ one_times x.coefficient in
     (subst (λ (q : Fraction). q.den ∣ d) own p.whole.0, whole_by_one d v (record { positive = p.positive; whole = p.whole.1 }))
 
-pub with_one : (a b t : Tree) → is_num_one b ≡ true → is_number a ≡ true → t ≡ a → IsNumberOver (surd_times (value a) (value b)) t
-with_one a b t h k e = grind (arith, one_value, Agree-Same, Agree-sym, surd_times-one, whole_by_one)
-
-pub no_one : (t : Tree) → is_num t ≡ false → is_num_one t ≡ false
-no_one t h = grind arith
-
 -- ---- with a rational that leaves each Number as it is
 
 pub neutral_with : (j : Joint) (a b t : Tree) → is_neutral j a ≡ true → is_number b ≡ true → t ≡ b → IsNumberOver (both j (value a) (value b)) t
-neutral_with joint.Sum a b t h k e = with_zero a b t h k e
-neutral_with joint.Product a b t h k e = one_with a b t h k e
+neutral_with joint.Sum a b t h k e = grind arith
+neutral_with joint.Product a b t h k e = grind (arith, one_value, surd_times-surd_one, Same-eq, shares_eq)
 
 pub with_neutral : (j : Joint) (a b t : Tree) → is_neutral j b ≡ true → is_number a ≡ true → t ≡ a → IsNumberOver (both j (value a) (value b)) t
-with_neutral joint.Sum a b t h k e = zero_with a b t h k e
-with_neutral joint.Product a b t h k e = with_one a b t h k e
+with_neutral joint.Sum a b t h k e = grind (arith, zero_value, nothing_more, Same-eq, shares_eq)
+with_neutral joint.Product a b t h k e = grind (arith, one_value, Agree-Same, Agree-sym, surd_times-one, whole_by_one)
 
 pub no_neutral : (j : Joint) (t : Tree) → is_num t ≡ false → is_neutral j t ≡ false
 no_neutral joint.Sum t h = no_zero t h
-no_neutral joint.Product t h = no_one t h
+no_neutral joint.Product t h = grind arith

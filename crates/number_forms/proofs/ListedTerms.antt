@@ -185,11 +185,7 @@ place_here ts n r d l b q a = record {
 }
 
 pub place_end : (ts : List CodeTerm) (n r : ℕ) → n ≡ length ts → ((k : ℕ) (x : CodeTerm) → k < n → (get_or ts k x).radicand < r) → IsPlace n r (trees_of ts)
-place_end ts n r e b = record {
-  within = omega (arith, e, count_trees ts);
-  below = λ k m. below_at ts k r (omega (arith, m, e)) (λ x. b k x m);
-  above = λ m. absurd (omega (arith, m, e, count_trees ts));
-}
+place_end ts n r e b = grind (arith, count_trees, below_at)
 
 -- ---- one after another
 

@@ -1,7 +1,7 @@
 -- Sums to which the terms of a list are joined one by one.
 use Rattle.number_forms.proofs.Shared.{◌≡◌, ℕ, zero, suc, ◌≤◌, ◌∷◌, ◌++◌, length, refl, sym, ap, subst, arith, [], value, Same, Term, Surd, SharesDenominators, Tree, Same-trans, Same-refl, State}
 use Rattle.number_forms.proofs.Shared.{IsSum, IsSumOf, plain, Gives, KeepsFront, root_tree, without_root, Stands, forest, KeepsRefusals, behind_first, front_after_one, front_same, given_told}
-use Rattle.number_forms.proofs.{Shared.{given_rest, gives_as, kept_same, kept_after, gives_itself}, Denominators.{shares_eq, parts_behind, parts_end, parts_part}}
+use Rattle.number_forms.proofs.{Shared.{drop_all, given_rest, gives_as, kept_same, kept_after, gives_itself}, Denominators.{shares_eq, parts_behind, parts_end, parts_part}}
 use Rattle.number_forms.proofs.Worth.{terms_from, same_behind, join_end, part_step}
 
 -- a sum, and with what is left of a list it is worth the whole, over the common denominators of the whole
@@ -51,7 +51,4 @@ pub joined_all : {i : ℕ} {left whole : Surd} {old now : State} → IsJoined i 
 joined_all {left = left} {whole = whole} j e = gives_as j.gives refl (λ t h. record { sum = h.sum; worth = join_end (value t) left whole e h.worth; parts = parts_end (value t) left whole h.parts })
 
 pub from_all : (v : Surd) (n : ℕ) → length v ≤ n → terms_from n v ≡ []
-from_all [] zero l = refl
-from_all [] (suc n) l = refl
-from_all (x ∷ v) zero l = absurd (omega arith)
-from_all (x ∷ v) (suc n) l = from_all v n (omega arith)
+from_all v n l = drop_all n v l

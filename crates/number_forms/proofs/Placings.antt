@@ -27,12 +27,7 @@ lacking {s = s} {n = n} {full = full} ns r =
 -- what lacks bytes lacks them before others too
 pub lacking_on : (free : ℕ) (ns ms : List ℕ) (full : Full) → taking free ns ≡ Err full → taking free (ns ++ ms) ≡ Err full
 lacking_on free [] ms full e = cc
-lacking_on free (n ∷ ns) ms full e = by (nat_le n free) e (lacking_on (free - n) ns ms full)
-  where
-    by : (b : Bool) → (if b then taking (free - n) ns else Err (record { needed = n; free = free })) ≡ Err full
-        → (taking (free - n) ns ≡ Err full → taking (free - n) (ns ++ ms) ≡ Err full) → (if b then taking (free - n) (ns ++ ms) else Err (record { needed = n; free = free })) ≡ Err full
-    by true h k = k h
-    by false h k = h
+lacking_on free (n ∷ ns) ms full e = grind (arith, lacking_on (free - n) ns ms full)
 
 -- nodes for which there is room, before others
 abbrev total : List ℕ → ℕ
@@ -72,12 +67,7 @@ built free left t ms e = past free left (node_sizes t) ms (omega (arith, total-n
 
 lacking_total : (free : ℕ) (ns : List ℕ) (full : Full) → taking free ns ≡ Err full → free < total ns
 lacking_total free [] full e = cc
-lacking_total free (n ∷ ns) full e = by (nat_le n free) refl e (lacking_total (free - n) ns full)
-  where
-    by : (b : Bool) → nat_le n free ≡ b → (if b then taking (free - n) ns else Err (record { needed = n; free = free })) ≡ Err full
-        → (taking (free - n) ns ≡ Err full → free - n < total ns) → free < n + total ns
-    by true k h l = let left : free - n < total ns = l h in omega arith
-    by false k h l = let least : free < n = leb-false n free k in omega arith
+lacking_total free (n ∷ ns) full e = grind (arith, lacking_total (free - n) ns full)
 
 -- trees that lack bytes
 pub lacking_below : (free : ℕ) (ts : Trees) (full : Full) → taking free (nodes_sizes ts) ≡ Err full → free < sizes ts
@@ -110,11 +100,8 @@ pub number_lacks : {A : Type 0} (s t : State) (n : ℕ) (r : Result A Full) → 
 number_lacks s t n r h = grind arith
 
 -- a number that lacks bytes where those of a short one are free
-lacking_form : (b : Bool) (free : ℕ) (full : Full) → 16 ≤ free → (if nat_le (size_by_form kind.Num b) free then Ok (free - size_by_form kind.Num b) else Err (record { needed = size_by_form kind.Num b; free = free })) ≡ Err full → full.needed ≡ size_by_form kind.Num false
-lacking_form b free full h e = grind arith
-
 pub number_alone : (q : Fraction) (free : ℕ) (full : Full) → 16 ≤ free → building free (num q) ≡ Err full → LacksLongForm full
-number_alone q free full h e = lacking_form (is_short q) free full h e
+number_alone q free full h e = grind arith
 
 pub one_test : is_one_fraction one_fraction ≡ true
 unfolding one_fraction lowest gcd

@@ -100,9 +100,7 @@ not_by_terms ts h = grind arith
 
 sum_has_form : (ts : Trees) → is_reduced (add ts) ≡ true → ((is_number (add ts) ≡ true) ⊎ (sum_form ts ≡ true)) × (all_parts_of has_form ts ≡ true)
 unfolding is_reduced
-sum_has_form ts h =
-    let (a, b) = and_parts (has_form (add ts)) (all_parts_of has_form ts) h in
-    (either (is_number (add ts)) (sum_form ts) a, b)
+sum_has_form ts h = grind (arith, and_parts, either)
 
 pub reduced_two : (ts : Trees) → is_reduced (add ts) ≡ true → 2 ≤ count ts
 reduced_two ts h = grind (arith, sum_has_form, number_two, two_of, sum_parts)

@@ -127,9 +127,6 @@ pub step_lacks : (gs : List ℕ) (free left : ℕ) (t : Tree) → is_number t �
     → free < raising_need * 2 ^ length gs
 step_lacks gs free left t h s e l = omega (arith, number_size gs t h s, pow_pos (length gs))
 
-pub few_for_raising : (gs : List ℕ) (free : ℕ) → free < joining_need * 2 ^ length gs → free < raising_need * 2 ^ length gs
-few_for_raising gs free l = omega arith
-
 pub power_lacks : (gs : List ℕ) (free : ℕ) (a : Tree) → is_number a ≡ true → SpansTree gs a → free < raising_need * 2 ^ length gs → free + size a < power_need * 2 ^ length gs
 power_lacks gs free a h s l = omega (arith, number_size gs a h s, pow_pos (length gs))
 

@@ -9,9 +9,6 @@ use Rattle.calc_algebra.specs.Numbers.{term_of}
 none_value : value (num (lowest (pos 0) 1)) ≡ []
 none_value = ap (λ (b : Bool). if b then [] else surd_of (lowest (pos 0) 1)) (ap int_is_zero (whole_numerator (pos 0)))
 
-pub zero_number : IsNumberOver [] (num (lowest (pos 0) 1))
-zero_number = record { number = number_test (num (lowest (pos 0) 1)) tt; worth = Same-eq none_value; parts = shares_eq (sym none_value) }
-
 pub term_number : (t : Tree) → IsTerm t → IsNumber t
 term_number t h = grind arith
 
@@ -28,12 +25,6 @@ sum_number ts l a r = grind (arith, number_test, count_terms, Same-refl)
 
 pub added_number : (ts : Trees) → is_number (add ts) ≡ true → IsSum (add ts)
 added_number ts h = let w = number_words (add ts) h in (w.1, w.2)
-
-pub no_term_sum : IsSumOf [] (add none)
-no_term_sum = record { sum = (tt, tt); worth = Same-refl []; parts = λ d p. p }
-
-pub one_term_sum : (t : Tree) → IsTerm t → IsSumOf (value t) (add (more t none))
-one_term_sum t h = record { sum = ((h, tt), (tt, tt)); worth = Same-eq (sym (term_value t h)); parts = shares_eq (term_value t h) }
 
 -- ---- by place
 
@@ -68,13 +59,16 @@ pub more_sum : (t : Tree) (ts : Trees) → IsSum t → t ≡ add ts → 2 ≤ co
 more_sum t ts h e l = grind (arith, sum_number)
 
 pub zero_number_of : (v : Surd) (t : Tree) (q : Fraction) → v ≡ [] → t ≡ num q → q ≡ lowest (pos 0) 1 → IsNumberOver v t
-zero_number_of v t q e f g = subst (λ (w : Surd). IsNumberOver w t) (sym e) (subst (IsNumberOver []) (sym (f ∙ ap num g)) zero_number)
+zero_number_of v t q e f g =
+    subst (λ (w : Surd). IsNumberOver w t) (sym e) (subst (IsNumberOver []) (sym (f ∙ ap num g))
+    (record { number = number_test (num (lowest (pos 0) 1)) tt; worth = Same-eq none_value; parts = shares_eq (sym none_value) }))
 
 pub no_term_sum_of : (v : Surd) (t : Tree) → v ≡ [] → t ≡ add none → IsSumOf v t
-no_term_sum_of v t e f = subst (λ (w : Surd). IsSumOf w t) (sym e) (subst (IsSumOf []) (sym f) no_term_sum)
+no_term_sum_of v t e f = subst (λ (w : Surd). IsSumOf w t) (sym e) (subst (IsSumOf []) (sym f) (record { sum = (tt, tt); worth = Same-refl []; parts = λ d p. p }))
 
 pub one_term_sum_of : (a t : Tree) → IsTerm a → t ≡ add (more a none) → IsSumOf (value a) t
-one_term_sum_of a t h f = subst (IsSumOf (value a)) (sym f) (one_term_sum a h)
+one_term_sum_of a t h f =
+    subst (IsSumOf (value a)) (sym f) (record { sum = ((h, tt), (tt, tt)); worth = Same-eq (sym (term_value a h)); parts = shares_eq (term_value a h) })
 
 pub two_from : (n : ℕ) → n ≢ 0 → n ≢ 1 → 2 ≤ n
 two_from n a b = grind arith

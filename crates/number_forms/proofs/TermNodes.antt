@@ -64,10 +64,7 @@ is_root x = grind arith
 -- the second factor
 second : (x : Payload) (k : Forest) (rest : List Node) → takes x (arity k) ≡ true → AllExpressions k
     → (is_root_kind (kind_of_payload x) && is_number_next (map visit_of (flatten k ++ rest))) ≡ is_root_of_num (grown x (plains k))
-second x k rest h w = elim (is_root x) [
-  | inl e ↦ ap (λ c. is_root_kind c && is_number_next (map visit_of (flatten k ++ rest))) e ∙ root_over x k rest h w e
-  | inr e ↦ let (a, b) = no_root x (plains k) (arity k) h e in ap (λ c. c && is_number_next (map visit_of (flatten k ++ rest))) a ∙ sym b
-]
+second x k rest h w = grind (arith, is_root, no_root, root_over)
 
 -- a factor behind a number
 behind_number : (s : Forest) (rest : List Node) → arity s ≡ 1 → AllExpressions s

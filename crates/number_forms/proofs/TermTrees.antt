@@ -30,18 +30,6 @@ if_gives r f g P Q e k = grind arith
 pub whole_is : (r : Rat) (n : ℤ) → ratio_of r ≡ whole n → value_of r ≡ whole_fraction n
 whole_is r n e = ap (λ (x : Ratio). lowest x.num x.den) e
 
-pub is_one_value : (r : Rat) → (ratio_of r).num ≡ pos 1 → (ratio_of r).den ≡ 1 → value_of r ≡ one_fraction
-unfolding one_fraction
-is_one_value r n d = fraction_path (value_of r) (lowest (pos 1) 1) ((ratio_parts r).num ∙ n ∙ sym (whole_numerator (pos 1))) ((ratio_parts r).den ∙ d ∙ sym (whole_denominator (pos 1)))
-
-pub not_one_num : (r : Rat) → (ratio_of r).num ≢ pos 1 → value_of r ≢ one_fraction
-unfolding one_fraction
-not_one_num r h e = h (sym (ratio_parts r).num ∙ ap (λ (f : Fraction). f.num) e ∙ whole_numerator (pos 1))
-
-pub not_one_den : (r : Rat) → (ratio_of r).den ≢ 1 → value_of r ≢ one_fraction
-unfolding one_fraction
-not_one_den r h e = h (sym (ratio_parts r).den ∙ ap (λ (f : Fraction). f.den) e ∙ whole_denominator (pos 1))
-
 pub natural_abs : (z : ℤ) (n : ℕ) → z ≡ pos n → nat_abs z ≡ natural_of z
 natural_abs z n e = ap nat_abs e ∙ sym (ap natural_of e)
 

@@ -5,23 +5,17 @@ use Rattle.number_forms.proofs.Shared.{value_rises, number_words, map-append', s
 use Rattle.number_forms.proofs.Shared.{held_left, held_right, held_pair, gcd, whole_fraction, Tree, add, count, terms_from, SumOverflows, RowOverflows, ProductOverflows, InverseOverflows}
 use Rattle.number_forms.proofs.Shared.{inverting_calculations, IsSum, Overflow, Calculation, calculation, calculation_of, first_misfit, has_rational, radicand_calculations, joining_calculations}
 use Rattle.number_forms.proofs.Shared.{IsProductMisfit, IsExtracted, magnitude_whole, radicands_fit, extracted_fits, extracted_den, children_of, nth, Mul, inverse_fits, inverse_of_sum_fits, joins_fit}
-use Rattle.number_forms.proofs.{Shared.{passed}, LastSums.{sum_is}, Shaped.{nth_of_terms}, SumChanges.{sum_value}, Worth.{from_next, products_next}}
+use Rattle.number_forms.proofs.{Shared.{passed, take}, LastSums.{sum_is}, Shaped.{nth_of_terms}, SumChanges.{sum_value}, Worth.{from_next, products_next}}
 use Rattle.calc_algebra.specs.Numbers.{term_of}
+use Rattle.std.proofs.lemmas.List.{take-append-drop}
 
 -- ---- lists by places
 
-abbrev before : ℕ → Surd → Surd
-before zero v = []
-before (suc n) [] = []
-before (suc n) (x ∷ v) = x ∷ before n v
+before_from : (n : ℕ) (v : Surd) → v ≡ take n v ++ terms_from n v
+before_from n v = sym (take-append-drop n v)
 
-before_from : (n : ℕ) (v : Surd) → v ≡ before n v ++ terms_from n v
-before_from zero v = refl
-before_from (suc n) [] = refl
-before_from (suc n) (x ∷ v) = ap (λ (w : Surd). x ∷ w) (before_from n v)
-
-at_place : (n : ℕ) (v : Surd) (x : Term) → slice_get v n ≡ Some x → v ≡ before n v ++ (x ∷ terms_from (suc n) v)
-at_place n v x e = before_from n v ∙ ap (λ (w : Surd). before n v ++ w) (from_next v n x e)
+at_place : (n : ℕ) (v : Surd) (x : Term) → slice_get v n ≡ Some x → v ≡ take n v ++ (x ∷ terms_from (suc n) v)
+at_place n v x e = before_from n v ∙ ap (λ (w : Surd). take n v ++ w) (from_next v n x e)
 
 pub proper_at : (v : Surd) (n : ℕ) (x : Term) → AreProper v → slice_get v n ≡ Some x → IsProper x
 proper_at [] n x a e = cc
@@ -42,8 +36,8 @@ pub pair_held : (t : Tree) (b : Term) (rest : Surd) (at h l : ℕ) → IsSum t �
 pair_held t b rest at h l is within k =
     let ts : Surd = terms_of (children_of t) in
     let a : Term = term_of (nth at (children_of t)) in
-    let split : value t ≡ before at ts ++ (a ∷ terms_from (suc at) ts) = sum_value t is ∙ at_place at ts a (nth_of_terms (children_of t) at within) in
-    held_pair (before at ts) a (terms_from (suc at) ts) [] b rest h l (subst (λ (v : Surd). IsHeld (v ++ (b ∷ rest)) h l) split k)
+    let split : value t ≡ take at ts ++ (a ∷ terms_from (suc at) ts) = sum_value t is ∙ at_place at ts a (nth_of_terms (children_of t) at within) in
+    held_pair (take at ts) a (terms_from (suc at) ts) [] b rest h l (subst (λ (v : Surd). IsHeld (v ++ (b ∷ rest)) h l) split k)
 
 pub no_misfit : (a b : Term) (h l : ℕ) (o : Overflow) → IsHeld (a ∷ b ∷ []) h l → 2 * h + 4 * l ≤ 124 → Some (calculation_of o) ≡ first_misfit (joining_calculations a b) → ⊥
 no_misfit a b h l o k few m = let n : first_misfit (joining_calculations a b) ≡ None = joins_fit a b h l k few in cc
@@ -55,8 +49,8 @@ so_far t v w h l whole e k s f m = grind (arith, held_so_far, sum_proper, sum_ri
 
 pub sum_within : (v w : Surd) (o : Overflow) → HasFewBits (v ++ w) → SumOverflows v w o → ⊥
 sum_within v w o b s =
-    let whole : v ++ w ≡ (v ++ before s.at w) ++ terms_from s.at w = ap (λ (x : Surd). v ++ x) (before_from s.at w) ∙ sym (append_assoc v (before s.at w) (terms_from s.at w)) in
-    let k : IsHeld (value s.partial ++ terms_from s.at w) b.high b.low = so_far s.partial (v ++ before s.at w) (terms_from s.at w) b.high b.low (v ++ w) whole s.sum s.worth s.parts b.held in
+    let whole : v ++ w ≡ (v ++ take s.at w) ++ terms_from s.at w = ap (λ (x : Surd). v ++ x) (before_from s.at w) ∙ sym (append_assoc v (take s.at w) (terms_from s.at w)) in
+    let k : IsHeld (value s.partial ++ terms_from s.at w) b.high b.low = so_far s.partial (v ++ take s.at w) (terms_from s.at w) b.high b.low (v ++ w) whole s.sum s.worth s.parts b.held in
     let next : IsHeld (value s.partial ++ (s.next ∷ terms_from (suc s.at) w)) b.high b.low = subst (λ (x : Surd). IsHeld (value s.partial ++ x) b.high b.low) (from_next w s.at s.next s.here) k in
     no_misfit (term_of (nth s.joined.at (children_of s.partial))) s.next b.high b.low o
     (pair_held s.partial s.next (terms_from (suc s.at) w) s.joined.at b.high b.low s.sum s.joined.within next) b.few s.joined.misfit
@@ -111,16 +105,16 @@ pub row_within : (p : Tree) (x : Term) (w : Surd) (h l : ℕ) (o : Overflow) →
 row_within p x w h l o is proper are k few r = elim r.cause [
   | inl m ↦
       let row : IsHeld (map (term_times x) w) h l = held_right (value p) (map (term_times x) w) h l k in
-      let here : map (term_times x) w ≡ map (term_times x) (before r.at w) ++ ((term_times x r.other ∷ []) ++ map (term_times x) (terms_from (suc r.at) w)) =
-      ap (map (term_times x)) (at_place r.at w r.other r.here) ∙ map-append' (term_times x) (before r.at w) (r.other ∷ terms_from (suc r.at) w) in
-      let end = held_right (map (term_times x) (before r.at w)) ((term_times x r.other ∷ []) ++ map (term_times x) (terms_from (suc r.at) w)) h l (subst (λ (v : Surd). IsHeld v h l) here row) in
+      let here : map (term_times x) w ≡ map (term_times x) (take r.at w) ++ ((term_times x r.other ∷ []) ++ map (term_times x) (terms_from (suc r.at) w)) =
+      ap (map (term_times x)) (at_place r.at w r.other r.here) ∙ map-append' (term_times x) (take r.at w) (r.other ∷ terms_from (suc r.at) w) in
+      let end = held_right (map (term_times x) (take r.at w)) ((term_times x r.other ∷ []) ++ map (term_times x) (terms_from (suc r.at) w)) h l (subst (λ (v : Surd). IsHeld v h l) here row) in
       no_product_misfit x r.other h l (calculation_of o) proper (proper_at w r.at r.other are r.here)
       (held_left (term_times x r.other ∷ []) (map (term_times x) (terms_from (suc r.at) w)) h l end) few m
   | inr j ↦
       let left : Surd = map (term_times x) (terms_from r.at w) in
-      let done : Surd = map (term_times x) (before r.at w) in
+      let done : Surd = map (term_times x) (take r.at w) in
       let whole : value p ++ map (term_times x) w ≡ (value p ++ done) ++ left =
-      ap (λ (v : Surd). value p ++ v) (ap (map (term_times x)) (before_from r.at w) ∙ map-append' (term_times x) (before r.at w) (terms_from r.at w)) ∙ sym (append_assoc (value p) done left) in
+      ap (λ (v : Surd). value p ++ v) (ap (map (term_times x)) (before_from r.at w) ∙ map-append' (term_times x) (take r.at w) (terms_from r.at w)) ∙ sym (append_assoc (value p) done left) in
       let held : IsHeld (value j.partial ++ left) h l = so_far j.partial (value p ++ done) left h l (value p ++ map (term_times x) w) whole j.sum j.worth j.parts k in
       let next : IsHeld (value j.partial ++ (term_times x r.other ∷ map (term_times x) (terms_from (suc r.at) w))) h l =
       subst (λ (v : Surd). IsHeld (value j.partial ++ v) h l) (products_next x w r.at r.other r.here) held in
@@ -132,8 +126,8 @@ row_within p x w h l o is proper are k few r = elim r.cause [
 pub product_within : (v w : Surd) (o : Overflow) → AreProper v → AreProper w → HasFewBits (surd_times v w) → ProductOverflows v w o → ⊥
 product_within v w o pv pw b p =
     let left : Surd = surd_times (terms_from p.at v) w in
-    let whole : surd_times v w ≡ surd_times (before p.at v) w ++ left = ap (λ (x : Surd). surd_times x w) (before_from p.at v) ∙ surd_times-append (before p.at v) (terms_from p.at v) w in
-    let k : IsHeld (value p.partial ++ left) b.high b.low = so_far p.partial (surd_times (before p.at v) w) left b.high b.low (surd_times v w) whole p.sum p.worth p.parts b.held in
+    let whole : surd_times v w ≡ surd_times (take p.at v) w ++ left = ap (λ (x : Surd). surd_times x w) (before_from p.at v) ∙ surd_times-append (take p.at v) (terms_from p.at v) w in
+    let k : IsHeld (value p.partial ++ left) b.high b.low = so_far p.partial (surd_times (take p.at v) w) left b.high b.low (surd_times v w) whole p.sum p.worth p.parts b.held in
     let row : Surd = map (term_times p.factor) w in
     let rest : Surd = surd_times (terms_from (suc p.at) v) w in
     let next : left ≡ row ++ rest = ap (λ (x : Surd). surd_times x w) (from_next v p.at p.factor p.here) in

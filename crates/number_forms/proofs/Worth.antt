@@ -1,6 +1,7 @@
 -- What a sum is worth, from one joined term to the next.
 use Rattle.number_forms.proofs.Shared.{◌≡◌, ℕ, zero, suc, ◌-◌, ◌≤◌, [], ◌∷◌, ◌++◌, Some, map, refl, ap, ◌∙◌, subst, append_assoc, arith, slice_get, Same, Term, Surd, term_times, surd_times}
 use Rattle.number_forms.proofs.Shared.{Same-trans, Same-Agree, Agree-sym, Agree-Same, Same-refl, Same-eq, Same-append, Same-append_comm, Same-to_front}
+use Rattle.std.proofs.lemmas.List.{drop-drop}
 pub use Rattle.number_forms.specs.Overflows.{terms_from}
 
 pub Same-sym : {v w : Surd} → Same v w → Same w v
@@ -16,14 +17,7 @@ from_next (y ∷ v) (suc n) x e = from_next v n x e
 
 -- terms from a place on, from a later one on
 pub from_from : (m n : ℕ) (v : Surd) → m ≤ n → terms_from (n - m) (terms_from m v) ≡ terms_from n v
-from_from zero n v l = ap (λ k. terms_from k v) (omega arith)
-from_from (suc m) zero v l = absurd (omega arith)
-from_from (suc m) (suc n) [] l = nothing (suc n - suc m)
-  where
-    nothing : (k : ℕ) → terms_from k [] ≡ []
-    nothing zero = refl
-    nothing (suc k) = refl
-from_from (suc m) (suc n) (x ∷ v) l = ap (λ k. terms_from k (terms_from m v)) (omega arith) ∙ from_from m n v (omega arith)
+from_from m n v l = drop-drop (n - m) m v ∙ ap (λ k. terms_from k v) (omega arith)
 
 pub get_from : (m n : ℕ) (v : Surd) → m ≤ n → slice_get (terms_from m v) (n - m) ≡ slice_get v n
 get_from zero n v l = ap (slice_get v) (omega arith)

@@ -1,5 +1,5 @@
 -- Which operation on terms a call on Numbers is refused for.
-use Rattle.std.specs.Prelude.{ℕ, zero, suc, ◌+◌, ◌≡◌, ◌<◌, ◌≤◌, ◌⊎◌, List, [], ◌∷◌, ◌++◌, map, Some, slice_get}
+use Rattle.std.specs.Prelude.{ℕ, suc, drop, ◌+◌, ◌≡◌, ◌<◌, ◌≤◌, ◌⊎◌, List, [], ◌∷◌, ◌++◌, map, Some, slice_get}
 use Rattle.calc_algebra.specs.{Numbers.{term_of, value}, SquareClasses.{Same}, Surds.{Term, Surd, term_times, surd_times}}
 use Rattle.calc_bits.specs.Denominators.{SharesDenominators}
 use Rattle.calc_terms.specs.Trees.{Tree, count}
@@ -10,9 +10,7 @@ use Rattle.tree_handles.specs.Expressions.{children_of, nth}
 
 -- the terms from a place on
 abbrev pub terms_from : ℕ → Surd → Surd
-terms_from zero v = v
-terms_from (suc n) [] = []
-terms_from (suc n) (x ∷ v) = terms_from n v
+terms_from n v = drop n v
 
 -- a term of a sum and t cannot be joined
 pub record JoinOverflows (sum : Tree) (t : Term) (o : Overflow) : Type 0 where

@@ -45,7 +45,7 @@ pub fn place_term(pool: &mut Pool, term: Term) -> Result<Handle, Full>
     let coefficient = term.coefficient();
     if term.radicand() == 1 {
         number(pool, coefficient)
-    } else if coefficient.num() == 1 && coefficient.den() == 1 {
+    } else if coefficient.is_one() {
         place_root(pool, term.radicand())
     } else {
         place_multiple(pool, coefficient, term.radicand())

@@ -2,7 +2,7 @@ use Rattle.number_forms.proofs.Shared.{◌≡◌, ◌≤◌, ◌<◌, ◌+◌, �
 use Rattle.number_forms.proofs.Shared.{PowerOverflows, other_plain, passed_on, overflow_as, refused_as, OfOverflow, tree_of, behind_new, front_same, front_after_one, given_rest}
 use Rattle.number_forms.proofs.Shared.{given_other, gives_as, gives_rest, SpansTree, free_of, LacksRoom, raising_need, given_free, number_tree}
 use Rattle.number_forms.proofs.{Over.{power_itself, squared_power}, Overflows.{square_overflows}, PowerSteps.{half_one, half_twice}}
-use Rattle.number_forms.proofs.{TermTrees.{if_given}, Rooms.{full_as, refusal_as, few_for_raising}, powers.square_or_cube.Goals.{After-square_of, In_ok-square}}
+use Rattle.number_forms.proofs.{TermTrees.{if_given}, Rooms.{full_as, refusal_as}, powers.square_or_cube.Goals.{After-square_of, In_ok-square}}
 use Rattle.surd_terms.specs.declared.term.Term.{Term}
 use Rattle.tree_handles.specs.declared.fault.NumberFault.TheVariants as fault
 use Rattle.number_forms.proofs.powers.square_or_cube.Goals as goal
@@ -10,7 +10,7 @@ use Rattle.number_forms.proofs.powers.square_or_cube.Goals as goal
 pub returns-in_err-square-clause-room : goal.returns-in_err-square-clause-room
 returns-in_err-square-clause-room c = λ gs s.
     passed_on c.from_residual-in_err-square.result c.in_err-square.field-0.0 (LacksRoom raising_need (free_of c.args.pool.now) gs) c.from_residual-in_err-square.ensures.0 c.from_residual-in_err-square.ensures.1
-    (full_as c.in_err-square.field-0.0 (c.in_err-square.ensures.room gs s) (λ full few. few_for_raising gs _ few))
+    (full_as c.in_err-square.field-0.0 (c.in_err-square.ensures.room gs s) (λ full few. omega (arith, few)))
 
 half : (c : After-square_of) → IsPowerOver (value (tree_of c.args.a.now c.args.pool.now)) (c.args.n / 2) (tree_of c.args.a.now c.args.pool.now)
 half c =
