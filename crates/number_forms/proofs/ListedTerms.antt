@@ -200,18 +200,7 @@ trees_more ts i t l e =
     trees_append (take i ts) (t ∷ []) ∙ ap trees_of (sym next)
 
 term_size : (t : Term) → size (term_tree t) ≤ 96
-term_size t = by (t.radicand == 1) (is_one_fraction t.coefficient)
-  where
-    q : Fraction
-    q = t.coefficient
-
-    r : Fraction
-    r = whole_fraction (pos t.radicand)
-
-    by : (b c : Bool) → size (if b then num q else if c then root (num r) else mult (more (num q) (more (root (num r)) none))) ≤ 96
-    by true c = omega (arith, num_most q)
-    by false true = omega (arith, num_most r)
-    by false false = omega (arith, num_most q, num_most r)
+term_size t = grind (arith, num_most)
 
 -- how many bytes they take
 pub terms_size : (ts : List CodeTerm) → sizes (trees_of ts) ≤ 96 * length ts

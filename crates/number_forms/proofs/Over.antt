@@ -21,8 +21,7 @@ pub if_number : {E : Type 0} (r : Result ℕ E) (f g : Forest) (v : Surd) → If
 if_number r f g v e = grind arith
 
 pub if_no_larger : {E : Type 0} (r : Result ℕ E) (f : Forest) (s : State) (v : Surd) → IfOk r (λ h. Gives f (forest s) h (IsNumberOver v)) → IfOk r (λ h. IsNoLarger v (value (tree_of h s)))
-if_no_larger (Ok h) f s v e = let n = given_told e in no_larger (tree_of h s) v n.number n.worth n.parts
-if_no_larger (Err x) f s v e = tt
+if_no_larger r f s v e = grind (arith, no_larger, given_told)
 
 -- ---- powers
 

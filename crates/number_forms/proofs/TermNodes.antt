@@ -33,15 +33,9 @@ under_root : (k : Forest) (rest : List Node) → arity k ≡ 1 → AllExpression
 under_root empty rest a h = absurd (omega arith)
 under_root (tree l k r) rest a h = number_under l.payload (plains k) (arity k) h.0
 
-root_is : (x : Payload) (ts : Trees) → kind_of_payload x ≡ kind.Root → grown x ts ≡ root (nth 0 ts)
-root_is x ts e = grind arith
-
-root_takes : (x : Payload) (n : ℕ) → kind_of_payload x ≡ kind.Root → takes x n ≡ true → n ≡ 1
-root_takes x n e h = grind (arith, eqb-true)
-
 root_over : (x : Payload) (k : Forest) (rest : List Node) → takes x (arity k) ≡ true → AllExpressions k → kind_of_payload x ≡ kind.Root
     → is_number_next (map visit_of (flatten k ++ rest)) ≡ is_root_of_num (grown x (plains k))
-root_over x k rest h w e = under_root k rest (root_takes x (arity k) e h) w ∙ ap is_root_of_num (sym (root_is x (plains k) e))
+root_over x k rest h w e = grind (arith, under_root, eqb-true)
 
 root_shape : (t : Tree) → root_kind t ≡ kind.Root → is_root_of_num t ≡ has_term_shape t
 root_shape t e = grind arith
@@ -111,14 +105,9 @@ two_factors : (k : Forest) (rest : List Node) → AllExpressions k → count (pl
 two_factors empty rest w n = absurd (omega arith)
 two_factors (tree a j s) rest w n = both a.payload j s rest w.0 (omega (arith, count-plains s)) w.2
 
-product_is : (x : Payload) (ts : Trees) → root_kind (grown x ts) ≡ kind.Mult → grown x ts ≡ mult ts
-product_is x ts e = grind arith
-
 product_over : (x : Payload) (k : Forest) (rest : List Node) → AllExpressions k → root_kind (grown x (plains k)) ≡ kind.Mult → count (children_of (grown x (plains k))) ≡ 2
     → is_multiple_next (map visit_of (flatten k ++ rest)) ≡ has_term_shape (grown x (plains k))
-product_over x k rest w e n =
-    let is = product_is x (plains k) e in
-    two_factors k rest w (ap (λ (t : Tree). count (children_of t)) (sym is) ∙ n) ∙ ap has_term_shape (sym is)
+product_over x k rest w e n = grind (arith, two_factors)
 
 pub product_has_shape : (f : Forest) → AllExpressions f → root_kind (plain f) ≡ kind.Mult → count (children_of (plain f)) ≡ 2
     → is_multiple_next (drop 1 (visits_of f)) ≡ has_term_shape (plain f)
