@@ -1,5 +1,5 @@
 -- Tests of numbers of the code.
-use Rattle.number_forms.proofs.Shared.{arith, ◌≡◌, ℕ, ℤ, Bool, false, ◌↔◌, refl, FitsSigned, of_z, nat_eq, IsTrue, ◌==◌, w128, eqb-true, int_is_zero, by_test}
+use Rattle.number_forms.proofs.Shared.{arith, ◌≡◌, ℕ, Bool, false, ◌↔◌, IsTrue, ◌==◌, eqb-true}
 
 -- a test that fails
 pub unequal : (a b : ℕ) → (a ≡ b → ⊥) → (a == b) ≡ false

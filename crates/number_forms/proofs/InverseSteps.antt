@@ -1,9 +1,10 @@
 -- Inverses by terms.
 use Rattle.number_forms.proofs.Shared.{◌≡◌, ℕ, ◌≤◌, [], ◌∷◌, Some, Err, Bool, if◌then◌else◌, length, true, false, refl, sym, ap, ◌∙◌, subst, arith, slice_get, None, is_number, is_term, value, Rises}
-use Rattle.number_forms.proofs.Shared.{are_alike, Inverts, Term, term, Surd, surd_of, Fraction, is_zero_fraction, Tree, Trees, num, add, more, none, size, sizes, Inverts-Same, value_rises, number_words}
-use Rattle.number_forms.proofs.Shared.{term_words, Same-trans, Same-eq, IsNumberOf, Full, inverse_trees, IsInverseOf, HasInverse, LacksInverse, InverseOverflows, inverting_calculations, term_tree}
+use Rattle.number_forms.proofs.Shared.{are_alike, Inverts, Term, term, Surd, surd_of, Fraction, is_zero_fraction, Tree, Trees, num, add, more, none, size, sizes, Inverts-Same, value_rises}
+use Rattle.number_forms.proofs.Shared.{number_words, term_words, Same-eq, IsNumberOf, Full, inverse_trees, IsInverseOf, HasInverse, LacksInverse, InverseOverflows, inverting_calculations, term_tree}
 use Rattle.number_forms.proofs.Shared.{sum_of_terms, first_misfit, inverse_of, first_of_inverse, second_of_inverse, building, taking, node_sizes, nodes_sizes, NumberFault, OfOverflow, OfFull}
-use Rattle.number_forms.proofs.{ListedTerms.{term_is, term_words_of}, Over.{of_over}, Placings.{lacking_below, lacking_on, rational_term}, Shaped.{single_number, sum_number}, Worth.{Same-sym, some_term}}
+use Rattle.number_forms.proofs.{ListedTerms.{term_is, term_words_of}, Over.{of_over}, Placings.{lacking_below, lacking_on, rational_term}, Shaped.{single_number, sum_number}}
+use Rattle.number_forms.proofs.Worth.{Same-sym, some_term}
 use Rattle.calc_algebra.specs.Numbers.{term_of}
 use Rattle.surd_terms.specs.{Terms.{term_of as code}, declared.term.Term.{Term as CodeTerm}}
 use Rattle.tree_handles.specs.declared.fault.NumberFault.TheVariants as fault
@@ -38,7 +39,8 @@ placed_two t u x a b e h f k g r = grind (arith, of_over, sum_number, term_words
 
 pub one_inverse : (t : Tree) (x : Term) (s : CodeTerm) → value t ≡ x ∷ [] → Inverts (code s ∷ []) (x ∷ []) → code s ≡ inverse_of x → IsInverseOf (value t) (term_tree (code s))
 one_inverse t x s e i f =
-    inverse_number (value t) (x ∷ []) _ (code s ∷ []) e i (subst (λ (z : Term). IsNumberOf (z ∷ []) (term_tree (code s))) (term_is s).1 (of_over (single_number (term_tree (code s)) (term_words_of s))))
+    inverse_number (value t) (x ∷ []) _ (code s ∷ []) e i
+    (subst (λ (z : Term). IsNumberOf (z ∷ []) (term_tree (code s))) (term_is s).1 (of_over (single_number (term_tree (code s)) (term_words_of s))))
     (ap inverse_trees e ∙ ap (λ (z : Term). more (term_tree z) none) (sym f))
 
 pub two_inverse : (t : Tree) (x y : Term) (p q : CodeTerm) → is_number t ≡ true → value t ≡ x ∷ y ∷ [] → Inverts (code p ∷ code q ∷ []) (x ∷ y ∷ []) → code p ≡ first_of_inverse x y

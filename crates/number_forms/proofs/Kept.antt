@@ -1,5 +1,5 @@
 -- Numbers that are answered as they stand.
-use Rattle.number_forms.proofs.Shared.{arith, ◌≡◌, ℕ, [], ◌∷◌, ◌++◌, true, false, eqb, ◌∙◌, subst, is_number, value, is_num_one, Surd, surd_one, surd_times, Agree-sym, Agree-Same, surd_times-one}
+use Rattle.number_forms.proofs.Shared.{arith, ◌≡◌, ℕ, [], ◌∷◌, true, false, eqb, ◌∙◌, subst, is_number, value, is_num_one, Surd, surd_one, surd_times, Agree-sym, Agree-Same, surd_times-one}
 use Rattle.number_forms.proofs.Shared.{surd_times-surd_one, Same-eq, Parts, AreWholeOver, one_not_zero, one_is, zero_test, one_times, times_comm, Fraction, one_fraction, times, Tree, is_num}
 use Rattle.number_forms.proofs.Shared.{IsNumberOver, is_zero, plain, Forest, IsHanded, Ends, Gives, root_tree, without_root, gives_as, handed_at, handed_beside, represents_handed, tree-without, both}
 use Rattle.number_forms.proofs.{Shared.{is_neutral, Joint, ◌∣◌}, Denominators.{shares_eq}, Rows.{nothing_more}}

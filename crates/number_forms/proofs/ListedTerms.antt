@@ -1,12 +1,12 @@
 -- Terms as values, and as trees: with one more, and with one less.
-use Rattle.number_forms.proofs.Shared.{◌≡◌, ◌≢◌, ◌⊎◌, ℕ, zero, suc, ◌<◌, ◌≤◌, ◌^◌, ◌+◌, ◌*◌, ◌==◌, List, [], ◌∷◌, ◌++◌, Bool, true, false, length, get_or, set, take, inl, inr, refl, sym, ap, ◌∙◌}
-use Rattle.number_forms.proofs.Shared.{subst, arith, append-nil, pos, if◌then◌else◌, refill, insert, remove, clean_square_free, IsProper, Fraction, mult, num_most, root, size, sizes, whole_fraction}
-use Rattle.number_forms.proofs.Shared.{IsExtracted, IsNumberOver, Parts, Same-append, Same-refl, is_number, joined_den, num, number_test, value, zero_fraction, lowest, gcd, AreTerms, IsTerm, IsSumOf}
-use Rattle.number_forms.proofs.Shared.{IsPlace, AreBelow, Same, Same-trans, Same-eq, SharesDenominators, Surd, Term, Trees, add, none, more, count, nth, removed, inserted, is_term, is_one_fraction}
-use Rattle.number_forms.proofs.Shared.{one_fraction, one_is, term_of, term_tree, term_words, terms_of, value_of, are_alike, append, AreListed, AreSmall, AreTermsOf, number_tree, trees_of, IsGcd-same, Tree}
-use Rattle.number_forms.proofs.{Shared.{drop_all, length-set, take_all, take_more, same_from_IsGcd, Joins}, Kept.{zero_value}, Denominators.{parts_extracted, shares_eq}, Exchanged.{place_removed}}
-use Rattle.number_forms.proofs.{Joined.{are_removed, rises_removed}, Placings.{rational_term, root_term, multiple_term, one_test}, Pairs.{term_is_number}, Shaped.{sum_number, term_value}}
-use Rattle.number_forms.proofs.{SquareFreeSums.{apart_at_place, apart_small}, SumChanges.{inserted_of, cancelled, made_one, apart_rest}, TermTrees.{rational_tree, root_tree, multiple_tree}}
+use Rattle.number_forms.proofs.Shared.{◌≡◌, ◌≢◌, ◌⊎◌, ℕ, zero, suc, ◌<◌, ◌≤◌, ◌^◌, ◌+◌, ◌*◌, List, [], ◌∷◌, ◌++◌, Bool, true, false, length, get_or, set, take, inl, inr, refl, sym, ap, ◌∙◌, subst}
+use Rattle.number_forms.proofs.Shared.{arith, append-nil, pos, refill, insert, remove, IsProper, num_most, size, sizes, IsExtracted, IsNumberOver, Parts, Same-append, Same-refl, is_number, joined_den}
+use Rattle.number_forms.proofs.Shared.{num, number_test, value, zero_fraction, lowest, gcd, AreTerms, IsTerm, IsSumOf, IsPlace, AreBelow, Same, Same-trans, Same-eq, SharesDenominators, Surd, Term}
+use Rattle.number_forms.proofs.Shared.{Trees, add, none, more, count, nth, removed, inserted, is_term, is_one_fraction, one_fraction, one_is, term_of, term_tree, term_words, terms_of, value_of}
+use Rattle.number_forms.proofs.Shared.{are_alike, append, AreListed, AreSmall, AreTermsOf, number_tree, trees_of, IsGcd-same, Tree, drop_all, length-set, take_all, take_more, same_from_IsGcd, Joins}
+use Rattle.number_forms.proofs.{Kept.{zero_value}, Denominators.{parts_extracted, shares_eq}, Exchanged.{place_removed}, Joined.{are_removed, rises_removed}}
+use Rattle.number_forms.proofs.{Placings.{rational_term, root_term, multiple_term, one_test}, Pairs.{term_is_number}, Shaped.{sum_number, term_value}, SquareFreeSums.{apart_at_place}}
+use Rattle.number_forms.proofs.{SumChanges.{inserted_of, cancelled, made_one, apart_rest}, TermTrees.{rational_tree, root_tree, multiple_tree}}
 use Rattle.number_forms.specs.Values.{surd_of}
 use Rattle.calc_algebra.specs.Numbers.{term_of as term_of_tree}
 use Rattle.surd_terms.specs.{Sums.{IsSum as IsSumOfTwo}, declared.term.Term.{Term as CodeTerm}}

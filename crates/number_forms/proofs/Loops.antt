@@ -1,8 +1,7 @@
 -- Sums to which the terms of a list are joined one by one.
-use Rattle.number_forms.proofs.Shared.{◌≡◌, ℕ, zero, suc, ◌≤◌, ◌∷◌, ◌++◌, length, refl, sym, ap, subst, arith, [], value, Same, Term, Surd, SharesDenominators, Tree, Same-trans, Same-refl, State}
-use Rattle.number_forms.proofs.Shared.{IsSum, IsSumOf, plain, Gives, KeepsFront, root_tree, without_root, Stands, forest, KeepsRefusals, behind_first, front_after_one, front_same, given_told}
-use Rattle.number_forms.proofs.{Shared.{drop_all, given_rest, gives_as, kept_same, kept_after, gives_itself}, Denominators.{shares_eq, parts_behind, parts_end, parts_part}}
-use Rattle.number_forms.proofs.Worth.{terms_from, same_behind, join_end, part_step}
+use Rattle.number_forms.proofs.Shared.{◌≡◌, ℕ, ◌≤◌, ◌∷◌, ◌++◌, length, refl, sym, ap, subst, [], value, Same, Term, Surd, SharesDenominators, Tree, Same-trans, Same-refl, State, IsSum, IsSumOf, plain}
+use Rattle.number_forms.proofs.Shared.{Gives, KeepsFront, root_tree, without_root, Stands, forest, KeepsRefusals, behind_first, front_after_one, front_same, given_told, drop_all, given_rest, gives_as}
+use Rattle.number_forms.proofs.{Shared.{kept_same, kept_after, gives_itself}, Denominators.{shares_eq, parts_behind, parts_end, parts_part}, Worth.{terms_from, same_behind, join_end, part_step}}
 
 -- a sum, and with what is left of a list it is worth the whole, over the common denominators of the whole
 pub record IsSumWith (left whole : Surd) (t : Tree) : Type 0 where

@@ -1,7 +1,7 @@
 -- Numbers over the common denominators of what they are worth, and of powers of it.
-use Rattle.number_forms.proofs.Shared.{◌≡◌, ℕ, ◌+◌, ◌*◌, ◌/◌, ◌%◌, ◌^◌, ◌≢◌, ◌++◌, Result, Ok, Err, sym, subst, arith, IfOk, pow-add, value, Same, Surd, surd_times, surd_power, surd_power-squared, surd_power-multiplied}
-use Rattle.number_forms.proofs.Shared.{Same-trans, IsNoLarger, SharesPowers, Parts, SharesDenominators, power_once, parts_append, parts_times, no_larger, parts_left, parts_right, Tree, IsNumberOf}
-use Rattle.number_forms.proofs.{Shared.{IsNumberOver, IsPowerOver, State, Forest, tree_of, Gives, forest, given_told}, PowerSteps.{half_even, half_odd}}
+use Rattle.number_forms.proofs.Shared.{◌≡◌, ℕ, ◌+◌, ◌*◌, ◌/◌, ◌%◌, ◌^◌, ◌≢◌, ◌++◌, Result, sym, subst, arith, IfOk, pow-add, value, Same, Surd, surd_times, surd_power, surd_power-squared}
+use Rattle.number_forms.proofs.Shared.{surd_power-multiplied, Same-trans, IsNoLarger, SharesPowers, Parts, SharesDenominators, power_once, parts_append, parts_times, no_larger, parts_left}
+use Rattle.number_forms.proofs.{Shared.{parts_right, Tree, IsNumberOf, IsNumberOver, IsPowerOver, State, Forest, tree_of, Gives, forest, given_told}, PowerSteps.{half_even, half_odd}}
 
 pub of_over : {v : Surd} {t : Tree} → IsNumberOver v t → IsNumberOf v t
 of_over n = record { number = n.number; worth = n.worth }

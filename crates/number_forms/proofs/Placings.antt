@@ -1,10 +1,8 @@
 -- Whether the bytes of a term's tree suffice.
-use Rattle.number_forms.proofs.Shared.{◌≡◌, ◌≢◌, ◌↔◌, ℕ, ◌+◌, ◌-◌, ◌==◌, ◌<◌, ◌≤◌, true, false, Bool, pos, List, [], ◌∷◌, ◌++◌, Result, Ok, Err, refl, sym, ap, ◌∙◌, subst, arith, IsOk, IsErr, OnOk}
-use Rattle.number_forms.proofs.Shared.{IfOk, IfErr, nat_le, if◌then◌else◌, eq-eqb, lt-leb, leb-false, Fraction, lowest, one_fraction, is_one_fraction, whole_fraction, gcd, Tree, num}
-use Rattle.number_forms.proofs.Shared.{add, mult, power, root, neg, sub, div, Trees, more, none, size, sizes, root_size, one_is, value, classes, Term, State, free_of, Full, term_tree, building}
-use Rattle.number_forms.proofs.Shared.{node_sizes, nodes_sizes, taking, LacksLongForm, Forest, tree_of, Gives, root_tree, plain, last_tree, Stands, forest, KeepsRefusals, IsRefused, given_told}
-use Rattle.number_forms.proofs.Shared.{given_free, size_by_form, is_short}
-use Rattle.calc_terms.specs.declared.kind.Kind.TheVariants as kind
+use Rattle.number_forms.proofs.Shared.{◌≡◌, ◌≢◌, ◌↔◌, ℕ, ◌+◌, ◌-◌, ◌==◌, ◌<◌, ◌≤◌, true, false, pos, List, [], ◌∷◌, ◌++◌, Result, Ok, Err, refl, sym, ap, ◌∙◌, subst, arith, IsOk, IsErr, OnOk, IfOk}
+use Rattle.number_forms.proofs.Shared.{IfErr, if◌then◌else◌, eq-eqb, lt-leb, Fraction, lowest, one_fraction, is_one_fraction, whole_fraction, gcd, Tree, num, add, mult, power, root, neg, sub, div}
+use Rattle.number_forms.proofs.Shared.{Trees, more, none, size, sizes, root_size, one_is, value, classes, Term, State, free_of, Full, term_tree, building, node_sizes, nodes_sizes, taking}
+use Rattle.number_forms.proofs.Shared.{LacksLongForm, Forest, tree_of, Gives, root_tree, plain, last_tree, Stands, forest, KeepsRefusals, IsRefused, given_told, given_free}
 
 -- what is free before a tree is placed
 pub free_before : {s t : State} {i : ℕ} {u : Tree} → Stands s → Stands t → KeepsRefusals s t → Gives (forest s) (forest t) i (λ x. x ≡ u) → free_of s ≡ free_of t + size u

@@ -2,7 +2,7 @@
 use Rattle.number_forms.proofs.Shared.{arith, ◌≡◌, ℕ, ◌++◌, Result, false, if◌then◌else◌, refl, sym, ap, ◌∙◌, subst, [], Operation, operation_fits, result_of, fraction_power, value, Same, Surd}
 use Rattle.number_forms.proofs.Shared.{surd_of, surd_times, surd_power, zero_is, number_test, zero_surd_of, surd_power-surd_of, Same-trans, Same-refl, Same-eq, Same-append, Same-surd_times}
 use Rattle.number_forms.proofs.Shared.{Same-surd_power, joined_radicand, surd_times-terms, SharesPowers, SharesDenominators, IsNumberOver, IsPowerOver, AnswersRationals, NumberFault, Fraction, plus}
-use Rattle.number_forms.proofs.Shared.{times, is_zero_fraction, calculated, exactly, overflow, value_of, Tree, num, State, operation_of, Overflow, IsPlainAnswer, IsPlainOverflow, by_test, both}
+use Rattle.number_forms.proofs.Shared.{times, is_zero_fraction, calculated, value_of, Tree, num, State, operation_of, Overflow, IsPlainAnswer, IsPlainOverflow, by_test, both}
 use Rattle.number_forms.proofs.{Shared.{operation, Joint}, Worth.{Same-sym}}
 use Rattle.number_forms.specs.declared.calculating.Joint.TheVariants as joint
 

@@ -1,6 +1,6 @@
 -- Two terms that stay apart, and their sum.
-use Rattle.number_forms.proofs.Shared.{◌≡◌, ◌<◌, ◌^◌, ◌++◌, [], ◌∷◌, Some, true, inl, inr, length, ap, ◌∙◌, sym, subst, arith, slice_get, Ordering, Less, Equal, Greater, clean_square_free, AsNumber}
-use Rattle.number_forms.proofs.Shared.{as_number, IsNumberOver, IsTerm, Rises, Surd, Term, Tree, add, classes, is_number, more, none, number_words, parts_append, parts_left, parts_right, term_of}
+use Rattle.number_forms.proofs.Shared.{◌≡◌, ◌<◌, ◌^◌, ◌++◌, [], ◌∷◌, Some, true, arith, slice_get, Ordering, clean_square_free}
+use Rattle.number_forms.proofs.Shared.{as_number, IsNumberOver, IsTerm, Rises, Term, Tree, add, classes, is_number, more, none, number_words, parts_append, parts_left, parts_right, term_of}
 use Rattle.number_forms.proofs.{Shared.{value, Same-append_comm, AreRising, Ranks, RanksTerms}, Worth.{some_term}, Over.{over_as}, Shaped.{sum_number, term_value}, SquareFreeSums.{apart_small}}
 use Rattle.calc_algebra.specs.Numbers.{term_of as term_of_tree}
 use Rattle.surd_terms.specs.declared.term.Term.{Term as CodeTerm}

@@ -1,6 +1,6 @@
 -- What a sum is worth, from one joined term to the next.
 use Rattle.number_forms.proofs.Shared.{◌≡◌, ℕ, zero, suc, ◌-◌, ◌≤◌, [], ◌∷◌, ◌++◌, Some, map, refl, ap, ◌∙◌, subst, append_assoc, arith, slice_get, Same, Term, Surd, term_times, surd_times}
-use Rattle.number_forms.proofs.Shared.{Same-trans, Same-Agree, Agree-sym, Agree-Same, Same-refl, Same-eq, Same-append, Same-append_comm, Same-to_front}
+use Rattle.number_forms.proofs.Shared.{Same-trans, Same-Agree, Agree-sym, Agree-Same, Same-refl, Same-eq, Same-append, Same-append_comm}
 use Rattle.std.proofs.lemmas.List.{drop-drop}
 pub use Rattle.number_forms.specs.Overflows.{terms_from}
 

@@ -108,7 +108,8 @@ fn match_equal<const N: usize>(
     requires sum { IsSum (plain (tree_at sum (forest pool.now))) }
     requires lists { Lists list.now sum (forest pool.now) }
     requires place { IsPlace at (term_of term).radicand (children_of (plain (tree_at sum (forest pool.now)))) }
-    ensures ok { IfOk result (λ found. MatchOption found (IsOther at (term_of term).radicand (children_of (plain (tree_at sum (forest pool.now))))) (IsMatch (term_of term) (children_of (plain (tree_at sum (forest pool.now)))))) }
+    ensures ok { IfOk result (λ found. MatchOption found (IsOther at (term_of term).radicand (children_of (plain (tree_at sum (forest pool.now)))))
+        (IsMatch (term_of term) (children_of (plain (tree_at sum (forest pool.now)))))) }
     ensures overflow { IfErr result (JoinOverflows (plain (tree_at sum (forest pool.now))) (term_of term)) }
     ensures caused { IfErr result Overflows }
 {

@@ -1,4 +1,4 @@
-use Rattle.number_forms.proofs.Shared.{◌≡◌, ◌≢◌, ℕ, ◌≤◌, [], ◌∷◌, sym, ap, ◌∙◌, Result, arith, value, classes, tree_of, term_of, first_misfit, inverting_calculations, Surd, Overflow}
+use Rattle.number_forms.proofs.Shared.{◌≡◌, ◌≢◌, ℕ, ◌≤◌, [], ◌∷◌, sym, ap, ◌∙◌, Result, arith, value, tree_of, term_of, first_misfit, inverting_calculations, Surd, Overflow}
 use Rattle.number_forms.proofs.{InverseSteps.{only_term, both_terms, apart_terms, one_inverse, two_inverse}, Placings.{rational_classes, rational_radicand}}
 use Rattle.number_forms.proofs.inverting.inverse_terms.Goals.{After-inverse, After-nth_term-second}
 use Rattle.number_forms.specs.declared.inverting.Terms.{Terms}

@@ -1,8 +1,8 @@
-use Rattle.number_forms.proofs.Shared.{◌≡◌, ◌≤◌, ◌+◌, ℕ, refl, sym, ap, ◌∙◌, subst, arith, value, classes, size, num_least, tree_of, free_of, building, Gives, without_root, forest, behind_first, front_same}
-use Rattle.number_forms.proofs.Shared.{front_at, front_without, front_after, owned, gives_as, given_told, passed_on, released_free, LacksRoom, inverse_need, IsInverseOf, LacksInverse, InverseOverflows}
-use Rattle.number_forms.proofs.{Shared.{OfOverflow, OfFull, OnlyLacksLongForm}, InverseBits.{inverse_no_larger}, WithinBits.{inverse_within}, Placings.{free_before, number_alone, refused}}
-use Rattle.number_forms.proofs.{InverseSteps.{none_to_make, too_wide, has_inverse, no_inverse, lacks_inverse, rational_inverse}, Rooms.{inverse_lacks, inverse_spans}}
-use Rattle.number_forms.proofs.inverting.invert_number.Goals.{After-release-2, In_err-placed, In_ok-placed}
+use Rattle.number_forms.proofs.Shared.{◌≡◌, ◌+◌, ℕ, refl, sym, ap, ◌∙◌, subst, arith, value, classes, size, num_least, tree_of, free_of, building, Gives, without_root, forest, behind_first}
+use Rattle.number_forms.proofs.Shared.{front_same, front_at, front_without, front_after, owned, gives_as, given_told, passed_on, released_free, LacksRoom, inverse_need, IsInverseOf, LacksInverse}
+use Rattle.number_forms.proofs.{Shared.{InverseOverflows, OfOverflow, OfFull, OnlyLacksLongForm}, InverseBits.{inverse_no_larger}, WithinBits.{inverse_within}}
+use Rattle.number_forms.proofs.{Placings.{free_before, number_alone, refused}, InverseSteps.{none_to_make, too_wide, has_inverse, no_inverse, lacks_inverse, rational_inverse}}
+use Rattle.number_forms.proofs.{Rooms.{inverse_lacks, inverse_spans}, inverting.invert_number.Goals.{After-release-2, In_err-placed, In_ok-placed}}
 use Rattle.tree_handles.specs.declared.fault.NumberFault.TheVariants as fault
 use Rattle.number_forms.proofs.inverting.invert_number.Goals as goal
 
@@ -39,8 +39,8 @@ returns-in_err-inverse-clause-exactly c =
 
 pub returns-in_err-inverse-clause-overflow : goal.returns-in_err-inverse-clause-overflow
 returns-in_err-inverse-clause-overflow c =
-    passed_on c.from_residual.result (fault.Overflow c.in_err-inverse.field-0.0) (OfOverflow (InverseOverflows (value (tree_of c.args.a c.args.pool.now)))) c.from_residual.ensures.0 c.from_residual.ensures.1
-    c.in_err-inverse.ensures.overflow
+    passed_on c.from_residual.result (fault.Overflow c.in_err-inverse.field-0.0) (OfOverflow (InverseOverflows (value (tree_of c.args.a c.args.pool.now))))
+    c.from_residual.ensures.0 c.from_residual.ensures.1 c.in_err-inverse.ensures.overflow
 
 pub returns-in_err-inverse-clause-first_lack : goal.returns-in_err-inverse-clause-first_lack
 returns-in_err-inverse-clause-first_lack c =
@@ -104,7 +104,8 @@ returns-in_err-placed-clause-front c = front_after (front_at (front_without behi
 -- ---- the inverse
 
 placed : (c : In_ok-placed) → Gives (without_root c.args.a (forest c.args.pool.now)) (forest c.place_inverse.new.pool) c.in_ok-placed.placed (IsInverseOf (value (tree_of c.args.a c.args.pool.now)))
-placed c = gives_as c.in_ok-placed.ensures.ok (c.release-2.ensures.owned (owned c.requires.handed)) (λ t e. subst (IsInverseOf (value (tree_of c.args.a c.args.pool.now))) (sym e) c.in_ok-inverse.ensures.ok)
+placed c =
+    gives_as c.in_ok-placed.ensures.ok (c.release-2.ensures.owned (owned c.requires.handed)) (λ t e. subst (IsInverseOf (value (tree_of c.args.a c.args.pool.now))) (sym e) c.in_ok-inverse.ensures.ok)
 
 pub returns-clause-ok : goal.returns-clause-ok
 returns-clause-ok c =

@@ -1,6 +1,6 @@
-use Rattle.number_forms.proofs.Shared.{◌≡◌, ℕ, Err, ◌∙◌, refl, ap, [], ◌∷◌, add, Tree, Gives, forest, free_of, given_handed, Full, building, passed_on, sum_of_terms, term_of, term_tree}
-use Rattle.number_forms.proofs.{Placings.{first_lacks, second_lacks, parent_lacks, given_is}, Pairs.{first_handed, pair_apart, pair_rest, pair_trees, pair_front}, Rooms.{refusal_as}, TermTrees.{if_given}}
-use Rattle.number_forms.proofs.inverting.place_sum.Goals.{In_ok-first, In_ok-second}
+use Rattle.number_forms.proofs.Shared.{◌≡◌, ℕ, Err, ◌∙◌, refl, ap, [], ◌∷◌, add, Gives, forest, free_of, given_handed, Full, building, passed_on, sum_of_terms, term_of, term_tree}
+use Rattle.number_forms.proofs.{Placings.{first_lacks, second_lacks, parent_lacks, given_is}, Pairs.{first_handed, pair_apart, pair_rest, pair_trees, pair_front}, Rooms.{refusal_as}}
+use Rattle.number_forms.proofs.{TermTrees.{if_given}, inverting.place_sum.Goals.{In_ok-first, In_ok-second}}
 use Rattle.surd_terms.specs.declared.term.Term.{Term}
 use Rattle.number_forms.proofs.inverting.place_sum.Goals as goal
 
@@ -38,10 +38,12 @@ returns-in_err-first-clause-first_lack c =
 pub returns-in_err-second-clause-first_lack : goal.returns-in_err-second-clause-first_lack
 returns-in_err-second-clause-first_lack c =
     passed_on c.from_residual-in_err-second.result c.in_err-second.field-0.0 (Short (free_of c.args.pool.now) c.args.a c.args.b) c.from_residual-in_err-second.ensures.0 c.from_residual-in_err-second.ensures.1
-    (second_lacks c.requires.stands c.place_term.ensures.stands c.in_ok-first.ensures.kept (first (goal.at.returns-in_err-second-clause-first_lack c).In_ok-first) (term_tree (term_of c.args.b)) (8 ∷ []) c.in_err-second.ensures.first_lack)
+    (second_lacks c.requires.stands c.place_term.ensures.stands c.in_ok-first.ensures.kept (first (goal.at.returns-in_err-second-clause-first_lack c).In_ok-first)
+    (term_tree (term_of c.args.b)) (8 ∷ []) c.in_err-second.ensures.first_lack)
 
 pub returns-clause-first_lack : goal.returns-clause-first_lack
 returns-clause-first_lack c =
     let at = goal.at.returns-clause-first_lack c in
     refusal_as c.node_over_two.result c.node_over_two.ensures.full
-    (λ full f. parent_lacks c.requires.stands c.place_term.ensures.stands c.in_ok-first.ensures.kept (first at.In_ok-first) c.place_term-2.ensures.stands c.in_ok-second.ensures.kept (second at.In_ok-second) f)
+    (λ full f. parent_lacks c.requires.stands c.place_term.ensures.stands c.in_ok-first.ensures.kept (first at.In_ok-first)
+    c.place_term-2.ensures.stands c.in_ok-second.ensures.kept (second at.In_ok-second) f)

@@ -1,5 +1,6 @@
-use Rattle.number_forms.proofs.{Shared.{◌≡◌, ◌<◌, ℕ, refl, sym, subst, ap, ◌∙◌, arith, count, term_of, nth, plain, children_of, tree_at, forest, JoinOverflows, passed_on}, SumChanges.{term_of_sum}}
-use Rattle.number_forms.proofs.{SquareFreeSums.{read_apart, read_joined, read_parts, read_radicand}, Joined.{other_radicand}, Overflows.{join_overflow}, joining.match_equal.Given.{Over}, joining.match_equal.Goals.{After-children}}
+use Rattle.number_forms.proofs.{Shared.{◌≡◌, sym, ap, ◌∙◌, arith, count, term_of, plain, children_of, tree_at, forest, JoinOverflows, passed_on}, SumChanges.{term_of_sum}}
+use Rattle.number_forms.proofs.{SquareFreeSums.{read_apart, read_joined, read_parts, read_radicand}, Joined.{other_radicand}, Overflows.{join_overflow}, joining.match_equal.Given.{Over}}
+use Rattle.number_forms.proofs.joining.match_equal.Goals.{After-children}
 use Rattle.calc_algebra.specs.Numbers.{term_of as term_of_tree}
 use Rattle.surd_terms.specs.declared.sums.Joined.TheVariants as joined
 use Rattle.number_forms.proofs.joining.match_equal.Goals as goal
@@ -20,7 +21,8 @@ returns-in_err-joined-clause-overflow g c =
     let t = plain (tree_at c.args.sum (forest c.args.pool.now)) in
     let m = many g (goal.at.returns-in_err-joined-clause-overflow g c).After-children in
     passed_on c.from_residual.result c.in_err-joined.field-0.0 (JoinOverflows t (term_of c.args.term)) c.from_residual.ensures.0 c.from_residual.ensures.1
-    (join_overflow t c.args.at _ _ _ (omega (arith, m, c.requires.place.within, c.if-at-children.false)) (c.term_at-other.ensures ∙ ap term_of_tree c.child.ensures.plain) c.in_err-joined.ensures.overflow)
+    (join_overflow t c.args.at _ _ _ (omega (arith, m, c.requires.place.within, c.if-at-children.false))
+    (c.term_at-other.ensures ∙ ap term_of_tree c.child.ensures.plain) c.in_err-joined.ensures.overflow)
 
 pub returns-in-Term-clause-ok : goal.returns-in-Term-clause-ok
 returns-in-Term-clause-ok g c =

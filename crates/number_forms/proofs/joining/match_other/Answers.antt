@@ -1,4 +1,4 @@
-use Rattle.number_forms.proofs.{Shared.{rules, ◌<◌, ◌^◌, arith, term_of, plain, tree_at, forest}, SquareFreeSums.{apart_at_place}}
+use Rattle.number_forms.proofs.{Shared.{rules, ◌<◌, ◌^◌, arith, term_of}, SquareFreeSums.{apart_at_place}}
 use Rattle.number_forms.proofs.joining.match_other.Goals as goal
 
 pub returns-then-are_square_free-clause-ok : goal.returns-then-are_square_free-clause-ok

@@ -16,7 +16,8 @@ multiplied : (c : After-radicand-else-is_one)
 multiplied c =
     let other : is_one_fraction (value_of c.coefficient-coefficient.result) ≡ false = sym c.is_one.ensures ∙ c.if-is_one.false in
     (λ i. mult (more (num (c.coefficient-coefficient.ensures.value i)) (more (root (num (whole_fraction (pos (c.radicand-else-is_one.ensures.value i))))) none)))
-    ∙ sym (multiple_term (term_of c.args.term) (λ k. c.if-radicand-eq1.false (c.radicand.ensures.value ∙ k)) (λ k. cc (ap is_one_fraction (c.coefficient-coefficient.ensures.value ∙ k) ∙ one_test, other)))
+    ∙ sym (multiple_term (term_of c.args.term) (λ k. c.if-radicand-eq1.false (c.radicand.ensures.value ∙ k))
+    (λ k. cc (ap is_one_fraction (c.coefficient-coefficient.ensures.value ∙ k) ∙ one_test, other)))
 
 pub returns-then-radicand-eq1-clause-ok : goal.returns-then-radicand-eq1-clause-ok
 returns-then-radicand-eq1-clause-ok c = if_gives c.number.result _ _ _ _ c.number.ensures.given
@@ -39,11 +40,13 @@ returns-then-radicand-eq1-clause-exactly c =
 
 pub returns-then-is_one-clause-exactly : goal.returns-then-is_one-clause-exactly
 returns-then-is_one-clause-exactly c = subst (λ (t : Tree). IsOk c.place_root.result ↔ (size t ≤ free_of c.args.pool.now))
-    (rooted (goal.at.returns-then-is_one-clause-exactly c).After-radicand-then-is_one) (exact _ c.place_root.result c.requires.stands c.place_root.ensures.stands c.place_root.ensures.kept c.place_root.ensures.ok c.place_root.ensures.first_lack)
+    (rooted (goal.at.returns-then-is_one-clause-exactly c).After-radicand-then-is_one)
+    (exact _ c.place_root.result c.requires.stands c.place_root.ensures.stands c.place_root.ensures.kept c.place_root.ensures.ok c.place_root.ensures.first_lack)
 
 pub returns-else-is_one-clause-exactly : goal.returns-else-is_one-clause-exactly
 returns-else-is_one-clause-exactly c = subst (λ (t : Tree). IsOk c.place_multiple.result ↔ (size t ≤ free_of c.args.pool.now))
-    (multiplied (goal.at.returns-else-is_one-clause-exactly c).After-radicand-else-is_one) (exact _ c.place_multiple.result c.requires.stands c.place_multiple.ensures.stands c.place_multiple.ensures.kept c.place_multiple.ensures.ok c.place_multiple.ensures.first_lack)
+    (multiplied (goal.at.returns-else-is_one-clause-exactly c).After-radicand-else-is_one)
+    (exact _ c.place_multiple.result c.requires.stands c.place_multiple.ensures.stands c.place_multiple.ensures.kept c.place_multiple.ensures.ok c.place_multiple.ensures.first_lack)
 
 pub returns-then-is_one-clause-first_lack : goal.returns-then-is_one-clause-first_lack
 returns-then-is_one-clause-first_lack c = subst (λ (t : Tree). IfErr c.place_root.result (λ full. building (free_of c.args.pool.now) t ≡ Err full))

@@ -1,4 +1,4 @@
-use Rattle.number_forms.proofs.Shared.{◌+◌, ◌*◌, ◌/◌, ℕ, inl, refl, subst, value, Tree, Same-refl, IsPowerOver, PowerOverflows, OfOverflow, size, free_of, LacksRoom, raising_need, tree_of, passed_on}
+use Rattle.number_forms.proofs.Shared.{◌+◌, ◌*◌, ◌/◌, inl, refl, value, Tree, Same-refl, PowerOverflows, OfOverflow, size, free_of, LacksRoom, raising_need, tree_of, passed_on}
 use Rattle.number_forms.proofs.Shared.{overflow_as, gives_itself, gives_without, gives_as, given_handed, given_told, given_other, owned, behind_first, front_same, front_at, front_without, front_after}
 use Rattle.number_forms.proofs.{Over.{even_power, odd_power, power_itself, of_power}, Overflows.{last_overflows}, PowerSteps.{half_twice, half_odd_within}, Rooms.{full_as, power_spans, step_lacks}}
 use Rattle.number_forms.proofs.powers.completed.Goals as goal
@@ -7,7 +7,8 @@ pub returns-then-n-eq0-clause-ok : goal.returns-then-n-eq0-clause-ok
 returns-then-n-eq0-clause-ok c = gives_as (gives_itself c.requires.square) refl (λ t h. even_power _ t c.args.n c.if-n-eq0.true h.0)
 
 pub product_of-requires : goal.product_of-requires
-product_of-requires c = record { stands = c.requires.stands; first = given_handed c.requires.square; second = c.requires.handed; first_number = (given_told c.requires.square).number; second_number = c.requires.number }
+product_of-requires c =
+    record { stands = c.requires.stands; first = given_handed c.requires.square; second = c.requires.handed; first_number = (given_told c.requires.square).number; second_number = c.requires.number }
 
 pub returns-in_err-power-clause-room : goal.returns-in_err-power-clause-room
 returns-in_err-power-clause-room c = λ gs s.

@@ -1,8 +1,7 @@
-use Rattle.number_forms.proofs.Shared.{◌≡◌, ◌≤◌, ◌<◌, ◌+◌, ◌*◌, ◌^◌, List, length, rules, ◌/◌, ap, ◌∙◌, subst, sym, ℕ, arith, refl, is_number, value, Tree, Same-refl, IsPowerOver}
-use Rattle.number_forms.proofs.Shared.{PowerOverflows, other_plain, passed_on, overflow_as, refused_as, OfOverflow, tree_of, behind_new, front_same, front_after_one, given_rest}
-use Rattle.number_forms.proofs.Shared.{given_other, gives_as, gives_rest, SpansTree, free_of, LacksRoom, raising_need, given_free, number_tree}
-use Rattle.number_forms.proofs.{Over.{power_itself, squared_power}, Overflows.{square_overflows}, PowerSteps.{half_one, half_twice}}
-use Rattle.number_forms.proofs.{TermTrees.{if_given}, Rooms.{full_as, refusal_as}, powers.square_or_cube.Goals.{After-square_of, In_ok-square}}
+use Rattle.number_forms.proofs.Shared.{◌≡◌, ◌≤◌, ◌<◌, ◌+◌, ◌*◌, ◌^◌, List, length, rules, ◌/◌, ap, ◌∙◌, subst, sym, ℕ, arith, refl, is_number, value, Tree, Same-refl, IsPowerOver, PowerOverflows}
+use Rattle.number_forms.proofs.Shared.{other_plain, passed_on, overflow_as, refused_as, OfOverflow, tree_of, behind_new, front_same, front_after_one, given_rest, given_other, gives_as, gives_rest}
+use Rattle.number_forms.proofs.{Shared.{SpansTree, free_of, LacksRoom, raising_need, given_free, number_tree}, Over.{power_itself, squared_power}, Overflows.{square_overflows}}
+use Rattle.number_forms.proofs.{PowerSteps.{half_one, half_twice}, TermTrees.{if_given}, Rooms.{full_as, refusal_as}, powers.square_or_cube.Goals.{After-square_of, In_ok-square}}
 use Rattle.surd_terms.specs.declared.term.Term.{Term}
 use Rattle.tree_handles.specs.declared.fault.NumberFault.TheVariants as fault
 use Rattle.number_forms.proofs.powers.square_or_cube.Goals as goal

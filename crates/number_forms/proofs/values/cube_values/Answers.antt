@@ -10,5 +10,6 @@ returns c = λ h.
     let q = number_tree square in
     let cube = c.multiply_terms.ensures h in
     let last = subst (λ (v : Surd). AreTermsOf (surd_times v (value a)) c.multiply_terms.new.list.items) (ap surd_of c.as_slice.ensures.value ∙ sym (number_value square)) cube in
-    odd_power q a _ 3 (λ e. absurd cc) (squared_power (value a) a q 1 (power_itself a (record { number = c.requires.number; worth = Same-refl (value a) })) (number_over square (c.multiply_values.ensures (search rules))))
+    odd_power q a _ 3 (λ e. absurd cc) (squared_power (value a) a q 1 (power_itself a (record { number = c.requires.number; worth = Same-refl (value a) }))
+    (number_over square (c.multiply_values.ensures (search rules))))
     (number_over _ last)
