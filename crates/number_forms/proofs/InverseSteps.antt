@@ -1,6 +1,6 @@
 -- Inverses by terms.
-use Rattle.number_forms.proofs.Shared.{◌≡◌, ℕ, ◌≤◌, [], ◌∷◌, Some, Err, Bool, if◌then◌else◌, length, true, false, refl, sym, ap, ◌∙◌, subst, arith, slice_get, None, is_number, is_term, value, Rises}
-use Rattle.number_forms.proofs.Shared.{are_alike, Inverts, Term, term, Surd, surd_of, Fraction, is_zero_fraction, Tree, Trees, num, add, more, none, size, sizes, Inverts-Same, value_rises}
+use Rattle.number_forms.proofs.Shared.{◌≡◌, ℕ, ◌≤◌, [], ◌∷◌, Some, Err, length, true, false, refl, sym, ap, ◌∙◌, subst, arith, slice_get, None, is_number, is_term, value, Rises}
+use Rattle.number_forms.proofs.Shared.{are_alike, Inverts, Term, term, Surd, Fraction, Tree, Trees, num, add, more, none, size, sizes, Inverts-Same, value_rises}
 use Rattle.number_forms.proofs.Shared.{number_words, term_words, Same-eq, IsNumberOf, Full, inverse_trees, IsInverseOf, HasInverse, LacksInverse, InverseOverflows, inverting_calculations, term_tree}
 use Rattle.number_forms.proofs.Shared.{sum_of_terms, first_misfit, inverse_of, first_of_inverse, second_of_inverse, building, taking, node_sizes, nodes_sizes, NumberFault, OfOverflow, OfFull}
 use Rattle.number_forms.proofs.{ListedTerms.{term_is, term_words_of}, Over.{of_over}, Placings.{lacking_below, lacking_on, rational_term}, Shaped.{single_number, sum_number}}
@@ -53,14 +53,7 @@ two_inverse t x y p q n e i f g =
 
 -- the inverse of a rational is one
 pub rational_inverse : (t u : Tree) (q : Fraction) → t ≡ num q → IsInverseOf (value t) u → (r : Fraction) × (u ≡ num r)
-rational_inverse t u q e i = by (is_zero_fraction q) (ap inverse_trees (ap value (sym e)) ∙ i.written)
-  where
-    tree_is : {a b : Tree} → more a none ≡ more b none → b ≡ a
-    tree_is h = cc
-
-    by : (b : Bool) → inverse_trees (if b then [] else surd_of q) ≡ more u none → (r : Fraction) × (u ≡ num r)
-    by true w = absurd cc
-    by false w = ((inverse_of (term q 1)).coefficient, tree_is w ∙ rational_term (inverse_of (term q 1)) refl)
+rational_inverse t u q e i = ((inverse_of (term q 1)).coefficient, grind (arith, rational_term))
 
 -- ---- where it fits, and its bytes suffice
 

@@ -178,11 +178,7 @@ below_at (t ∷ ts) k r l h = subst (λ (y : Term). y.radicand < r) (sym (nth_tr
 
 pub place_here : (ts : List CodeTerm) (n r : ℕ) (d : CodeTerm) → n < length ts → ((k : ℕ) (x : CodeTerm) → k < n → (get_or ts k x).radicand < r) → d ≡ get_or ts n d
     → r ≤ d.radicand → IsPlace n r (trees_of ts)
-place_here ts n r d l b q a = record {
-  within = omega (arith, l, count_trees ts);
-  below = λ k m. below_at ts k r (omega (arith, m, l)) (λ x. b k x m);
-  above = λ m. subst (λ (y : Term). r ≤ y.radicand) (sym (nth_tree ts n d l ∙ ap term_of (sym q))) a;
-}
+place_here ts n r d l b q a = grind (arith, count_trees, below_at, nth_tree)
 
 pub place_end : (ts : List CodeTerm) (n r : ℕ) → n ≡ length ts → ((k : ℕ) (x : CodeTerm) → k < n → (get_or ts k x).radicand < r) → IsPlace n r (trees_of ts)
 place_end ts n r e b = grind (arith, count_trees, below_at)

@@ -141,5 +141,4 @@ given_is g e = record { tree = g.tree; ends = g.ends; once = g.once; whole = g.w
 
 pub if_tree : {E : Type 0} (r : Result ℕ E) (f : Forest) (s : State) (P : Tree → Type 0) (u v : Tree) → IfOk r (λ h. Gives f (forest s) h P) → IfOk r (λ h. tree_of h s ≡ u) → u ≡ v
     → IfOk r (λ h. Gives f (forest s) h (λ t. t ≡ v))
-if_tree (Ok h) f s P u v g e q = given_is g (e ∙ q)
-if_tree (Err x) f s P u v g e q = tt
+if_tree r f s P u v g e q = grind (arith, given_is)

@@ -41,11 +41,7 @@ parts_nth p (more t ts) (suc n) h l = parts_nth p ts n ((and_parts (all_parts p 
 no_terms : (ts : Trees) (n : ℕ) → n < count ts → is_term (nth n ts) ≡ false → are_terms ts ≡ false
 no_terms none n l h = absurd (omega arith)
 no_terms (more t ts) zero l h = ap (λ (b : Bool). b && are_terms ts) h
-no_terms (more t ts) (suc n) l h = rest (is_term t) (are_terms ts) (no_terms ts n (omega arith) h)
-  where
-    rest : (a b : Bool) → b ≡ false → (a && b) ≡ false
-    rest true b e = e
-    rest false b e = refl
+no_terms (more t ts) (suc n) l h = grind (arith, no_terms ts n)
 
 -- all terms make its Number
 pub record AreAllTerms (ts : Trees) : Type 0 where
