@@ -12,7 +12,7 @@ max_zero n = omega arith
 zero_max : (n : ℕ) → max 0 n ≡ n
 zero_max n = omega arith
 
-tree_nest : (ts : Trees) → nest (product_tree ts) ≡ nest_of ts
+pub tree_nest : (ts : Trees) → nest (product_tree ts) ≡ nest_of ts
 tree_nest ts = grind (arith, max_zero)
 
 factors_nest : (q : Fraction) (ts : Trees) → nest (rational_times_factors q ts) ≡ nest_of ts
@@ -43,7 +43,7 @@ term_nest q t = rational_nest q t
 pub sum_nest : (q : Fraction) (ts : Trees) → nest (rational_times_sum q ts) ≡ nest_of ts
 sum_nest q ts = mapped_nest (rational_times_term q) (term_nest q) ts
 
-of_factors_nest : (t : Tree) → nest_of (factors_of t) ≡ nest t
+pub of_factors_nest : (t : Tree) → nest_of (factors_of t) ≡ nest t
 of_factors_nest t = grind (arith, max_zero)
 
 spliced_nest : (c p : Tree) → nest (spliced c p) ≡ max (nest c) (nest p)
@@ -75,11 +75,11 @@ factors_load : (c : Tree) → IsNumber c → load_of_factors (factors_of c) ≡ 
 unfolding is_number
 factors_load c h = grind (arith, number_load, number_test)
 
-append_load : (ts us : Trees) → load_of_factors (append ts us) ≡ load_of_factors ts + load_of_factors us
+pub append_load : (ts us : Trees) → load_of_factors (append ts us) ≡ load_of_factors ts + load_of_factors us
 append_load none us = omega arith
 append_load (more t ts) us = omega (arith, append_load ts us)
 
-of_factors_load : (t : Tree) → load_of_factors (factors_of t) ≡ load_of_factor t
+pub of_factors_load : (t : Tree) → load_of_factors (factors_of t) ≡ load_of_factor t
 of_factors_load t = grind arith
 
 load_at_most : (t : Tree) → load t ≤ load_of_factor t

@@ -8,6 +8,7 @@ use Rattle.coefficients.proofs.{Factors.{monic_parts, monic_part, monic_no_numbe
 use Rattle.coefficients.proofs.{Keeps.{coefficient_keeps, sum_names}, NumberMultiples.{IsFactor, not_one_is}, Splits.{IsCoefficient, Leads, in_front, IsSpread, put_together}}
 use Rattle.coefficients.proofs.{SumMultiples.{sum_form_multiple, parts_multiple, no_number_multiple}, TermMultiples.{factors_behind, spread_behind, irrational, rational}}
 use Rattle.calc_algebra.proofs.NumberRewrites as lower
+pub use Rattle.coefficients.proofs.TermMultiples.{product_form_of}
 
 -- the same coefficient as in the laws of meanings
 pub coefficient_same : (t : Tree) → coefficient_of t ≡ lower.coefficient_of t
@@ -44,9 +45,6 @@ leading_factors ts l h n f = grind (arith, factors_behind, split_product, split)
 product_taken : (ts : Trees) → AllParts HasForm (mult ts) → is_number (mult ts) ≡ false → IsProductForm ts → (has_coefficient ts ≡ false) ⊎ Leads ts → IsTaken (mult ts)
 product_taken ts h n f (inl k) = monic_taken (mult ts) (record { reduced = parts_reduced (mult ts) h; defined = refl; no_coefficient = k }) (ap (λ (s : Split). s.coefficient) (no_split ts k))
 product_taken ts h n f (inr l) = led_taken ts l (leading_factors ts l h n f) f
-
-pub product_form_of : (ts : Trees) → AllParts HasForm (mult ts) → is_number (mult ts) ≡ false → IsProductForm ts
-product_form_of ts h n = elim (h.0) [ inl k ↦ absurd (true≢false (sym (number_test (mult ts) k) ∙ n)) | inr k ↦ k ]
 
 taken_parts : (t : Tree) → AllParts HasForm t → is_number t ≡ false → IsTaken t
 taken_parts t h n = grind (arith, product_form_of, product_taken, in_front, monic_taken, parts_reduced, parts_defined)

@@ -1,7 +1,7 @@
 -- The factors behind a coefficient, and trees without one.
-use Rattle.coefficients.proofs.Shared.{true≢false, ◌≡◌, ◌≤◌, inl, inr, Bool, true, false, if◌then◌else◌, refl, sym, ap, ◌∙◌, subst, arith, Fraction, has_coefficient, is_number, IsNumber, Split}
-use Rattle.coefficients.proofs.Shared.{split, split_product, num_one, product_tree, part_of, base_of, is_undistributed, NoneIs, RisesBy, IsFrontForm, IsProductForm, HasForm, Tree, num, add, mult}
-use Rattle.coefficients.proofs.Shared.{root, Trees, none, more, append, count, HasTwo, AllParts, AllPartsOf, is_mult, number_words, number_test, coefficient_of, factors_of, IsMonic}
+use Rattle.coefficients.proofs.Shared.{true≢false, ◌≡◌, ◌≤◌, inl, inr, Bool, true, false, if◌then◌else◌, refl, sym, ap, ◌∙◌, subst, arith, Fraction, has_coefficient, is_number, IsNumber, Split, split}
+use Rattle.coefficients.proofs.Shared.{split_product, num_one, product_tree, part_of, base_of, is_undistributed, NoneIs, RisesBy, IsFrontForm, IsProductForm, HasForm, Tree, num, add, mult, root}
+use Rattle.coefficients.proofs.Shared.{Trees, none, more, append, count, HasTwo, AllParts, AllPartsOf, is_mult, number_words, number_test, coefficient_of, factors_of, IsMonic, symbol, List, ℕ}
 use Rattle.coefficients.proofs.Forms.{reduced_parts, parts_reduced, own_form, parts_defined, one_is_one}
 
 -- ---- what stands in front
@@ -56,6 +56,10 @@ two_count ts h = grind arith
 
 pub undistributed_one : (ts : Trees) → is_undistributed (split num_one ts) ≡ false
 undistributed_one ts = rw one_is_one refl
+
+pub symbol_monic : (x : List ℕ) → IsMonic (symbol x)
+unfolding is_number
+symbol_monic x = record { reduced = parts_reduced (symbol x) (inr tt); defined = refl; no_coefficient = refl }
 
 -- a product of factors
 pub factors_monic : (ts : Trees) → AreFactors ts → IsMonic (product_tree ts)

@@ -1,7 +1,7 @@
 -- Parts that have their form, and the parts of Numbers.
-use Rattle.coefficients.proofs.Shared.{arith, ◌≡◌, inr, true, false, refl, not_from_false, one_fraction, is_one_fraction, is_number, is_term, IsNumber, IsTerm, AreTerms, is_reduced, HasForm}
-use Rattle.coefficients.proofs.Shared.{Tree, num, mult, root, Trees, none, more, append, AllParts, AllPartsOf, is_undef, zero_test, whole_numerator, whole_denominator, number_test, reduced_words}
-use Rattle.coefficients.proofs.Shared.{reduced_test}
+use Rattle.coefficients.proofs.Shared.{arith, ◌≡◌, inr, true, false, refl, not_from_false, one_fraction, is_one_fraction, is_number, is_term, IsNumber, IsTerm, AreTerms, is_reduced, HasForm, Tree}
+use Rattle.coefficients.proofs.Shared.{num, mult, root, Trees, none, more, append, AllParts, AllPartsOf, is_undef, zero_test, whole_numerator, whole_denominator, number_test, reduced_words}
+use Rattle.coefficients.proofs.Shared.{reduced_test, number_words}
 
 -- ---- reduced trees
 
@@ -34,6 +34,9 @@ terms_parts (more t ts) h = (term_parts t h.0, terms_parts ts h.1)
 -- a Number is reduced
 pub number_parts : (t : Tree) → IsNumber t → AllParts HasForm t
 number_parts t h = grind (arith, terms_parts, term_parts)
+
+pub number_reduced : (t : Tree) → is_number t ≡ true → is_reduced t ≡ true
+number_reduced t h = parts_reduced t (number_parts t (number_words t h))
 
 pub term_test : (t : Tree) → IsTerm t → is_term t ≡ true
 unfolding is_number

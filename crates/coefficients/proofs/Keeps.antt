@@ -80,7 +80,7 @@ coefficient_keeps c p = spliced_keeps c p
 
 -- ---- names
 
-tree_names : (ts : Trees) → names (product_tree ts) ≡ names_of ts
+pub tree_names : (ts : Trees) → names (product_tree ts) ≡ names_of ts
 tree_names ts = grind (arith, append-nil)
 
 factors_names : (q : Fraction) (ts : Trees) → names (rational_times_factors q ts) ≡ names_of ts

@@ -5,7 +5,7 @@ use Rattle.coefficients.proofs.Shared.{number_test, number_words, term_words, re
 use Rattle.coefficients.proofs.Shared.{count, size, sizes, is_add, AllParts, AllPartsOf, mapped, rational_times, rational_times_factors, rational_times_number, rational_times_term, leads_sum}
 use Rattle.coefficients.proofs.Shared.{put_room, LacksRoom, OfFull, number_size, NumberFault, pow_pos, mul-le, term_bytes, roots_bytes, count_terms, few_terms, terms_spanned, counted_number}
 use Rattle.coefficients.proofs.{Shared.{counted_other, tree_bytes, factor_bytes, numbers_among, part_counts}, Factors.{AreFactors}, Forms.{reduced_parts, number_of_term}}
-use Rattle.coefficients.proofs.{NumberMultiples.{IsFactor, scaled}, SumMultiples.{EachTerm, each_term, number_term}, TermMultiples.{factors_behind, multiple}}
+use Rattle.coefficients.proofs.{NumberMultiples.{IsFactor, scaled}, SumMultiples.{EachTerm, each_term, number_term, terms_no_sum}, TermMultiples.{factors_behind, multiple}}
 use Rattle.tree_handles.specs.declared.fault.NumberFault.TheVariants as fault
 use Rattle.tree_room.specs.Needs as need
 
@@ -41,7 +41,7 @@ number_bytes gs q done rest f h s =
 
 -- ---- what spans a term spans its multiple
 
-spans_product : (gs : List ℕ) (ts : Trees) → SpansTrees gs ts → SpansTree gs (product_tree ts)
+pub spans_product : (gs : List ℕ) (ts : Trees) → SpansTrees gs ts → SpansTree gs (product_tree ts)
 spans_product gs ts s = grind arith
 
 spans_factors : (gs : List ℕ) (q : Fraction) (ts : Trees) → SpansTrees gs ts → SpansTree gs (rational_times_factors q ts)
@@ -157,7 +157,7 @@ left_bytes gs (more t done) rest h k s = left_bytes gs done rest h.1 k.1 s.1
 
 -- ---- the Number in front
 
-no_numbers : (ts : Trees) → NoneIs is_number ts → numbers_among ts ≡ 0
+pub no_numbers : (ts : Trees) → NoneIs is_number ts → numbers_among ts ≡ 0
 no_numbers none n = refl
 no_numbers (more t ts) n = let z : (if is_number t then 1 else 0) ≡ 0 = ap {B = ℕ} (λ (b : Bool). if b then 1 else 0) n.0 in omega (arith, z, no_numbers ts n.1)
 
@@ -193,14 +193,6 @@ lead gs (more t ts) n s = by (is_term t) refl n (λ k. lead gs ts k s.1)
 
 -- ---- a reduced sum
 
-no_sum_among : (ts : Trees) → AreTerms ts → NoneIs is_add ts
-no_sum_among none h = tt
-no_sum_among (more t ts) h = (no_sum t h.0, no_sum_among ts h.1)
-  where
-    no_sum : (t : Tree) → IsTerm t → is_add t ≡ false
-    no_sum (add ts) k = absurd k
-    no_sum t k = refl
-
 each_of_number : (ts : Trees) → AreTerms ts → EachTerm ts
 each_of_number none h = tt
 each_of_number (more t ts) h = (inl h.0, each_of_number ts h.1)
@@ -222,7 +214,7 @@ spanned_sum gs ts h s = by parts.0
     by : HasForm (add ts) → IsSpannedSum gs ts
     by (inl n) = record {
       formed = parts.1;
-      no_sum = no_sum_among ts n.1;
+      no_sum = terms_no_sum ts n.1;
       each = each_of_number ts n.1;
       spans = s.1;
       numbers = omega (arith, at_most_all ts, number_count gs ts n.1 n.2 s.1);

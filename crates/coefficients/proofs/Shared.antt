@@ -20,8 +20,7 @@ pub use Rattle.coefficients.specs.{Bytes.{IsShort, bytes_as_product, bytes_of_co
 pub use Rattle.coefficients.specs.{Coefficients.{spliced, with_coefficient}, Multiples.{leads_sum, mapped, rational_times, rational_times_factors, rational_times_number, rational_times_sum}}
 pub use Rattle.coefficients.specs.{Multiples.{rational_times_term}, Overflows.{IsMultiple, Leads, LeadsIn, LeadsTerm, NamesPut}, Pairs.{GivesTwo, LeavesRest}, Rooms.{LacksRoom, put_room}}
 pub use Rattle.node_pool.specs.{State.{State, free_of}, declared.full.Full.{Full}}
-pub use Rattle.number_forms.proofs.{ByKind.{children_number}, Pairs.{first_handed, first_told, pair_apart, pair_rest, term_is_number}, RationalCalls.{num_same}, Rooms.{number_size, refusal_as}}
-pub use Rattle.number_forms.proofs.TermTrees.{if_given}
+pub use Rattle.number_forms.proofs.{ByKind.{children_number}, Pairs.{first_handed, pair_apart, pair_rest}, RationalCalls.{num_same}, Rooms.{number_size, refusal_as}}
 pub use Rattle.number_forms.specs.Sums.{removed}
 pub use Rattle.rational128.specs.{declared.overflow.Op.TheVariants.{Mul}, declared.overflow.Overflow.{Overflow}}
 pub use Rattle.std.proofs.Common.{Bool, Contains, IfErr, IsErr, IsErrAnd, IsOk, List, OnOk, Result, [], ap, append-nil, arith, eqb, false, if◌then◌else◌, inl, inr, length, max, not, pos, refl, rules}

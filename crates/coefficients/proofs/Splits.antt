@@ -34,7 +34,7 @@ joined_two (more t none) none h k = absurd (omega arith)
 joined_two (more t none) (more u us) h k = tt
 joined_two (more t (more u ts)) us h k = tt
 
-NoneIs-append : (p : Tree → Bool) (ts us : Trees) → NoneIs p ts → NoneIs p us → NoneIs p (append ts us)
+pub NoneIs-append : (p : Tree → Bool) (ts us : Trees) → NoneIs p ts → NoneIs p us → NoneIs p (append ts us)
 NoneIs-append p none us h k = k
 NoneIs-append p (more t ts) us h k = (h.0, NoneIs-append p ts us h.1 k)
 

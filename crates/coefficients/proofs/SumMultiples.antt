@@ -31,6 +31,10 @@ number_term q t f h = absurd h
 term_no_sum : (t : Tree) → IsTerm t → is_add t ≡ false
 term_no_sum t h = grind arith
 
+pub terms_no_sum : (ts : Trees) → AreTerms ts → NoneIs is_add ts
+terms_no_sum none h = tt
+terms_no_sum (more t ts) h = (term_no_sum t h.0, terms_no_sum ts h.1)
+
 all_of : (ts : Trees) → AreTerms ts → number_terms ts ≡ ts
 all_of none h = refl
 all_of (more t ts) h = rw (term_test t h.0) (ap (more t) (all_of ts h.1))

@@ -1,5 +1,5 @@
 -- A rational times a term of a reduced sum.
-use Rattle.coefficients.proofs.Shared.{true≢false, ◌≡◌, ◌≢◌, ◌≤◌, ◌⊎◌, inl, inr, Bool, true, false, not, if◌then◌else◌, refl, sym, ap, ◌∙◌, subst, arith, Fraction, times, zero_fraction, one_fraction}
+use Rattle.coefficients.proofs.Shared.{true≢false, ◌≡◌, ◌≢◌, ◌≤◌, ◌⊎◌, inl, inr, Bool, true, false, if◌then◌else◌, refl, sym, ap, ◌∙◌, subst, arith, Fraction, times, zero_fraction, one_fraction}
 use Rattle.coefficients.proofs.Shared.{is_one_fraction, has_coefficient, is_number, IsNumber, Split, split, split_product, product_tree, part_of, is_undistributed, is_one_add, NoneIs, IsProductForm}
 use Rattle.coefficients.proofs.Shared.{HasForm, Tree, num, add, mult, root, Trees, none, more, append, count, HasTwo, AllParts, AllPartsOf, is_num, is_add, one_test, product_not_zero, number_test}
 use Rattle.coefficients.proofs.{Shared.{factors_of, IsMonic, rational_times_number, rational_times_term}, Forms.{parts_reduced, parts_defined}, Factors.{no_split, AreFactors, factors_monic}}
@@ -8,13 +8,13 @@ use Rattle.coefficients.proofs.Splits.{IsCoefficient, Leads, in_front, IsSpread,
 
 -- ---- the factors behind a coefficient
 
-behind_none : (p : Tree → Bool) (ts us : Trees) → NoneIs p (append ts us) → NoneIs p us
+pub behind_none : (p : Tree → Bool) (ts us : Trees) → NoneIs p (append ts us) → NoneIs p us
 behind_none p none us h = h
 behind_none p (more t ts) us h = behind_none p ts us h.1
 
-behind_parts : (ts us : Trees) → AllPartsOf HasForm (append ts us) → AllPartsOf HasForm us
-behind_parts none us h = h
-behind_parts (more t ts) us h = behind_parts ts us h.1
+pub behind_parts : (P : Tree → Type 0) (ts us : Trees) → AllPartsOf P (append ts us) → AllPartsOf P us
+behind_parts P none us h = h
+behind_parts P (more t ts) us h = behind_parts P ts us h.1
 
 -- a Number alone is no product with other factors
 no_rest : (c : Tree) → IsNumber c → HasTwo (append (factors_of c) none) → is_number (mult (append (factors_of c) none)) ≡ false → ⊥
@@ -56,6 +56,9 @@ irrational c n h = record { number = n; not_zero = λ e. true≢false (sym (ap i
 alone_no_add : (us : Trees) → is_one_add us ≡ false → is_add (product_tree us) ≡ false
 alone_no_add us h = grind (arith, true≢false)
 
+pub product_form_of : (ts : Trees) → AllParts HasForm (mult ts) → is_number (mult ts) ≡ false → IsProductForm ts
+product_form_of ts h n = elim (h.0) [ inl k ↦ absurd (true≢false (sym (number_test (mult ts) k) ∙ n)) | inr k ↦ k ]
+
 module _ (q : Fraction) (f : IsFactor q) where
   -- the coefficient goes
   gone : (t : Tree) (us : Trees) → AreFactors us → is_one_add us ≡ false → part_of t ≡ product_tree us → IsMultiple t (product_tree us)
@@ -95,7 +98,7 @@ module _ (q : Fraction) (f : IsFactor q) where
       by c n z d e = absurd n
 
   -- before factors with no Number in front
-  unled : (ts : Trees) → has_coefficient ts ≡ false → rational_times_term q (mult ts) ≡ mult (more (num q) ts)
+  pub unled : (ts : Trees) → has_coefficient ts ≡ false → rational_times_term q (mult ts) ≡ mult (more (num q) ts)
   unfolding is_number
   unled (more (num c) ts) h = absurd (true≢false h)
   unled (more (add us) ts) h = ap (λ (b : Bool). if b then mult (more (rational_times_number q us) ts) else mult (more (num q) (more (add us) ts))) h
@@ -116,9 +119,6 @@ module _ (q : Fraction) (f : IsFactor q) where
       let a : AreFactors l.factors = factors_behind l.c l.factors is l.coefficient.number (subst (λ (x : Trees). is_number (mult x) ≡ false) l.whole n) form (subst (AllPartsOf HasForm) l.whole h.1) in
       subst (λ (x : Trees). IsMultiple (mult x) (rational_times_term q (mult x))) (sym l.whole)
       (led l.c l.factors l.coefficient a (spread_behind l.c l.factors l.coefficient (sym (ap is_undistributed is) ∙ form.distributed)) (ap (λ (s : Split). product_tree s.factors) is))
-
-  product_form_of : (ts : Trees) → AllParts HasForm (mult ts) → is_number (mult ts) ≡ false → IsProductForm ts
-  product_form_of ts h n = elim (h.0) [ inl k ↦ absurd (true≢false (sym (number_test (mult ts) k) ∙ n)) | inr k ↦ k ]
 
   pub multiple : (t : Tree) → AllParts HasForm t → is_number t ≡ false → is_add t ≡ false → IsMultiple t (rational_times_term q t)
   unfolding is_number

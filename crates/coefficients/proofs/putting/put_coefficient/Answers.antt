@@ -13,24 +13,25 @@ put_rational-requires-clause-reduced c =
     let same = ap (λ (f : Forest). plain (root_tree c.args.part f)) gone ∙ ap plain (tree-without c.args.coefficient c.args.part (forest c.args.pool.now) c.requires.apart) in
     ap is_reduced same ∙ c.requires.reduced
 
-pub returns-in-Num-clause-ok : goal.returns-in-Num-clause-ok
-returns-in-Num-clause-ok c =
+pub returns-in-Num : goal.returns-in-Num
+returns-in-Num c =
     let gone = c.release.ensures.owned (owned c.requires.first) in
     let same = ap (λ (f : Forest). plain (root_tree c.args.part f)) gone ∙ ap plain (tree-without c.args.coefficient c.args.part (forest c.args.pool.now) c.requires.apart) in
     let was = sym c.rational-q.ensures.plain ∙ seen c.id-in-Num.ensures c.requires.stands c.requires.first in
     let swapped = without-swap c.args.part c.args.coefficient (forest c.args.pool.now) (eqb-sym c.args.coefficient c.args.part c.requires.apart) in
-    if_map c.put_rational.result _ _ c.put_rational.ensures.ok
-    (λ h x. gives_as x (ap (without_root c.args.part) gone ∙ swapped) (λ t e. e ∙ (λ i. with_coefficient (was i) (same i))))
-
-pub returns-in-Num-clause-front : goal.returns-in-Num-clause-front
-returns-in-Num-clause-front c =
-    front_after_one (behind_later behind_first) (front_at (front_without behind_first front_same) (c.release.ensures.owned (owned c.requires.first))) c.put_rational.ensures.front
-
-pub returns-in-Num-clause-kept : goal.returns-in-Num-clause-kept
-returns-in-Num-clause-kept c = on_ok_after c.put_rational.result _ _ _ c.release.ensures.kept c.put_rational.ensures.kept
-
-pub returns-in-Num-clause-faults : goal.returns-in-Num-clause-faults
-returns-in-Num-clause-faults c = fault_after c.put_rational.result _ _ _ c.release.ensures.kept c.put_rational.ensures.faults
+    let more = released_free c.requires.stands c.release.ensures.stands c.release.ensures.kept c.requires.first gone in
+    let put = c.put_rational.ensures in
+    record {
+      ok = if_map c.put_rational.result _ _ put.ok (λ h x. gives_as x (ap (without_root c.args.part) gone ∙ swapped) (λ t e. e ∙ (λ i. with_coefficient (was i) (same i))));
+      front = front_after_one (behind_later behind_first) (front_at (front_without behind_first front_same) gone) put.front;
+      kept = on_ok_after c.put_rational.result _ _ _ c.release.ensures.kept put.kept;
+      faults = fault_after c.put_rational.result _ _ _ c.release.ensures.kept put.faults;
+      caused = put.caused;
+      named = result_named c.put_rational.result _ _ put.named (λ o h. put_as o was same h);
+      room = λ gs n s u. result_lacks c.put_rational.result _ _ (put.room gs (subst (SpansTree gs) (sym same) u))
+          (λ g l. omega (arith, more, ap size same, ap (λ (v : Tree). put_room (counted v) (2 ^ length gs)) same, l));
+      stands = put.stands;
+    }
 
 pub returns-in_ok-splice-in_default : goal.returns-in_ok-splice-in_default
 returns-in_ok-splice-in_default c =
@@ -46,21 +47,6 @@ returns-in_ok-splice-in_default c =
       room = λ gs n s u. tt;
       stands = splice.stands;
     }
-
-pub returns-in-Num-clause-named : goal.returns-in-Num-clause-named
-returns-in-Num-clause-named c =
-    let gone = c.release.ensures.owned (owned c.requires.first) in
-    let same = ap (λ (f : Forest). plain (root_tree c.args.part f)) gone ∙ ap plain (tree-without c.args.coefficient c.args.part (forest c.args.pool.now) c.requires.apart) in
-    let was = sym c.rational-q.ensures.plain ∙ seen c.id-in-Num.ensures c.requires.stands c.requires.first in
-    result_named c.put_rational.result _ _ c.put_rational.ensures.named (λ o h. put_as o was same h)
-
-pub returns-in-Num-clause-room : goal.returns-in-Num-clause-room
-returns-in-Num-clause-room c gs n s u =
-    let gone = c.release.ensures.owned (owned c.requires.first) in
-    let same = ap (λ (f : Forest). plain (root_tree c.args.part f)) gone ∙ ap plain (tree-without c.args.coefficient c.args.part (forest c.args.pool.now) c.requires.apart) in
-    let more = released_free c.requires.stands c.release.ensures.stands c.release.ensures.kept c.requires.first gone in
-    result_lacks c.put_rational.result _ _ (c.put_rational.ensures.room gs (subst (SpansTree gs) (sym same) u))
-    (λ g l. omega (arith, more, ap size same, ap (λ (v : Tree). put_room (counted v) (2 ^ length gs)) same, l))
 
 pub returns-in_err-splice-in_default-clause-room : goal.returns-in_err-splice-in_default-clause-room
 returns-in_err-splice-in_default-clause-room c gs n s u =
