@@ -1,17 +1,16 @@
 -- The addends of terms, of multiples of terms, and of sums.
 use Rattle.std.proofs.{Common.{◌≡◌, ◌≢◌, ◌≤◌, ◌⊎◌, inl, inr, [], ◌∷◌, Bool, true, false, if◌then◌else◌, refl, sym, ap, ◌∙◌, subst, arith, append-nil, map, one-mul}, lemmas.Bool.{true≢false}}
-use Rattle.calc_algebra.proofs.{NumberClasses.{one_not_zero}, NumberLaws.{number_test, term_words}, InverseLaws.{product_not_zero}}
+use Rattle.calc_algebra.proofs.{NumberClasses.{one_not_zero}, NumberLaws.{number_test, term_words}, InverseLaws.{product_not_zero}, MeaningLaws.{Same-sym}, TermLaws.{Same-refl, zero_term}}
 use Rattle.calc_algebra.specs.{Numbers.{AreTerms, IsNumber, is_number, natural_of, terms_of, value}, Reduced.{HasForm, IsProductForm, IsSumForm, NoneIs, Split, num_one, number_terms, other_terms}}
-use Rattle.calc_algebra.specs.{Reduced.{part_of, product_tree, split_product}, Surds.{Surd, surd_of, surd_one, surd_scale, surd_times, term, term_times}}
+use Rattle.calc_algebra.specs.{Reduced.{part_of, product_tree, split_product}, Surds.{Surd, surd_of, surd_one, surd_scale, surd_times, term, term_times}, SquareClasses.{Same}}
 use Rattle.calc_measures.specs.Loads.{has_coefficient}
-use Rattle.calc_terms.proofs.FractionFacts.{one_is, zero_test}
-use Rattle.calc_terms.specs.{Fractions.{Fraction, is_one_fraction, one_fraction, times, zero_fraction}, Trees.{AllParts, AllPartsOf, Tree, Trees, add, append, count, is_add, more, mult, none, num}}
-use Rattle.calc_terms.specs.Trees.{root}
+use Rattle.calc_terms.proofs.FractionFacts.{one_is, zero_test, zero_is}
+use Rattle.calc_terms.specs.{Fractions.{Fraction, is_one_fraction, one_fraction, times, zero_fraction, is_zero_fraction}, Trees.{AllParts, AllPartsOf, Tree, Trees, add, append, count, is_add, more}}
+use Rattle.calc_terms.specs.Trees.{mult, none, num, root}
 use Rattle.coefficients.proofs.{Coefficients.{leading_factors, product_form_of}, Factors.{AreFactors, factors_monic, factors_of_tree, monic_coefficient, monic_no_number, monic_part, monic_parts}}
 use Rattle.coefficients.proofs.{Factors.{no_split, none_leads, spliced_split}, NumberMultiples.{IsFactor, not_one_is, number_scaled, terms-scaled, times_one}, SumMultiples.{number_term}}
-use Rattle.coefficients.proofs.{TermMultiples.{multiple}, Splits.{IsCoefficient, Leads, in_front}, Forms.{no_term, term_test}}
+use Rattle.coefficients.proofs.{TermMultiples.{multiple, behind_none, behind_parts, unled}, Splits.{IsCoefficient, Leads, in_front}, Forms.{no_term, term_test}}
 use Rattle.coefficients.specs.{Coefficients.{IsMonic, coefficient_of, factors_of, spliced}, Multiples.{mapped, rational_times_number, rational_times_sum, rational_times_term}}
-use Rattle.like_children.proofs.Parts.{last_parts}
 use Rattle.tree_bits.specs.{Factors.{distributed}, HeldTrees.{Addend, addend, addend_of, addends, addends_of}}
 
 -- ---- which terms make the Number
@@ -36,6 +35,13 @@ one_value = ap (λ (b : Bool). if b then [] else surd_of one_fraction) (zero_tes
 
 pub rational_value : (q : Fraction) → q ≢ zero_fraction → value (num q) ≡ surd_of q
 rational_value q h = ap (λ (b : Bool). if b then [] else surd_of q) (zero_test q h)
+
+pub num_value : (q : Fraction) → Same (value (num q)) (surd_of q)
+num_value q = by (is_zero_fraction q) refl
+  where
+    by : (b : Bool) → is_zero_fraction q ≡ b → Same (if b then [] else surd_of q) (surd_of q)
+    by true e = subst (λ (x : Fraction). Same [] (surd_of x)) (sym (zero_is q e)) (Same-sym (zero_term 1))
+    by false e = Same-refl (surd_of q)
 
 -- the factors of a product's part are those behind its coefficient
 factors_behind : (ts : Trees) → AllParts HasForm (mult ts) → is_number (mult ts) ≡ false → factors_of (product_tree (split_product ts).factors) ≡ (split_product ts).factors
@@ -76,10 +82,6 @@ first_terms : (ts : Trees) → AreTerms (number_terms ts)
 first_terms none = tt
 first_terms (more t ts) = grind (arith, first_terms ts, term_words)
 
-pub last_none : (p : Tree → Bool) (ts us : Trees) → NoneIs p (append ts us) → NoneIs p us
-last_none p none us h = h
-last_none p (more t ts) us h = last_none p ts us h.1
-
 pub split_sum : (ts : Trees) → IsSumForm ts → AllPartsOf HasForm ts → IsSplit ts
 split_sum ts s h =
     let e = in_two ts in
@@ -89,8 +91,8 @@ split_sum ts s h =
       whole = e;
       terms = first_terms ts;
       no_number = s.no_number;
-      no_sum = last_none is_add (number_terms ts) (other_terms ts) (subst (NoneIs is_add) e s.no_sum);
-      formed = last_parts HasForm (number_terms ts) (other_terms ts) (subst (AllPartsOf HasForm) e h);
+      no_sum = behind_none is_add (number_terms ts) (other_terms ts) (subst (NoneIs is_add) e s.no_sum);
+      formed = behind_parts HasForm (number_terms ts) (other_terms ts) (subst (AllPartsOf HasForm) e h);
     }
 
 pub sum_addends : (ns os : Trees) → AreTerms ns → NoneIs is_number os → addends (add (append ns os)) ≡ addend (terms_of ns) none ∷ addends_of os
@@ -157,13 +159,9 @@ module _ (q : Fraction) (f : IsFactor q) where
           ∙ before_value (rational_times_number q vs) us (number_scaled q vs f n) h ∙ terms-scaled q vs f n.1
       by c n z = absurd n
 
-  unled : (ts : Trees) → has_coefficient ts ≡ false → rational_times_term q (mult ts) ≡ mult (more (num q) ts)
-  unfolding is_number
-  unled ts h = grind arith
-
   product_times : (ts : Trees) → AllParts HasForm (mult ts) → is_number (mult ts) ≡ false → IsProductForm ts → (has_coefficient ts ≡ false) ⊎ Leads ts
       → IsTimes (rational_times_term q (mult ts)) (value (split_product ts).coefficient)
-  product_times ts h n g (inl k) = grind (arith, unled, no_coefficient, no_split)
+  product_times ts h n g (inl k) = grind (arith, unled q f, no_coefficient, no_split)
   product_times ts h n g (inr l) =
       ap (λ (us : Trees). value (coefficient_of (rational_times_term q (mult us)))) l.whole ∙ led l.c l.factors l.coefficient (leading_factors ts l h n g)
       ∙ ap (λ (s : Split). surd_scale q (value s.coefficient)) (sym l.is)

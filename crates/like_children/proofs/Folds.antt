@@ -2,7 +2,7 @@
 use Rattle.like_children.proofs.Shared.{true≢false, Err, ℕ, zero, suc, ◌≤◌, ◌≡◌, List, ◌∷◌, true, refl, sym, ap, ◌∙◌, subst, arith, and_parts, Fraction, is_number, PlainValue, exactly, calculated}
 use Rattle.like_children.proofs.Shared.{fold_values, gather, values, plain_of_children, plain_value, are_plain, NoneIs, Tree, num, add, mult, Trees, none, more, count, is_num, are_rationals, State}
 use Rattle.like_children.proofs.Shared.{AnswersRationals, Overflow, NumberFault, nth, removed, rational_of, rationals_of, AreFolded, IsTotal, AnswersTotal, NoNumberBetween, IsNextNumber, others_in}
-use Rattle.like_children.proofs.{Shared.{Operation, add_op, mul_op, IsPlainAnswer, IsPlainOverflow}, NumbersIn.{number_out}}
+use Rattle.like_children.proofs.{Shared.{Operation, add_op, mul_op, IsPlainAnswer, IsPlainOverflow, ◌+◌, false}, NumbersIn.{number_out}}
 use Rattle.tree_handles.specs.declared.fault.NumberFault.TheVariants as fault
 
 -- ---- Numbers by their places
@@ -10,6 +10,10 @@ use Rattle.tree_handles.specs.declared.fault.NumberFault.TheVariants as fault
 pub no_numbers : (ts : Trees) → NoNumberBetween 0 (count ts) ts → NoneIs is_number ts
 no_numbers none b = tt
 no_numbers (more t ts) b = (b 0 (omega arith) (omega arith), no_numbers ts (λ k f l. b (suc k) (omega arith) (omega arith)))
+
+-- one place more
+pub no_number_more : (from n : ℕ) (ts : Trees) → NoNumberBetween from n ts → is_number (nth n ts) ≡ false → NoNumberBetween from (n + 1) ts
+no_number_more from n ts h q k f l = grind arith
 
 -- ---- rationals
 

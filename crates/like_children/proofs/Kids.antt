@@ -1,7 +1,7 @@
 -- Children by their places.
-use Rattle.like_children.proofs.Shared.{ℕ, zero, suc, ◌+◌, ◌<◌, ◌≡◌, refl, ap, ◌∙◌, arith, Tree, Trees, none, more, count, sizes, size, removed, nth, grown, plains, inserted}
-use Rattle.like_children.proofs.Shared.{children_of, IsWhole, Forest, empty, tree, arity, kids, tree_nth, without_nth, merged_nth, IsOnce, Represents, all-kids, all-tree_nth, all-without_nth}
-use Rattle.like_children.proofs.Shared.{arity-tree_nth, represents_as, represents_with, plain-tree_nth, children_of-plain, whole_kids, alone, with_nth-without_nth, plains-without_nth}
+use Rattle.like_children.proofs.Shared.{ℕ, zero, suc, ◌+◌, ◌<◌, ◌≡◌, refl, ap, ◌∙◌, arith, Tree, Trees, none, more, count, sizes, size, removed, nth, inserted, children_of, IsWhole, Forest, arity}
+use Rattle.like_children.proofs.Shared.{kids, tree_nth, without_nth, merged_nth, IsOnce, Represents, all-kids, all-tree_nth, all-without_nth, arity-tree_nth, represents_as, represents_with}
+use Rattle.like_children.proofs.Shared.{plain-tree_nth, children_of-plain, whole_kids, alone, with_nth-without_nth, plains-without_nth}
 
 pub represents_without : (n : ℕ) {k : Forest} {ts : Trees} → Represents k ts → Represents (without_nth n k) (removed n ts)
 represents_without n h = grind (arith, all-without_nth, plains-without_nth)

@@ -1,6 +1,5 @@
 pub mod Items
 mod Pairs
-mod Before
 pub mod Folds
 pub mod Kids
 pub mod Many
@@ -10,6 +9,7 @@ pub mod SoFar
 pub mod OneOrder
 pub mod Parts
 pub mod Addends
+pub mod Fits
 pub mod Counted
 pub mod Permutations
 pub mod Places

@@ -1,6 +1,11 @@
 -- What holds of each part of a coefficient and of a tree holds of each part of both put together.
 use Rattle.like_children.proofs.Shared.{arith, Fraction, Tree, num, add, mult, Trees, none, more, append, AllParts, AllPartsOf, product_tree, Permuted, permuted_none, permuted_more, permuted_swap}
-use Rattle.like_children.proofs.Shared.{permuted_trans, factors_of, spliced, rational_before, with_coefficient, mapped, rational_times, rational_times_term, AllPartsOf-append}
+use Rattle.like_children.proofs.Shared.{permuted_trans, factors_of, spliced, rational_before, with_coefficient, mapped, rational_times, rational_times_term, AllPartsOf-append, is_reduced, and_parts}
+use Rattle.like_children.proofs.Shared.{and_from, ◌≡◌, true, false, refl}
+use Rattle.calc_algebra.specs.Reduced.{are_reduced, HasForm}
+use Rattle.calc_terms.specs.Trees.{has_undef, is_undef}
+use Rattle.std.proofs.lemmas.Bool.{or_parts}
+use Rattle.coefficients.proofs.Forms.{reduced_parts, parts_reduced}
 
 -- ---- trees that change places, or stand before others
 
@@ -14,9 +19,17 @@ pub first_parts : (P : Tree → Type 0) (ts us : Trees) → AllPartsOf P (append
 first_parts P none us h = tt
 first_parts P (more t ts) us h = (h.0, first_parts P ts us h.1)
 
-pub last_parts : (P : Tree → Type 0) (ts us : Trees) → AllPartsOf P (append ts us) → AllPartsOf P us
-last_parts P none us h = h
-last_parts P (more t ts) us h = last_parts P ts us h.1
+-- reduced trees, none of them Undef
+pub reduced_formed : (ts : Trees) → are_reduced ts ≡ true → has_undef ts ≡ false → AllPartsOf HasForm ts
+reduced_formed none h d = tt
+reduced_formed (more t ts) h d =
+    let (a, b) = and_parts (is_reduced t) (are_reduced ts) h in
+    let (x, y) = or_parts (is_undef t) (has_undef ts) d in
+    (reduced_parts t a x, reduced_formed ts b y)
+
+pub formed_reduced : (ts : Trees) → AllPartsOf HasForm ts → are_reduced ts ≡ true
+formed_reduced none h = refl
+formed_reduced (more t ts) h = and_from _ _ (parts_reduced t h.0) (formed_reduced ts h.1)
 
 pub factors_parts : (P : Tree → Type 0) (t : Tree) → AllParts P t → AllPartsOf P (factors_of t)
 factors_parts P t h = grind arith

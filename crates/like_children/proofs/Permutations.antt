@@ -1,10 +1,11 @@
 -- Trees that change places.
 use Rattle.std.specs.Prelude.{IsPermutation}
-use Rattle.std.proofs.{Common.{◌≡◌, [], ◌∷◌, Bool, refl, ap, ◌∙◌, subst, arith}, lemmas.List.Sorted.{IsPermutation-refl, IsPermutation-cons, IsPermutation-middle, IsPermutation-trans}}
+use Rattle.std.proofs.{Common.{◌≡◌, [], ◌∷◌, Bool, refl, ap, ◌∙◌, subst, arith, take}, lemmas.List.Sorted.{IsPermutation-refl, IsPermutation-cons, IsPermutation-middle, IsPermutation-trans}}
 use Rattle.calc_algebra.proofs.MeaningRewrites.{Permuted, permuted_more, permuted_none, permuted_swap, permuted_trans, permuted_trees, trees_of}
 use Rattle.calc_algebra.specs.Reduced.{NoneIs}
 use Rattle.calc_terms.specs.Trees.{Tree, Trees, count, more, none}
-use Rattle.node_order.specs.Sorting.{list_of}
+use Rattle.node_order.specs.Sorting.{list_of, IsSorting}
+use Rattle.like_children.proofs.Shared.{append}
 
 -- ---- the same trees in another order
 
@@ -34,3 +35,20 @@ to_lists permuted_none = IsPermutation-refl []
 to_lists (permuted_more {t} {ts} {us} k) = IsPermutation-cons t (list_of ts) (list_of us) (to_lists k)
 to_lists (permuted_swap {t} {u} {ts}) = IsPermutation-middle (t ∷ []) u (list_of ts)
 to_lists (permuted_trans {ts} {us} {vs} k l) = IsPermutation-trans (list_of ts) (list_of us) (list_of vs) (to_lists k) (to_lists l)
+
+-- ---- trees in the order of their keys behind others
+
+pub record IsBehind (key : Tree → Tree) (lead os us : Trees) : Type 0 where
+  pub vs : Trees
+  pub is : us ≡ append lead vs
+  pub sorted : IsSorting 0 key os vs
+
+pub sorted_behind : (key : Tree → Tree) (lead os us : Trees) → IsSorting (count lead) key (append lead os) us → IsBehind key lead os us
+sorted_behind key none os us s = record { vs = us; is = refl; sorted = s }
+sorted_behind key (more c ls) os none s = absurd (let f = s.front in cc)
+sorted_behind key (more c ls) os (more u us) s =
+    let f = s.front in
+    let same : u ≡ c = cc in
+    let front : take (count ls) (list_of us) ≡ take (count ls) (list_of (append ls os)) = cc in
+    let b = sorted_behind key ls os us (record { front = front; moved = s.moved; rising = s.rising }) in
+    record { vs = b.vs; is = (λ i. more (same i) (b.is i)); sorted = b.sorted }

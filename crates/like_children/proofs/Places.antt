@@ -4,6 +4,8 @@ use Rattle.calc_algebra.proofs.MeaningRewrites.{Permuted, Permuted-refl, permute
 use Rattle.calc_terms.specs.Trees.{Tree, Trees, count, more, none}
 use Rattle.number_forms.specs.Sums.{removed}
 use Rattle.tree_handles.specs.Expressions.{inserted, nth}
+use Rattle.like_children.proofs.Shared.{is_reduced, and_from, and_parts, true}
+use Rattle.calc_algebra.specs.Reduced.{are_reduced}
 
 -- ---- one is taken out, or put in
 
@@ -55,3 +57,8 @@ removed_two n none = refl
 removed_two zero (more t none) = refl
 removed_two zero (more t (more u ts)) = refl
 removed_two (suc n) (more t ts) = ap (more t) (removed_two n ts)
+
+pub reduced_inserted : (n : ℕ) (t : Tree) (ts : Trees) → is_reduced t ≡ true → are_reduced ts ≡ true → are_reduced (inserted n (more t none) ts) ≡ true
+reduced_inserted zero t ts h k = and_from _ _ h k
+reduced_inserted (suc n) t none h k = and_from _ _ h refl
+reduced_inserted (suc n) t (more u ts) h k = let (a, b) = and_parts (is_reduced u) (are_reduced ts) k in and_from _ _ a (reduced_inserted n t ts h b)

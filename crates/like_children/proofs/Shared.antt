@@ -19,16 +19,16 @@ pub use Rattle.node_pool.specs.{Nodes.{used}, State.{State, free_of}}
 pub use Rattle.number_forms.proofs.{LastSums.{plains-without_nth}, Rooms.{full_as}}
 pub use Rattle.number_forms.specs.{Answers.{AnswersRationals, IsNumberOf}, Sums.{removed}}
 pub use Rattle.rational128.specs.declared.overflow.Overflow.{Overflow}
-pub use Rattle.std.proofs.Common.{Bool, Err, IfOk, IfSome, List, MatchOption, Option, Result, [], add-one, ap, arith, eqb, false, if◌then◌else◌, inl, inr, nat_lt, refl, rules, subst, suc, sym, true}
-pub use Rattle.std.proofs.{Common.{zero, ℕ, ◌+◌, ◌-◌, ◌<◌, ◌∙◌, ◌∷◌, ◌≡◌, ◌≤◌, ◌⊎◌}, lemmas.Bool.{and_from, and_parts, ltb-false, ltb-true, true≢false}}
+pub use Rattle.std.proofs.Common.{Bool, Err, IfOk, IfSome, List, MatchOption, Option, Result, [], add-one, ap, arith, eqb, false, if◌then◌else◌, inl, inr, refl, rules, subst, suc, sym, true, zero, ℕ}
+pub use Rattle.std.proofs.{Common.{◌+◌, ◌-◌, ◌<◌, ◌∙◌, ◌∷◌, ◌≡◌, ◌≤◌, ◌⊎◌}, lemmas.Bool.{and_from, and_parts, true≢false}}
 pub use Rattle.std.specs.declared.cmp.Ordering.TheVariants.{Less}
 pub use Rattle.tree_handles.proofs.{ChildPlaces.{no_more, seen_child, step_on}, Counted.{all-kids, all-tree_nth, all-without_nth}, Cuts.{represents_count}}
 pub use Rattle.tree_handles.proofs.{Forests.{arity-tree_nth, keeps_after, keeps_none}, FreeBytes.{bytes_without}, Fronts.{behind_first, behind_later, behind_new, front_after_two, front_end}}
 pub use Rattle.tree_handles.proofs.{Fronts.{front_put, front_same, front_without}, Given.{given_apart, given_handed, given_other, given_rest, given_same, given_told, given_without, gives, gives_as}}
 pub use Rattle.tree_handles.proofs.{Given.{handed_by_put, represents_as, represents_with}, Lasts.{expression_root, kids_of_root, last_tree, other_apart, plain_root}, Nths.{with_nth-without_nth}}
-pub use Rattle.tree_handles.proofs.{Outcomes.{by_test, eqb-sym}, Over.{IsOver, once_count, over_end, over_handed, over_plain, over_product, over_put, over_same, over_sum, without_put}}
-pub use Rattle.tree_handles.proofs.{Places.{used_forest}, Plains.{alone, children_of-plain, count-plains, plain-tree_nth, size-plain, whole_kids}, Roots.{put-put, put-same, root-put, root_arity}}
-pub use Rattle.tree_handles.proofs.Roots.{tree-put, tree-without, without-put}
-pub use Rattle.tree_handles.specs.{Children.{root_ids}, Expressions.{IsExpression, IsWhole, children_of, compound, grown, inserted, nth, plain, plains, takes_kind}, Forest.{Forest, arity, bytes_in}}
-pub use Rattle.tree_handles.specs.{Forest.{empty, kids, merged_nth, rest_trees, root_count, tree, tree_nth, without_nth}, Handed.{Ends, Gives, IsHanded, IsOnce, KeepsFront, Represents, tree_of}}
+pub use Rattle.tree_handles.proofs.{Outcomes.{eqb-sym}, Over.{IsOver, once_count, over_end, over_handed, over_plain, over_product, over_put, over_same, over_sum, without_put}, Places.{used_forest}}
+pub use Rattle.tree_handles.proofs.{Plains.{alone, children_of-plain, count-plains, plain-tree_nth, size-plain, whole_kids}, Roots.{put-put, put-same, root-put, root_arity, tree-put, tree-without}}
+pub use Rattle.tree_handles.proofs.Roots.{without-put}
+pub use Rattle.tree_handles.specs.{Children.{root_ids}, Expressions.{IsExpression, IsWhole, children_of, compound, inserted, nth, plain, takes_kind}, Forest.{Forest, arity, bytes_in, kids}}
+pub use Rattle.tree_handles.specs.{Forest.{merged_nth, rest_trees, root_count, tree_nth, without_nth}, Handed.{Ends, Gives, IsHanded, IsOnce, KeepsFront, Represents, tree_of}}
 pub use Rattle.tree_handles.specs.{Inside.{kids_of, tree_at}, Roots.{has_root, put, root_tree, without_root}, Standing.{KeepsRefusals, Stands, forest}, declared.fault.NumberFault.{NumberFault}}

@@ -8,7 +8,7 @@ use Rattle.node_bounds.proofs.Shared.{counts_one, number_counts_one, product_at_
 use Rattle.node_bounds.proofs.{Shared.{and_cases, not-false}, Clashes.{contrary}, Calm.{calm_exponent}, JointBytes.{product_base}, JointCounts.{numbers_one}, Rewritten.{AreSingle, parts_calm}}
 use Rattle.node_bounds.proofs.Rewritten.{parts_single, powers_raised, root_counts}
 use Rattle.tree_room.proofs.{Coefficients.{split_counts}, Counts.{numbers_appended as numbers_append, no_number as numbers_other}}
-use Rattle.product_reduce.proofs.GatheredCounts.{no_numbers}
+use Rattle.coefficients.proofs.Rooms.{no_numbers}
 
 -- ---- what a whole power of each base needs
 

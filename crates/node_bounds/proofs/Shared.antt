@@ -14,7 +14,8 @@ pub use Rattle.calc_terms.specs.{Fractions.{Fraction, minus_one_fraction, whole_
 pub use Rattle.calc_terms.specs.Trees.{has_undef, is_add, is_div, is_mult, is_num, is_root, is_sub, is_undef, more, mult, neg, none, num, power, root, root_kind, size, sizes, sub, symbol, undef}
 pub use Rattle.calc_terms.specs.declared.kind.Kind.{Kind}
 unfoldable pub use Rattle.calc_terms.specs.Fractions.{one_fraction, zero_fraction}
-pub use Rattle.coefficients.proofs.{Coefficients.{product_form_of}, Factors.{no_split}, Forms.{parts_defined, parts_reduced, reduced_parts}, Rooms.{sizes_append}, Splits.{Leads, in_front}}
+pub use Rattle.coefficients.proofs.{Coefficients.{product_form_of}, Factors.{no_split, symbol_monic}, Forms.{parts_defined, parts_reduced, reduced_parts}, Rooms.{sizes_append}}
+pub use Rattle.coefficients.proofs.Splits.{Leads, in_front}
 pub use Rattle.coefficients.specs.Coefficients.{IsMonic, with_coefficient}
 pub use Rattle.node_bounds.specs.{Answers.{IsReducedPower, IsReducedProduct, lacks_power}, Bits.{IsHeldAsRootPower, MultipliesCounts}, HandedOn.{AreReducedPowers, HandsOn, IsLifted, IsMultiplied}}
 pub use Rattle.node_bounds.specs.{HandedOn.{IsProductOfPowers, IsSummed}, NodeBits.{HoldsDifference, HoldsNode, HoldsPower}, NodeRooms.{HasNodesFor, KeepsNodeRoom, SpansNode, factors_room}}
@@ -33,12 +34,13 @@ pub use Rattle.power_reduce.specs.{Bits.{HasFewBitsRaised, IsHeldAsPowerOf}, Mis
 pub use Rattle.power_reduce.specs.{PowerAnswers.{has_number_power}, PowerSteps.{goes_inside, half, is_zero_or_one, parts_of, raised, rewritten, rewritten_whole}}
 pub use Rattle.product_reduce.proofs.{Finished.{reduced_nth}, HeldFactors.{part_single, single_part}, HeldNumbers.{no_factors_held, number_as_factor, value_held}, Joined.{one_base}}
 pub use Rattle.product_reduce.proofs.{JointBounds.{base_reduced as base_is_reduced, exponent_reduced as exponent_is_reduced}, LastSteps.{permuted_none_is}}
-pub use Rattle.product_reduce.proofs.{Neighbours.{joint_there, neighbours_joint, partners_of_pair}, Small.{symbol_monic}}
+pub use Rattle.product_reduce.proofs.Neighbours.{joint_there, neighbours_joint, partners_of_pair}
 pub use Rattle.radical_forms.specs.{Refusals.{HasWideRoot, IsFull, IsOverflow}, RootAnswers.{IfRational, IsRootAnswer, argument_of, has_no_root}}
 pub use Rattle.rational128.specs.declared.overflow.Overflow.{Overflow}
 pub use Rattle.std.proofs.{Math.Nat.{pow-le-pow_right}, lemmas.Bool.{and_cases, and_from, and_parts, and_right, cases_Bool, eqb-true, not-false, not-true, not_from_true, or_parts, true≢false}}
 pub use Rattle.std.proofs.lemmas.Nat.{mul-le, pow-add, pow_pos}
-pub use Rattle.sum_reduce.proofs.CollectedExponents.{num_counted, num_value, put_counted, whole_of, zero_counted}
+pub use Rattle.sum_reduce.proofs.CollectedExponents.{num_counted, put_counted, whole_of, zero_counted}
+pub use Rattle.like_children.proofs.Addends.{num_value}
 pub use Rattle.surd_bits.specs.Rooted.{IsNoLargerThanRoot}
 pub use Rattle.tree_bits.proofs.{Children.{tree_as_sum, trees_together}, Factors.{factor_as_tree, factor_is_held, minus_one_held, tree_as_base}, Joined.{addend_left_out, addend_to_front}}
 pub use Rattle.tree_bits.proofs.{Joined.{factor_left_out, factors_joined}, Numbers.{exponents_within, held_number, nothing_held}, Sums.{one_counted, one_counts, root_is_held, symbol_is_held}}

@@ -6,37 +6,17 @@ use Rattle.product_reduce.proofs.Shared.{is_number, are_reduced, is_reduced, has
 use Rattle.product_reduce.proofs.Shared.{lowest, whole_fraction, gcd, load, load_of_factor, Same-eq, nth, children_of, whole_denominator, zero_is, Same-sym, KeepsMeanings, KeepsMeanings-refl}
 use Rattle.product_reduce.proofs.Shared.{KeepsMeanings-eq, KeepsMeanings-trans, KeepsMeanings-product_more, zero_product, number_zero, number_words, numbers_defined, Same-trans, keeps, reduces_after}
 use Rattle.product_reduce.proofs.Shared.{IsFinished, IsEnding, IsStop, at_zero, at_end, opened, others_in, IsCoefficient, coefficient_before, have_partners, Within, within_eq, within_none}
-use Rattle.product_reduce.proofs.{Shared.{within_both, within_trans, number_names, no_new_name, nest_number}, Opened.{opened_keeps, collected, coefficient_in_front}}
-use Rattle.product_reduce.proofs.{NoNewNames.{names_opened, names_others, names_with_coefficient}, Forms.{IsFormed, AllFormed, formed, number_formed, opened_formed}, Bounds.{nest_opened, nest_others}}
-use Rattle.product_reduce.proofs.Bounds.{load_opened, load_others, load_product}
+use Rattle.product_reduce.proofs.Shared.{within_both, within_trans, number_names, no_new_name, nest_number, parts_reduced, parts_defined, number_parts, HasForm}
+use Rattle.product_reduce.proofs.{Opened.{opened_keeps, collected, coefficient_in_front}, NoNewNames.{names_opened, names_others, names_with_coefficient}, Bounds.{nest_opened, nest_others}}
+use Rattle.product_reduce.proofs.{Bounds.{load_opened, load_others, load_product}, Forms.{opened_parts}}
 use Rattle.calc_algebra.proofs.UndefRewrites.{undef_part}
 use Rattle.tree_handles.proofs.UndefChildren.{undef_inside}
+use Rattle.like_children.proofs.Parts.{reduced_formed, formed_reduced}
 use Rattle.calc_terms.specs.declared.kind.Kind.TheVariants as kind
 use Rattle.number_forms.proofs.Kept.{zero_value}
 pub use Rattle.like_children.proofs.Folds.{rational_others as rationals_alone}
 
 -- ---- reduced factors
-
-pub formed_unless_undef : (t : Tree) → is_reduced t ≡ true → is_undef t ≡ false → IsFormed t
-unfolding is_reduced
-formed_unless_undef t h d = formed t (ap (λ (k : Bool). k || all_parts has_form t) (sym d) ∙ h)
-
-pub or_none : (a b : Bool) → (a || b) ≡ false → (a ≡ false) × (b ≡ false)
-or_none a b h = grind arith
-
-pub reduced_formed : (ts : Trees) → are_reduced ts ≡ true → has_undef ts ≡ false → AllFormed ts
-reduced_formed none h d = tt
-reduced_formed (more t ts) h d =
-    let (a, b) = and_parts (is_reduced t) (are_reduced ts) h in
-    let (x, y) = or_none (is_undef t) (has_undef ts) d in
-    (formed_unless_undef t a x, reduced_formed ts b y)
-
-pub formed_reduced : (t : Tree) → IsFormed t → is_reduced t ≡ true
-unfolding is_reduced
-formed_reduced t h = or_right (is_undef t) (all_parts has_form t) h.parts
-
-pub formed_defined : (t : Tree) → IsFormed t → is_undef t ≡ false
-formed_defined t h = grind arith
 
 -- ---- the steps so far
 
@@ -84,14 +64,14 @@ load_of_number t h = ap (λ (k : Bool). if k || is_undef t then 0 else load_of_f
 pub zero_finished : (c : Tree) (ts : Trees) → has_undef ts ≡ false → IsCoefficient c (opened ts) → is_zero c ≡ true → IsFinished ts c
 zero_finished c ts d h z =
     let e = zero_words c z in
-    let f = number_formed c h.number in
+    let f = number_parts c (number_words c h.number) in
     record {
       reduces = record {
-        reduced = formed_reduced c f;
+        reduced = parts_reduced c f;
         no_new_name = no_new_name (within_trans (within_none (names_of ts)) (within_eq (number_names c h.number)));
         meanings = keeps (KeepsMeanings-trans (split_keeps c ts h) (KeepsMeanings-trans (KeepsMeanings-eq (ap (λ (x : Tree). mult (more x (others_in (opened ts)))) e)) (KeepsMeanings-trans (zero_product (others_in (opened ts))) (KeepsMeanings-eq (sym e)))));
       };
-      undefined = formed_defined c f ∙ sym d;
+      undefined = parts_defined c f ∙ sym d;
       written = λ e. record { coefficient = c; is_coefficient = h; zero = λ y. refl; written = λ y. absurd (cc (y, z)) };
       nest = omega (arith, nest_number c h.number);
       load = omega (arith, load_of_number c h.number);
@@ -161,11 +141,7 @@ stopped c ts us new d k e (at_end z p x) = ending_finished c ts new d k z (ap ha
 -- ---- opened factors are reduced, and rationals are as they were
 
 pub reduced_opened : (ts : Trees) → are_reduced ts ≡ true → has_undef ts ≡ false → are_reduced (opened ts) ≡ true
-reduced_opened ts r d = by (opened ts) (opened_formed ts (reduced_formed ts r d))
-  where
-    by : (us : Trees) → AllFormed us → are_reduced us ≡ true
-    by none h = refl
-    by (more t us) h = and_from _ _ (formed_reduced t h.0) (by us h.1)
+reduced_opened ts r d = formed_reduced (opened ts) (opened_parts HasForm ts (reduced_formed ts r d))
 
 pub opened_rationals : (ts : Trees) → are_rationals ts ≡ true → opened ts ≡ ts
 opened_rationals none h = refl

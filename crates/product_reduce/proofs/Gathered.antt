@@ -1,10 +1,10 @@
 -- From a coefficient beside ordered factors to the gathered product.
-use Rattle.std.proofs.Common.{◌≡◌, true, false, refl, sym, ap, ◌∙◌, subst, arith}
+use Rattle.std.proofs.{Common.{◌≡◌, true, false, refl, sym, ap, ◌∙◌, subst, arith}, lemmas.Bool.{or_parts}}
 use Rattle.product_reduce.proofs.Shared.{and_parts, and_from, IsPermutation-trans, base_of, is_reduced, are_reduced, NoneIs, KeepsMeanings-refl, KeepsMeanings-product_more, Permuted, permuted_none}
 use Rattle.product_reduce.proofs.Shared.{permuted_more, permuted_swap, permuted_trans, Permuted-sym, permuted_product, within_same, within_beside, names_permuted, no_new_name, keeps, reduces_after}
 use Rattle.product_reduce.proofs.Shared.{nest_of, load_of_factors, nest_permuted, Tree, mult, Trees, none, more, is_undef, has_undef, names, names_of, IsSorting, list_of, Overflow, children_of}
 use Rattle.product_reduce.proofs.{Shared.{AreOthers, IsEnding, opened, others_in, IsCoefficient, coefficient_before, IsGathered, IsOrdered, have_partners, SpreadingOverflows}, Bounds.{nest_with}}
-use Rattle.product_reduce.proofs.{Bounds.{nest_others, nest_opened, load_with, load_others, load_opened, load_permuted}, Finished.{or_none, product_keeps, product_within}}
+use Rattle.product_reduce.proofs.{Bounds.{nest_others, nest_opened, load_with, load_others, load_opened, load_permuted}, Finished.{product_keeps, product_within}}
 use Rattle.product_reduce.proofs.{JointPlaces.{in_front, before_is, front_reduced, reduced-append}, LastSteps.{permuted_none_is}, Misfits.{permuted_one_is}, Stepped.{others_are}}
 use Rattle.calc_algebra.specs.Rewritings.{Rewrites}
 use Rattle.like_children.proofs.Permutations.{none_permuted, of_lists}
@@ -19,7 +19,7 @@ reduced_permuted (permuted_trans k l) h = reduced_permuted l (reduced_permuted k
 
 defined_words : (ts : Trees) → has_undef ts ≡ false → NoneIs is_undef ts
 defined_words none h = tt
-defined_words (more t ts) h = let (a, b) = or_none (is_undef t) (has_undef ts) h in (a, defined_words ts b)
+defined_words (more t ts) h = let (a, b) = or_parts (is_undef t) (has_undef ts) h in (a, defined_words ts b)
 
 words_defined : (ts : Trees) → NoneIs is_undef ts → has_undef ts ≡ false
 words_defined none h = refl

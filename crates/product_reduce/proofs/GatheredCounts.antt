@@ -1,10 +1,11 @@
 -- The factors of a product are gathered to what counts no more.
-use Rattle.std.proofs.Common.{◌≡◌, ℕ, ◌≤◌, max, Bool, true, false, if◌then◌else◌, refl, sym, ap, subst, arith}
-use Rattle.product_reduce.proofs.Shared.{Tree, num, mult, Trees, none, more, append, has_undef, IsNumber, is_number, is_whole_num, base_of, NoneIs, is_num_one, are_reduced, Permuted, permuted_none}
-use Rattle.product_reduce.proofs.Shared.{permuted_more, number_words, counted, counted_among, factors_of, IsMonic, factors_monic, IsSorting, is_zero, children_of, numbers_among, product_count}
-use Rattle.product_reduce.proofs.Shared.{appended, flat_product, number_counts_one, AreOthers, IsWritten, IsWrittenProduct, opened, others_in, coefficient_before, coefficient_times, IsGathered}
+use Rattle.std.proofs.Common.{◌≡◌, ℕ, ◌≤◌, max, Bool, true, false, refl, sym, ap, subst, arith}
+use Rattle.product_reduce.proofs.Shared.{Tree, num, mult, Trees, none, more, append, has_undef, IsNumber, is_number, is_whole_num, base_of, NoneIs, are_reduced, Permuted, permuted_none, permuted_more}
+use Rattle.product_reduce.proofs.Shared.{number_words, counted, counted_among, factors_of, IsMonic, factors_monic, IsSorting, is_zero, children_of, numbers_among, product_count, appended}
+use Rattle.product_reduce.proofs.Shared.{flat_product, number_counts_one, AreOthers, IsWritten, IsWrittenProduct, opened, others_in, coefficient_before, coefficient_times, IsGathered}
 use Rattle.product_reduce.proofs.{Forms.{others_no_numbers}, Gathered.{others_permuted}, LastSteps.{sorted_factors}, Stepped.{others_are}}
 use Rattle.like_children.proofs.{Counted.{number_factors, permuted_counted, put_counted}, Permutations.{none_permuted, of_lists}}
+use Rattle.coefficients.proofs.Rooms.{no_numbers}
 
 -- ---- factors that are opened, parted, and change places
 
@@ -26,11 +27,7 @@ all_counted ts us p = omega (arith, permuted_counted p, others_counted (opened t
 -- ---- a coefficient is free
 
 pub before_counted : (c : Tree) (us : Trees) → is_number c ≡ true → counted_among (coefficient_before c us) ≤ counted_among us
-before_counted c us h = by (is_num_one c)
-  where
-    by : (b : Bool) → counted_among (if b then us else append (factors_of c) us) ≤ counted_among us
-    by true = omega arith
-    by false = omega (arith, appended (factors_of c) us, number_factors c (number_words c h))
+before_counted c us h = grind (arith, appended, number_factors, number_words)
 
 -- ---- gathered
 
@@ -68,10 +65,6 @@ gathered_counted ts t g =
     (omega (arith, before_counted g.coefficient g.others c, all_counted ts g.others (of_lists (others_in (opened ts)) g.others g.sorted.moved)))
 
 -- ---- few of the factors are Numbers
-
-pub no_numbers : (us : Trees) → NoneIs is_number us → numbers_among us ≡ 0
-no_numbers none n = refl
-no_numbers (more t us) n = let z : (if is_number t then 1 else 0) ≡ 0 = ap {B = ℕ} (λ (b : Bool). if b then 1 else 0) n.0 in omega (arith, z, no_numbers us n.1)
 
 few_before : (c : Tree) (us : Trees) → IsNumber c → NoneIs is_number us → numbers_among (coefficient_before c us) ≤ 2
 few_before c us h n = grind (arith, no_numbers)

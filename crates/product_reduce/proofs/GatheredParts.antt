@@ -1,25 +1,10 @@
 -- What holds of each part of the factors of a product holds of each part of what they are gathered to.
 use Rattle.std.proofs.Common.{arith, ◌≡◌, ℕ, List, Bool, true, false, if◌then◌else◌, refl, sym, subst}
-use Rattle.product_reduce.proofs.Shared.{Fraction, Tree, num, add, mult, Trees, none, more, AllParts, AllPartsOf, is_number, value, base_of, product_tree, number_words, IsPowerOf, HasPowersOf, Spans}
-use Rattle.product_reduce.proofs.Shared.{SpansRoot, SpansTree, SpansTrees, factors_of, AllPartsOf-append, IsSorting, is_zero, IsWritten, IsWrittenProduct, opened, numbers_in, others_in}
-use Rattle.product_reduce.proofs.Shared.{product_of_values, IsCoefficient, coefficient_before, coefficient_times, IsGathered}
+use Rattle.product_reduce.proofs.Shared.{Fraction, Tree, num, add, mult, Trees, none, more, AllParts, AllPartsOf, is_number, value, number_words, IsPowerOf, HasPowersOf, Spans, SpansRoot, SpansTree}
+use Rattle.product_reduce.proofs.Shared.{SpansTrees, AllPartsOf-append, is_zero, IsWritten, IsWrittenProduct, opened, numbers_in, others_in, product_of_values, IsCoefficient, coefficient_before}
+use Rattle.product_reduce.proofs.{Shared.{coefficient_times, IsGathered}, Forms.{opened_parts, numbers_parts, others_parts}}
 use Rattle.calc_room.proofs.{NumberSpans.{spans_times, spans_same, tree_spanned, value_spanned}, SpanLaws.{one_spanned}}
-use Rattle.like_children.proofs.{OwnPowers.{number_powers, own_powers_of}, Parts.{factors_parts, permuted_parts, product_tree_parts, with_parts}, Permutations.{of_lists}}
-
--- ---- factors that are opened, parted, and change places
-
-module _ (P : Tree → Type 0) where
-  pub opened_parts : (ts : Trees) → AllPartsOf P ts → AllPartsOf P (opened ts)
-  opened_parts none h = tt
-  opened_parts (more t ts) h = AllPartsOf-append P (factors_of t) (opened ts) (factors_parts P t h.0) (opened_parts ts h.1)
-
-  pub numbers_parts : (ts : Trees) → AllPartsOf P ts → AllPartsOf P (numbers_in ts)
-  numbers_parts none h = tt
-  numbers_parts (more t ts) h = grind (arith, numbers_parts ts h.1)
-
-  pub others_parts : (ts : Trees) → AllPartsOf P ts → AllPartsOf P (others_in ts)
-  others_parts none h = tt
-  others_parts (more t ts) h = grind (arith, others_parts ts h.1)
+use Rattle.like_children.proofs.{OwnPowers.{number_powers, own_powers_of}, Parts.{permuted_parts, product_tree_parts, with_parts}, Permutations.{of_lists}}
 
 -- ---- gathered
 
@@ -86,18 +71,6 @@ spans_finished gs ts t s w = finished_parts (SpansRoot gs) (λ q. tt) (λ us. tt
 
 pub spans_gathered : (gs : List ℕ) (ts : Trees) (t : Tree) → SpansTrees gs ts → IsGathered ts t → SpansTree gs t
 spans_gathered gs ts t s g = gathered_parts (SpansRoot gs) (λ q. tt) (λ us. tt) (λ us. tt) ts t (λ c k. coefficient_spanned gs (opened ts) c (opened_parts (SpansRoot gs) ts s) k) s g
-
-pub spans_product : (gs : List ℕ) (ts : Trees) → SpansTrees gs ts → SpansTree gs (product_tree ts)
-spans_product gs ts s = product_tree_parts (SpansRoot gs) (λ q. tt) (λ us. tt) (λ us. tt) ts s
-
-pub spans_sorted : (gs : List ℕ) (ts us : Trees) → IsSorting 0 base_of ts us → SpansTrees gs ts → SpansTrees gs us
-spans_sorted gs ts us x s = permuted_parts (SpansRoot gs) (of_lists ts us x.moved) s
-
-pub spans_opened : (gs : List ℕ) (ts : Trees) → SpansTrees gs ts → SpansTrees gs (opened ts)
-spans_opened gs ts s = opened_parts (SpansRoot gs) ts s
-
-pub spans_others : (gs : List ℕ) (ts : Trees) → SpansTrees gs ts → SpansTrees gs (others_in ts)
-spans_others gs ts s = others_parts (SpansRoot gs) ts s
 
 pub spans_factors : (gs : List ℕ) (t : Tree) (ts : Trees) → t ≡ mult ts → SpansTree gs t → SpansTrees gs ts
 spans_factors gs t ts e s = (subst (SpansTree gs) e s).1

@@ -5,7 +5,8 @@ use Rattle.product_reduce.proofs.Shared.{IsProductForm, Split, split, split_prod
 use Rattle.product_reduce.proofs.Shared.{permuted_trans, one_not_zero, number_words, number_test, has_coefficient, no_split, Leads, in_front, IsHeld, IsSumHeld, as_factor, counts_of, Addend, addend}
 use Rattle.product_reduce.proofs.Shared.{addend_of, exponent_in, power_high, power_low, AreWeighted, none_weighted, more_weighted, IsPartHeld, no_factor_held, Weighted, weighted, AreHeld, wider}
 use Rattle.product_reduce.proofs.Shared.{parts_multiply, one_weighted, split_off, IsFactorHeld, AreFactorsHeld, none_held, factor_held, term_held, factors_of, opened, numbers_in, others_in}
-use Rattle.product_reduce.proofs.{Shared.{coefficient_before}, Forms.{IsFormed, AllFormed}, HeldNumbers.{value_held, number_as_factor}}
+use Rattle.product_reduce.proofs.{Shared.{coefficient_before, AllParts, AllPartsOf}, HeldNumbers.{value_held, number_as_factor}}
+use Rattle.coefficients.proofs.TermMultiples.{behind_none}
 use Rattle.tree_bits.specs.HeldTrees as held
 use Rattle.tree_bits.proofs.Joined.{swapped}
 
@@ -86,10 +87,6 @@ split_factors : (s : Split) {h l : ℕ} → IsNumber s.coefficient → NoneIs is
     → AreFactorsHeld (append (factors_of s.coefficient) s.factors) h l
 split_factors s c n m a = factors_wider a.high a.low (factors_append (factors_of s.coefficient) s.factors (number_factors s.coefficient c a.coefficient) (part_factors s.factors n m a.factors))
 
-behind_none : (p : Tree → Bool) (ts us : Trees) → NoneIs p (append ts us) → NoneIs p us
-behind_none p none us h = h
-behind_none p (more t ts) us h = behind_none p ts us h.1
-
 one_some : value num_one ≢ []
 one_some = rational_some one_fraction one_not_zero
 
@@ -115,11 +112,11 @@ mult_held us {p = p} {q = q} f a = by (is_number (mult us)) refl f
     by false e (inl n) = absurd (let x : true ≡ false = sym (number_test (mult us) n) ∙ e in cc)
     by false e (inr k) = product_factors us k (subst (λ (x : Addend). IsSumHeld (x ∷ []) p q) (ap (λ (b : Bool). if b then addend (value (mult us)) none else addend_of (mult us)) e) a)
 
-pub factors_held : (t : Tree) {p q : ℕ} → IsFormed t → IsFactorHeld t p q → AreFactorsHeld (factors_of t) p q
-factors_held (mult us) f a = mult_held us f.form a
+pub factors_held : (t : Tree) {p q : ℕ} → AllParts HasForm t → IsFactorHeld t p q → AreFactorsHeld (factors_of t) p q
+factors_held (mult us) f a = mult_held us f.0 a
 factors_held t {p = p} {q = q} f a = factor_held p q 0 0 a none_held (omega arith) (omega arith)
 
-pub opened_held : (ts : Trees) {h l : ℕ} → AllFormed ts → AreFactorsHeld ts h l → AreFactorsHeld (opened ts) h l
+pub opened_held : (ts : Trees) {h l : ℕ} → AllPartsOf HasForm ts → AreFactorsHeld ts h l → AreFactorsHeld (opened ts) h l
 opened_held none f none_held = none_held
 opened_held (more t ts) f (factor_held p q k n a s x y) = factors_wider x y (factors_append (factors_of t) (opened ts) (factors_held t f.0 a) (opened_held ts f.1 s))
 opened_held (more (num c) (more (root (num r)) ts)) f (term_held p q k n a s x y) = term_held p q k n a (opened_held ts (f.1).1 s) x y
@@ -136,8 +133,9 @@ pub record AreHeldApart (ts : Trees) (h l : ℕ) : Type 0 where
   pub high : p + k ≤ h
   pub low : q + n ≤ l
 
-pub root_number : (r : Fraction) → IsFormed (root (num r)) → is_number (root (num r)) ≡ true
-root_number r f = grind arith
+pub root_number : (r : Fraction) → AllParts HasForm (root (num r)) → is_number (root (num r)) ≡ true
+root_number r (inl n, f) = number_test (root (num r)) n
+root_number r (inr k, f) = cc
 
 one_apart : (t : Tree) (ts : Trees) {p q k n h l : ℕ} → is_mult t ≡ false → IsFactorHeld t p q → AreHeldApart ts k n → p + k ≤ h → q + n ≤ l → AreHeldApart (more t ts) h l
 one_apart t ts {p = p} {q = q} {h = h} {l = l} m a s x y = by (is_number t) refl
@@ -166,7 +164,7 @@ one_apart t ts {p = p} {q = q} {h = h} {l = l} m a s x y = by (is_number t) refl
       low = omega (arith, y, s.low);
     }
 
-pub held_apart : (ts : Trees) {h l : ℕ} → AllFormed ts → NoneIs is_mult ts → AreFactorsHeld ts h l → AreHeldApart ts h l
+pub held_apart : (ts : Trees) {h l : ℕ} → AllPartsOf HasForm ts → NoneIs is_mult ts → AreFactorsHeld ts h l → AreHeldApart ts h l
 unfolding is_number
 held_apart none f m none_held = record { p = 0; q = 0; k = 0; n = 0; numbers = none_held; others = no_factor_held; high = omega arith; low = omega arith }
 held_apart (more t ts) f m (factor_held p q k n a s x y) = one_apart t ts m.0 a (held_apart ts f.1 m.1 s) x y
@@ -198,7 +196,7 @@ part_permuted (permuted_trans k m) a = part_permuted m (part_permuted k a)
 
 -- ---- behind a coefficient
 
-pub before_held : (c : Tree) (ts : Trees) {p q k n h l : ℕ} → is_number c ≡ true → IsFormed c → NoneIs is_number ts → NoneIs is_mult ts → IsHeld (value c) p q → IsPartHeld ts k n → p + k ≤ h
+pub before_held : (c : Tree) (ts : Trees) {p q k n h l : ℕ} → is_number c ≡ true → AllParts HasForm c → NoneIs is_number ts → NoneIs is_mult ts → IsHeld (value c) p q → IsPartHeld ts k n → p + k ≤ h
     → q + n ≤ l
     → AreFactorsHeld (coefficient_before c ts) h l
 before_held c ts {p = p} {q = q} {h = h} {l = l} e f n m a b x y = by (is_num_one c)

@@ -1,14 +1,15 @@
 -- What holds Numbers one by one holds their product, also while they are multiplied from left to right.
 use Rattle.std.proofs.Common.{◌≡◌, ℕ, zero, suc, ◌+◌, ◌*◌, ◌^◌, ◌<◌, ◌≤◌, [], ◌∷◌, Bool, true, false, ◌&&◌, if◌then◌else◌, max, pos, refl, sym, ap, ◌∙◌, subst, arith}
-use Rattle.product_reduce.proofs.Shared.{mul-le, and_from, false_from_ne_true, Fraction, one_fraction, is_zero_fraction, zero_is, Tree, num, root, Trees, none, more, append, is_number, are_numbers}
-use Rattle.product_reduce.proofs.Shared.{natural_of, value, IsBelowAll, Rises, are_alike, Same, Term, Surd, term, surd_of, surd_one, surd_times, term_times, AreProper, value_proper, value_rises}
-use Rattle.product_reduce.proofs.Shared.{number_words, Alike, alike_from, alike_true, Same-trans, square_root, surd_times_assoc, surd_times-surd_one, Same-refl, Same-eq, Same-surd_times, root_above}
-use Rattle.product_reduce.proofs.Shared.{mass_from, IsHeld, Same-sym, IsSumHeld, Addend, addend, addend_of, none_weighted, more_weighted, no_factor_held, weighted, AreHeld, factor_as_tree}
-use Rattle.product_reduce.proofs.Shared.{held_number, held_wider, nothing_held, put_before, both_true, IsFactorHeld, AreFactorsHeld, none_held, factor_held, term_held, product_of_values}
-use Rattle.calc_algebra.proofs.{SquareRootLaws.{square_from_scaled}, PowerLaws.{zero_surd_of}}
+use Rattle.product_reduce.proofs.Shared.{mul-le, and_from, false_from_ne_true, Fraction, one_fraction, is_zero_fraction, Tree, num, root, Trees, none, more, append, is_number, are_numbers, natural_of}
+use Rattle.product_reduce.proofs.Shared.{value, IsBelowAll, Rises, are_alike, Same, Term, Surd, term, surd_of, surd_one, surd_times, term_times, AreProper, value_proper, value_rises, number_words}
+use Rattle.product_reduce.proofs.Shared.{Alike, alike_from, alike_true, Same-trans, square_root, surd_times_assoc, surd_times-surd_one, Same-refl, Same-eq, Same-surd_times, root_above, mass_from}
+use Rattle.product_reduce.proofs.Shared.{IsHeld, IsSumHeld, Addend, addend, addend_of, none_weighted, more_weighted, no_factor_held, weighted, AreHeld, factor_as_tree, held_number, held_wider}
+use Rattle.product_reduce.proofs.Shared.{nothing_held, put_before, both_true, IsFactorHeld, AreFactorsHeld, none_held, factor_held, term_held, product_of_values}
+use Rattle.calc_algebra.proofs.SquareRootLaws.{square_from_scaled}
 use Rattle.calc_bits.specs.Denominators.{Parts, magnitude_over}
 use Rattle.calc_bits.proofs.{ClassMasses.{mass_same}, Held.{held_power, held_times}, MassLaws.{parts_scale, parts_times}, Quotients.{den_divides}, RootsAbove.{root_enough, root_least}}
 use Rattle.coefficients.proofs.NumberMultiples.{times_one}
+use Rattle.like_children.proofs.Addends.{num_value}
 
 -- ---- one Number
 
@@ -38,13 +39,6 @@ under_root c r h l p k = record {
   where
     within : (e a b m : ℕ) → a ≤ b → max e b + 0 ≤ m → max e a + 0 ≤ m
     within e a b m l k = omega arith
-
-value_of_rational : (c : Fraction) → Same (value (num c)) (term c 1 ∷ [])
-value_of_rational c = by (is_zero_fraction c) refl
-  where
-    by : (b : Bool) → is_zero_fraction c ≡ b → Same (if b then [] else surd_of c) (term c 1 ∷ [])
-    by true e = Same-sym (zero_surd_of c (zero_is c e))
-    by false e = Same-refl (term c 1 ∷ [])
 
 rational_held : (c : Fraction) (h l : ℕ) → IsHeld (term c 1 ∷ []) h l → IsHeld (value (num c)) h l
 rational_held c h l k = grind arith
@@ -179,7 +173,7 @@ root_same us c r v s =
     Same-trans (Same-surd_times (Same-trans s (values_append us (more (num c) none))) (Same-refl (term one_fraction r ∷ [])))
     (Same-trans (Same-eq (surd_times_assoc (product_of_values us) (surd_times (value (num c)) surd_one) (term one_fraction r ∷ [])))
     (Same-surd_times (Same-refl (product_of_values us)) (Same-trans (Same-eq (surd_times_assoc (value (num c)) surd_one (term one_fraction r ∷ [])))
-    (Same-trans (Same-surd_times (value_of_rational c) (Same-eq (surd_times-surd_one (term one_fraction r ∷ [])))) (Same-eq (one_of_both c r))))))
+    (Same-trans (Same-surd_times (num_value c) (Same-eq (surd_times-surd_one (term one_fraction r ∷ [])))) (Same-eq (one_of_both c r))))))
 
 -- low by what is multiplied so far, and high by what that is the same as
 root_held : (v w : Surd) (r h l k n : ℕ) → 1 ≤ r → AreProper v → Rises v → IsHeld v k l → Same (surd_times v (term one_fraction r ∷ [])) w → IsHeld w h n

@@ -2,7 +2,7 @@
 use Rattle.std.proofs.{Common.{List, [], ◌∷◌, ℕ, zero, suc, ◌+◌, ◌≤◌, ◌<◌, ◌≡◌, true, false, ◌&&◌, refl, sym, ◌∙◌, arith}, lemmas.Bool.{true≢false}}
 use Rattle.product_reduce.proofs.Shared.{and_parts, is_number, natural_of, is_reduced, are_reduced, term, IsHeld, Fraction, Tree, num, root, mult, Trees, none, more, count, is_mult, removed}
 use Rattle.product_reduce.proofs.Shared.{AreTreesHeld, ArePositive, high_sum, low_sum, IsPartHeld, factor_is_held, parts_multiply, nth, inserted, IsFactorHeld, AreFactorsHeld, none_held, factor_held}
-use Rattle.product_reduce.proofs.{Shared.{term_held, is_single, is_pair, IsPairAt}, Finished.{formed_unless_undef}, HeldFactors.{single_part, factors_held, root_number}}
+use Rattle.product_reduce.proofs.{Shared.{term_held, is_single, is_pair, IsPairAt, reduced_parts}, HeldFactors.{single_part, factors_held, root_number}}
 use Rattle.calc_measures.specs.Measures.{HighLow}
 
 -- ---- trees
@@ -15,7 +15,7 @@ trees_as_factors (more t ts) (b ∷ bs) (u, k, ks) (x, xs) =
     factor_held b.high b.low (high_sum bs) (low_sum bs) (factor_is_held t b.high b.low u x k) (trees_as_factors ts bs ks xs) (omega arith) (omega arith)
 
 pub product_as_factors : (us : Trees) (h l : ℕ) → is_reduced (mult us) ≡ true → IsFactorHeld (mult us) h l → AreFactorsHeld us h l
-product_as_factors us h l r a = factors_held (mult us) (formed_unless_undef (mult us) r refl) a
+product_as_factors us h l r a = factors_held (mult us) (reduced_parts (mult us) r refl) a
 
 -- ---- two neighbours
 
@@ -53,7 +53,7 @@ behind_two : (at : ℕ) (c r : Fraction) (ts : Trees) {p q k n h l : ℕ} → Is
 behind_two at c r ts {p = p} {q = q} {k = k} {n = n} a (i, j, u, w, b, f) x y = (i, j, omega arith, omega arith, b, λ v g. term_held p q k n a (f v g) x y)
 
 root_no_single : (r : Fraction) → is_reduced (root (num r)) ≡ true → is_single (root (num r)) ≡ true → ⊥
-root_no_single r e s = true≢false (sym (root_number r (formed_unless_undef (root (num r)) e refl)) ∙ (single_is (root (num r)) s).0)
+root_no_single r e s = true≢false (sym (root_number r (reduced_parts (root (num r)) e refl)) ∙ (single_is (root (num r)) s).0)
 
 reduced_tail : (t : Tree) (ts : Trees) → are_reduced (more t ts) ≡ true → are_reduced ts ≡ true
 reduced_tail t ts h = (and_parts (is_reduced t) (are_reduced ts) h).1

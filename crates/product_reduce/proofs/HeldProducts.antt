@@ -5,11 +5,11 @@ use Rattle.product_reduce.proofs.Shared.{value, NoneIs, Split, split, split_prod
 use Rattle.product_reduce.proofs.Shared.{mapped, rational_times_term, monic_sum, monic_parts, IsFactor, not_one_is, factors_no_number, is_zero, IsSumHeld, as_factor, distributed, Addend, addend}
 use Rattle.product_reduce.proofs.Shared.{addend_of, addends, none_weighted, more_weighted, IsPartHeld, weighted, AreHeld, distributed_held, factor_as_tree, factor_is_held, wider, held_wider}
 use Rattle.product_reduce.proofs.Shared.{one_counts, one_weighted, wider_held, put_before, children_of, AreOthers, IsWritten, IsWrittenProduct, IsFactorHeld, AreFactorsHeld, opened, others_in}
-use Rattle.product_reduce.proofs.{Shared.{coefficient_times, IsGathered}, Finished.{reduced_formed}, Forms.{AllFormed, number_formed, opened_flat, opened_formed, split_of_number, split_of_others}}
+use Rattle.product_reduce.proofs.{Shared.{coefficient_times, IsGathered, number_parts, number_words, HasForm}, Forms.{opened_flat, split_of_number, split_of_others, opened_parts}}
 use Rattle.product_reduce.proofs.{Gathered.{others_permuted}, GatheredCounts.{single_monic}, HeldFactors.{AreHeldApart, before_held, held_apart, opened_held, part_permuted, part_single}}
-use Rattle.product_reduce.proofs.{HeldNumbers.{number_as_factor}, Leads.{factors_again}, Progress.{one_value}, Stepped.{others_are}}
+use Rattle.product_reduce.proofs.{HeldNumbers.{number_as_factor}, Leads.{factors_again}, Stepped.{others_are}}
+use Rattle.like_children.proofs.{Addends.{one_value, multiple_addends, rational_value, split_sum}, Parts.{reduced_formed}, Permutations.{of_lists}}
 use Rattle.tree_bits.proofs.Children.{tree_as_sum, sum_as_tree}
-use Rattle.like_children.proofs.{Addends.{multiple_addends, rational_value, split_sum}, Permutations.{of_lists}}
 
 -- ---- a product as one factor
 
@@ -38,10 +38,10 @@ tree_held (more t (more u fs)) {k = k} {n = n} m s l b =
 sum_positive : (ts : Trees) {k n : ℕ} → IsPartHeld (more (add ts) none) k n → 1 ≤ k
 sum_positive ts b = grind (arith, one_counts)
 
-pub sum_addends : (q : Fraction) (ts : Trees) {p i k n : ℕ} → is_number (add ts) ≡ false → IsHeld (surd_of q) p i → IsPartHeld (more (add ts) none) k n
-    → IsSumHeld (distributed (surd_of q) (addends (add ts))) (p + k) (i + n)
-sum_addends q ts {p = p} {i = i} {k = k} {n = n} e a b =
-    distributed_held (surd_of q) (addends (add ts)) k n p i a (tree_as_sum refl (factor_as_tree (add ts) k n (part_single (add ts) e refl b)))
+pub sum_addends : (v : Surd) (ts : Trees) {p i k n : ℕ} → is_number (add ts) ≡ false → IsHeld v p i → IsPartHeld (more (add ts) none) k n
+    → IsSumHeld (distributed v (addends (add ts))) (p + k) (i + n)
+sum_addends v ts {p = p} {i = i} {k = k} {n = n} e a b =
+    distributed_held v (addends (add ts)) k n p i a (tree_as_sum refl (factor_as_tree (add ts) k n (part_single (add ts) e refl b)))
 
 spread_held : (q : Fraction) (ts : Trees) {p i k n : ℕ} → IsFactor q → IsMonic (add ts) → is_number (add ts) ≡ false → IsHeld (surd_of q) p i → IsPartHeld (more (add ts) none) k n
     → IsFactorHeld (add (mapped (rational_times_term q) ts)) (p + k) (i + n)
@@ -50,7 +50,7 @@ spread_held q ts {p = p} {i = i} {k = k} {n = n} f m e a b =
     let l : 1 ≤ k = sum_positive ts b in
     factor_is_held t (p + k) (i + n) refl (omega (arith, l))
     (sum_as_tree t (p + k) (i + n)
-    (subst (λ (xs : List Addend). IsSumHeld xs (p + k) (i + n)) (sym (multiple_addends q f ts (split_sum ts (monic_sum ts m) (monic_parts (add ts) m).1))) (sum_addends q ts e a b)))
+    (subst (λ (xs : List Addend). IsSumHeld xs (p + k) (i + n)) (sym (multiple_addends q f ts (split_sum ts (monic_sum ts m) (monic_parts (add ts) m).1))) (sum_addends (surd_of q) ts e a b)))
 
 -- ---- a coefficient before others
 
@@ -88,7 +88,7 @@ times_held c (more t us) e z o a b x y = factor_wider (with_coefficient c (produ
 
 -- the factors opened, and their Numbers apart
 pub apart : (ts : Trees) {h l : ℕ} → are_reduced ts ≡ true → has_undef ts ≡ false → AreFactorsHeld ts h l → AreHeldApart (opened ts) h l
-apart ts r d a = let f : AllFormed ts = reduced_formed ts r d in held_apart (opened ts) (opened_formed ts f) (opened_flat ts f) (opened_held ts f a)
+apart ts r d a = let f = reduced_formed ts r d in held_apart (opened ts) (opened_parts HasForm ts f) (opened_flat ts f) (opened_held ts f a)
 
 pub finished_held : (ts : Trees) (t : Tree) (h l : ℕ) → are_reduced ts ≡ true → has_undef ts ≡ false → AreFactorsHeld ts h l → IsWrittenProduct ts t → IsFactorHeld t h l
 finished_held ts t h l r d a w = by (is_zero c) refl
@@ -122,4 +122,5 @@ gathered_held ts t h l r d a g =
     let o = others_permuted m (others_are ts r d) in
     let c = g.joinable.coefficient in
     subst (λ (u : Tree). AreFactorsHeld (children_of u) h l) (sym g.is)
-    (before_held g.coefficient g.others c.number (number_formed g.coefficient c.number) o.no_number o.no_product (c.held s.p s.q s.numbers) (part_permuted m s.others) s.high s.low)
+    (before_held g.coefficient g.others c.number (number_parts g.coefficient (number_words g.coefficient c.number))
+    o.no_number o.no_product (c.held s.p s.q s.numbers) (part_permuted m s.others) s.high s.low)

@@ -1,13 +1,14 @@
 -- A product with two factors joined is bounded by the product before.
 use Rattle.std.proofs.Common.{ℕ, suc, ◌+◌, ◌≤◌, ◌<◌, max, ◌≡◌, inl, Bool, true, false, if◌then◌else◌, refl, sym, ap, ◌∙◌, subst, arith}
-use Rattle.product_reduce.proofs.Shared.{and_parts, nest, nest_of, weight, load, load_of_factor, load_of_factors, Fraction, is_number, are_numbers, is_num_one, is_reduced, is_opaque_exponent, num_one}
-use Rattle.product_reduce.proofs.Shared.{NoneIs, base_of, are_reduced, Tree, num, add, mult, power, undef, Trees, none, more, append, count, is_mult, factors_of, reduced_parts, parts_reduced, removed}
-use Rattle.product_reduce.proofs.Shared.{nth, children_of, IsJoined, opened, others_in, coefficient_before, exponent_of, has_partner, first_partner, without_partner, joint, have_partners, joined}
-use Rattle.product_reduce.proofs.{Shared.{nest_number, nest_permuted}, Bounds.{nest_factors, nest_others, nest_opened, load_with, load_others, load_opened, load_product, load_permuted}}
-use Rattle.product_reduce.proofs.{Finished.{reduced_formed}, Forms.{AllFormed, opened_formed, others_formed, opened_flat, others_none, others_no_numbers}, Joined.{one_base, partner_is, partner_first}}
-use Rattle.product_reduce.proofs.Joints.{IsSmall, is_within, is_over, AllSmall, all_within, joint_small, small_at, small_removed, joint_of_numbers_is_not_reduced, sum_is_no_number, exponent_words}
-use Rattle.product_reduce.proofs.Joints.{flat_load, joint_load, load_split, base_weight}
-use Rattle.like_children.proofs.Permutations.{none_permuted}
+use Rattle.product_reduce.proofs.Shared.{and_parts, nest, nest_of, weight, load, load_of_factor, load_of_factors, Fraction, is_number, are_numbers, is_reduced, is_opaque_exponent, num_one, NoneIs}
+use Rattle.product_reduce.proofs.Shared.{base_of, are_reduced, Tree, num, add, mult, power, undef, Trees, none, more, append, count, is_mult, reduced_parts, parts_reduced, removed, nth, children_of}
+use Rattle.product_reduce.proofs.Shared.{IsJoined, opened, others_in, coefficient_before, exponent_of, has_partner, first_partner, without_partner, joint, have_partners, joined, nest_number}
+use Rattle.product_reduce.proofs.{Shared.{nest_permuted, AllPartsOf, HasForm, factors_of}, Bounds.{nest_others, nest_opened, load_with, load_others, load_opened, load_product, load_permuted}}
+use Rattle.product_reduce.proofs.{Forms.{opened_flat, others_none, others_no_numbers, opened_parts, others_parts}, Joined.{one_base, partner_is, partner_first}, Joints.{IsSmall, is_within, is_over}}
+use Rattle.product_reduce.proofs.Joints.{AllSmall, all_within, joint_small, small_at, small_removed, joint_of_numbers_is_not_reduced, sum_is_no_number, exponent_words, flat_load, joint_load}
+use Rattle.product_reduce.proofs.Joints.{load_split, base_weight}
+use Rattle.like_children.proofs.{Parts.{reduced_formed}, Permutations.{none_permuted}}
+use Rattle.coefficients.proofs.Bounds.{of_factors_nest}
 
 -- ---- the factors after a joining
 
@@ -26,11 +27,7 @@ small-append n none us h k = k
 small-append n (more t ts) us h k = (is_within (omega arith), small-append n ts us (omega arith) k)
 
 before_small : (n : ℕ) (c : Tree) (ts : Trees) → is_number c ≡ true → AllSmall n ts → AllSmall n (coefficient_before c ts)
-before_small n c ts h k = by (is_num_one c)
-  where
-    by : (b : Bool) → AllSmall n (if b then ts else append (factors_of c) ts)
-    by true = k
-    by false = small-append n (factors_of c) ts (omega (arith, nest_factors c, nest_number c h)) k
+before_small n c ts h k = grind (arith, small-append n (factors_of c) ts (omega (arith, of_factors_nest c, nest_number c h)) k)
 
 pub product_small : (ts : Trees) (t : Tree) → IsJoined ts t → AllSmall (nest (mult ts)) (children_of t)
 product_small ts t j =
@@ -92,7 +89,7 @@ others_bound ts t at j r = all_reduced_small (nest (mult ts)) (removed at (child
 
 -- ---- loads
 
-joined_load : (ts : Trees) → AllFormed ts → NoneIs is_mult ts → NoneIs is_number ts → have_partners ts ≡ true → load_of_factors (joined ts) + 2 ≤ load_of_factors ts
+joined_load : (ts : Trees) → AllPartsOf HasForm ts → NoneIs is_mult ts → NoneIs is_number ts → have_partners ts ≡ true → load_of_factors (joined ts) + 2 ≤ load_of_factors ts
 joined_load none f m n h = cc
 joined_load (more t ts) f m n h = by (joined_load ts f.1 m.1 n.1) (has_partner t ts) refl h
   where
@@ -109,7 +106,12 @@ joined_load (more t ts) f m n h = by (joined_load ts f.1 m.1 n.1) (has_partner t
     by go false e g = omega (arith, go g)
 
 pub product_load : (ts : Trees) (t : Tree) → are_reduced ts ≡ true → IsJoined ts t → load_of_factors (children_of t) + 2 ≤ load (mult ts)
-product_load ts t r j = grind (arith, opened_formed, reduced_formed, others_none, opened_flat, joined_load, others_formed, others_no_numbers, load_with, load_others, load_opened, load_product)
+product_load ts t r j =
+    let f = reduced_formed ts r j.joinable.defined in
+    let g = others_parts HasForm (opened ts) (opened_parts HasForm ts f) in
+    let l = joined_load (others_in (opened ts)) g (others_none is_mult (opened ts) (opened_flat ts f)) (others_no_numbers (opened ts)) j.joinable.partners in
+    let new = load_with j.coefficient (joined (others_in (opened ts))) j.joinable.coefficient.number in
+    omega (arith, l, new, ap (λ (u : Tree). load_of_factors (children_of u)) j.is, load_others (opened ts), load_opened ts, load_product ts)
 
 pub others_load : (ts : Trees) (t a b : Tree) (at : ℕ) → are_reduced ts ≡ true → IsJoined ts t → at < count (children_of t) → nth at (children_of t) ≡ joint a b
     → load_of_factors (removed at (children_of t)) + (1 + weight (base_of a)) < load (mult ts)

@@ -1,7 +1,8 @@
 -- Places in lists, and what stands before factors.
 use Rattle.std.proofs.Common.{ℕ, zero, suc, ◌+◌, ◌≤◌, ◌≡◌, true, if◌then◌else◌, refl, ap, ◌∙◌, arith}
 use Rattle.product_reduce.proofs.Shared.{and_parts, and_from, is_number, is_num_one, is_reduced, are_reduced, Tree, Trees, none, more, append, count, factors_of, removed, nth, count_append}
-use Rattle.product_reduce.proofs.{Shared.{coefficient_before}, Finished.{formed_reduced}, Forms.{AllFormed, formed_factors, number_formed}}
+use Rattle.product_reduce.proofs.Shared.{coefficient_before, number_parts, number_words, HasForm}
+use Rattle.like_children.proofs.Parts.{formed_reduced, factors_parts}
 
 -- ---- places in lists
 
@@ -21,10 +22,6 @@ pub reduced-append : (ps ts : Trees) → are_reduced ps ≡ true → are_reduced
 reduced-append none ts p r = r
 reduced-append (more t ps) ts p r = let (a, b) = and_parts (is_reduced t) (are_reduced ps) p in and_from _ _ a (reduced-append ps ts b r)
 
-formed_are_reduced : (ts : Trees) → AllFormed ts → are_reduced ts ≡ true
-formed_are_reduced none h = refl
-formed_are_reduced (more t ts) h = and_from _ _ (formed_reduced t h.0) (formed_are_reduced ts h.1)
-
 -- ---- what stands in front
 
 pub in_front : Tree → Trees
@@ -36,7 +33,7 @@ before_is c ts = grind arith
 
 pub front_reduced : (c : Tree) → is_number c ≡ true → are_reduced (in_front c) ≡ true
 unfolding in_front
-front_reduced c h = grind (arith, formed_are_reduced, formed_factors, number_formed)
+front_reduced c h = grind (arith, formed_reduced, factors_parts HasForm, number_parts, number_words)
 
 pub count_before : (c : Tree) (ts : Trees) → count ts ≤ count (coefficient_before c ts)
 count_before c ts = let e = ap count (before_is c ts) ∙ count_append (in_front c) ts in omega arith

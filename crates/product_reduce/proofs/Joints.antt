@@ -1,11 +1,12 @@
 -- The joint of two factors: its exponents, its nest and its load.
 use Rattle.std.proofs.{Common.{ℕ, zero, suc, ◌+◌, ◌≤◌, ◌<◌, max, ◌≡◌, inl, inr, Bool, true, false, ◌&&◌, not, if◌then◌else◌, refl, ap, ◌∙◌, arith}, lemmas.Bool.{true≢false}}
 use Rattle.std.specs.Prelude.{⊤}
-use Rattle.product_reduce.proofs.Shared.{and_parts, Fraction, one_fraction, nest, nest_of, weight, weight_of_factors, load_of_factor, load_of_factors, is_number, IsNumber, is_opaque_exponent}
-use Rattle.product_reduce.proofs.Shared.{is_whole_num, is_reduced, has_form, all_parts, HasForm, IsSumForm, base_of, Tree, num, add, mult, power, root, Trees, none, more, count, is_mult, number_words}
-use Rattle.product_reduce.proofs.{Shared.{number_test, reduced_parts, removed, nth, exponent_of, joint}, Forms.{IsFormed, formed}}
+use Rattle.product_reduce.proofs.Shared.{Fraction, one_fraction, nest, nest_of, weight, weight_of_factors, load_of_factor, load_of_factors, is_number, IsNumber, is_opaque_exponent, is_whole_num}
+use Rattle.product_reduce.proofs.Shared.{is_reduced, HasForm, IsSumForm, base_of, Tree, num, add, mult, power, root, Trees, none, more, count, is_mult, number_words, number_test, reduced_parts}
+use Rattle.product_reduce.proofs.Shared.{removed, nth, exponent_of, joint, AllParts}
 use Rattle.calc_measures.proofs.Weights.{some_weight}
 use Rattle.tree_room.proofs.PowerCounts.{power_no_number}
+use Rattle.coefficients.proofs.Forms.{own_form}
 
 -- ---- the exponents of a joint
 
@@ -138,13 +139,13 @@ formed_weight (mult (more t ts)) h = by (is_number (mult (more t ts))) (is_numbe
     by k l m = grind arith
 formed_weight t h = omega arith
 
-base_formed : (t : Tree) → IsFormed t → IsFormed (base_of t)
+base_formed : (t : Tree) → AllParts HasForm t → AllParts HasForm (base_of t)
 base_formed (power b e) h = by (is_opaque_exponent e)
   where
-    by : (k : Bool) → IsFormed (if k then power b e else b)
+    by : (k : Bool) → AllParts HasForm (if k then power b e else b)
     by true = h
-    by false = formed b (and_parts (has_form (power b e)) _ (and_parts (has_form (power b e) && all_parts has_form b) _ h.parts).0).1
+    by false = h.1
 base_formed t h = h
 
-pub base_weight : (t : Tree) → IsFormed t → 2 ≤ weight (base_of t)
-base_weight t h = formed_weight (base_of t) (base_formed t h).form
+pub base_weight : (t : Tree) → AllParts HasForm t → 2 ≤ weight (base_of t)
+base_weight t h = formed_weight (base_of t) (own_form (base_of t) (base_formed t h))

@@ -1,25 +1,26 @@
 -- A coefficient that stands first as it is written, and factors put in order behind it.
-use Rattle.std.specs.Prelude.{take, Option, MatchOption, is_some}
+use Rattle.std.specs.Prelude.{Option, MatchOption, is_some}
 use Rattle.std.proofs.{Common.{ℕ, zero, suc, ◌+◌, ◌≤◌, ◌≡◌, ◌≢◌, Bool, true, false, if◌then◌else◌, refl, sym, ap, ◌∙◌, subst, arith}, lemmas.Bool.{true≢false}}
 use Rattle.product_reduce.proofs.Shared.{is_number, value, base_of, is_num_one, is_one_add, num_one, product_tree, NoneIs, HasForm, are_reduced, Same-sym, Permuted, Permuted-sym, Same-trans}
 use Rattle.product_reduce.proofs.Shared.{Agree-Same, surd_times-one, Same-eq, one_fraction, lowest, gcd, Tree, mult, Trees, none, more, append, count, is_add, is_mult, factors_of, with_coefficient}
-use Rattle.product_reduce.proofs.Shared.{IsNextNumber, NoNumberBetween, IsSorting, list_of, is_zero, removed, nth, AreOthers, IsStop, at_end, IsEnding, AreFactorsHeld, opened, numbers_in, others_in}
+use Rattle.product_reduce.proofs.Shared.{IsNextNumber, NoNumberBetween, IsSorting, is_zero, removed, nth, AreOthers, IsStop, at_end, IsEnding, AreFactorsHeld, opened, numbers_in, others_in}
 use Rattle.product_reduce.proofs.Shared.{product_of_values, coefficient_times, IsLead, IsOrdered, have_partners, IsPairAt, IsNextPair, NoPairBetween, no_numbers, count_append, no_numbers_none}
-use Rattle.product_reduce.proofs.{Shared.{no_numbers_others}, Forms.{AllFormed}, Fronts.{one_in_front, other_in_front, single_factor}, Gathered.{others_permuted, reduced_permuted}}
+use Rattle.product_reduce.proofs.{Shared.{no_numbers_others, AllPartsOf}, Fronts.{one_in_front, other_in_front, single_factor}, Gathered.{others_permuted, reduced_permuted}}
 use Rattle.product_reduce.proofs.{HeldNumbers.{alone_held, no_factors_held}, LastSteps.{ending, permuted_none_is, times_written}, Misfits.{permuted_one_is}}
-use Rattle.product_reduce.proofs.{Neighbours.{pair_partners, sorted_apart, apart_before}, Progress.{one_value}, Sorted.{sorted_rising}}
-use Rattle.like_children.proofs.Permutations.{none_permuted, of_lists}
+use Rattle.product_reduce.proofs.{Neighbours.{pair_partners, sorted_apart, apart_before}, Sorted.{sorted_rising}}
+use Rattle.like_children.proofs.{Addends.{one_value}, Permutations.{none_permuted, of_lists, IsBehind, sorted_behind}}
 pub use Rattle.calc_algebra.proofs.ReducedLaws.{from_not as off}
 use Rattle.calc_algebra.proofs.MeaningRewrites.{Permuted-append_right}
+use Rattle.coefficients.proofs.Forms.{own_form}
 
 -- ---- opened factors are some
 
 factors_some : (t : Tree) → HasForm t → 1 ≤ count (factors_of t)
 factors_some t h = grind arith
 
-pub opened_some : (ts : Trees) → AllFormed ts → 1 ≤ count ts → 1 ≤ count (opened ts)
+pub opened_some : (ts : Trees) → AllPartsOf HasForm ts → 1 ≤ count ts → 1 ≤ count (opened ts)
 opened_some none h l = absurd (omega arith)
-opened_some (more t ts) h l = omega (arith, factors_some t h.0.form, count_append (factors_of t) (opened ts))
+opened_some (more t ts) h l = omega (arith, factors_some t (own_form t h.0), count_append (factors_of t) (opened ts))
 
 -- ---- how a coefficient is written
 
@@ -92,23 +93,9 @@ lead_one (more c os) h n m z o l d =
 
 -- ---- factors put in order behind others
 
-record IsBehind (lead os us : Trees) : Type 0 where
-  vs : Trees
-  is : us ≡ append lead vs
-  sorted : IsSorting 0 base_of os vs
-
-sorted_behind : (lead os us : Trees) → IsSorting (count lead) base_of (append lead os) us → IsBehind lead os us
-sorted_behind none os us s = record { vs = us; is = refl; sorted = s }
-sorted_behind (more c ls) os none s = absurd (let f = s.front in cc)
-sorted_behind (more c ls) os (more u us) s =
-    let f = s.front in
-    let same : u ≡ c = cc in
-    let front : take (count ls) (list_of us) ≡ take (count ls) (list_of (append ls os)) = cc in
-    let b = sorted_behind ls os us (record { front = front; moved = s.moved; rising = s.rising }) in
-    record { vs = b.vs; is = (λ i. more (same i) (b.is i)); sorted = b.sorted }
-
-behind : (n : ℕ) (c : Tree) (ts us : Trees) (h : IsLead n c ts) → IsSorting n base_of ts us → IsBehind h.lead (others_in ts) us
-behind n c ts us h s = sorted_behind h.lead (others_in ts) us (subst (λ (x : Trees). IsSorting (count h.lead) base_of x us) h.split (subst (λ (k : ℕ). IsSorting k base_of ts us) (sym h.long) s))
+behind : (n : ℕ) (c : Tree) (ts us : Trees) (h : IsLead n c ts) → IsSorting n base_of ts us → IsBehind base_of h.lead (others_in ts) us
+behind n c ts us h s = sorted_behind base_of h.lead (others_in ts) us
+    (subst (λ (x : Trees). IsSorting (count h.lead) base_of x us) h.split (subst (λ (k : ℕ). IsSorting k base_of ts us) (sym h.long) s))
 
 pair_inside : (ps vs : Trees) (at : ℕ) → count ps ≤ at → IsPairAt at (append ps vs) → (n : ℕ) × IsPairAt n vs
 pair_inside none vs at l p = (at, p)

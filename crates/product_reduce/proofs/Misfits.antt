@@ -1,10 +1,8 @@
 -- Which operation of a product does not fit, from the call that was refused.
-use Rattle.std.proofs.Common.{arith, ◌≡◌, ℕ, eqb, ◌&&◌, false, Result, Ok, Err, ap, ◌∙◌}
+use Rattle.std.proofs.Common.{arith, ◌≡◌, ℕ, ◌&&◌, false, Result, Ok, Err}
 use Rattle.std.specs.Prelude.{IfErr, IsErrAnd}
-use Rattle.product_reduce.proofs.Shared.{Permuted, permuted_none, permuted_more, permuted_swap, permuted_trans, Permuted-sym, value, product_tree, IsPlainOverflow, calculated, mul_op, Fraction, Tree}
-use Rattle.product_reduce.proofs.Shared.{num, Trees, none, more, is_num, NamesPut, State, AnswersRationals, OfOverflow, NamesProduct, SpreadingOverflows, factors_in, Overflow, given_same, given_told}
-use Rattle.product_reduce.proofs.{Shared.{plain, Forest, Gives, root_tree, without_root, NumberFault}, LastSteps.{permuted_none_is}, Readied.{AreReadied, alone_handed, alone_tree}}
-use Rattle.coefficients.proofs.Named.{put_as}
+use Rattle.product_reduce.proofs.Shared.{Permuted, permuted_none, permuted_more, permuted_swap, permuted_trans, value, product_tree, IsPlainOverflow, calculated, mul_op, Fraction, Tree, num, Trees}
+use Rattle.product_reduce.proofs.{Shared.{none, more, is_num, NamesPut, State, AnswersRationals, OfOverflow, NamesProduct, SpreadingOverflows, Overflow, NumberFault}, LastSteps.{permuted_none_is}}
 use Rattle.node_pool.specs.declared.full.Full.{Full}
 use Rattle.number_forms.specs.Overflows.{ProductOverflows}
 use Rattle.tree_handles.specs.declared.fault.NumberFault.TheVariants as fault
@@ -29,14 +27,8 @@ permuted_one_is x (permuted_more {t} {ts} {us} h) e = grind (arith, permuted_non
 permuted_one_is x permuted_swap e = grind arith
 permuted_one_is x (permuted_trans h k) e = permuted_one_is x k (permuted_one_is x h e)
 
-put_alone : (c : Tree) (us ts : Trees) (o : Overflow) → Permuted us ts → NamesPut c (product_tree us) o → SpreadingOverflows c ts o
-put_alone c us ts o m h = grind (arith, permuted_one_is)
-
-pub put_misfit : (i c p : ℕ) (old now f : Forest) → eqb c i ≡ false → (r : AreReadied i c old now) → Gives (without_root i now) f p (λ t. t ≡ product_tree r.us) → (o : Overflow)
-    → NamesPut (plain (root_tree c f)) (plain (root_tree p f)) o → SpreadingOverflows (plain (root_tree c old)) (factors_in i old) o
-put_misfit i c p old now f d r g o h =
-    let same : plain (root_tree c f) ≡ plain (root_tree c old) = ap plain (given_same c g (alone_handed i c old now d r).root) ∙ alone_tree i c old now d r in
-    put_alone (plain (root_tree c old)) r.us (factors_in i old) o (Permuted-sym r.permuted) (put_as o same (given_told g) h)
+pub put_alone : (c : Tree) (ts : Trees) (o : Overflow) → NamesPut c (product_tree ts) o → SpreadingOverflows c ts o
+put_alone c ts o h = grind arith
 
 -- ---- results
 

@@ -1,7 +1,7 @@
 -- Factors with identical bases, by their places.
-use Rattle.std.proofs.Common.{◌⊎◌, inl, inr, subst, nat_lt, ◌+◌, ℕ, zero, suc, ◌<◌, ◌≡◌, Bool, true, false, refl, if◌then◌else◌, sym, ap, ◌∙◌, arith}
-use Rattle.product_reduce.proofs.Shared.{by_test, removed, ltb-true, ltb-false, Tree, Trees, none, more, count, nth, inserted, is_partner, has_partner, first_partner, without_partner, joint}
-use Rattle.product_reduce.proofs.Shared.{have_partners, joined, HasNoPartner, IsFirstPair}
+use Rattle.std.proofs.{Common.{◌+◌, ℕ, zero, suc, ◌<◌, ◌≡◌, Bool, true, false, refl, if◌then◌else◌, ap, ◌∙◌, arith, subst, nat_lt}, lemmas.Bool.{ltb-true, ltb-false}}
+use Rattle.product_reduce.proofs.Shared.{removed, Tree, Trees, none, more, count, nth, inserted, is_partner, has_partner, first_partner, without_partner, joint, have_partners, joined, HasNoPartner}
+use Rattle.product_reduce.proofs.Shared.{IsFirstPair, by_test}
 
 -- ---- one factor and those behind it
 
@@ -69,19 +69,11 @@ joined_at (suc i) (suc j) (more t ts) h =
 
 -- ---- one place more
 
-pub no_partner_more : (i j : ℕ) (ts : Trees) → HasNoPartner i j ts → is_partner (nth i ts) (nth j ts) ≡ false → HasNoPartner i (j + 1) ts
-no_partner_more i j ts h e = λ k l m. by k (last k m) l
-  where
-    last : (k : ℕ) → k < j + 1 → (k < j) ⊎ (k ≡ j)
-    last k m = by_test (λ b. nat_lt k j ≡ b → (k < j) ⊎ (k ≡ j)) (nat_lt k j) (λ p q. inl (ltb-true k j q)) (λ p q. inr (omega (arith, ltb-false k j q))) refl
+below_more : (P : ℕ → Type 0) (n : ℕ) → ((k : ℕ) → k < n → P k) → P n → (k : ℕ) → k < n + 1 → P k
+below_more P n h e k l = by_test (λ b. nat_lt k n ≡ b → P k) (nat_lt k n) (λ p q. h k (ltb-true k n q)) (λ p q. subst P (omega (arith, ltb-false k n q)) e) refl
 
-    by : (k : ℕ) → (k < j) ⊎ (k ≡ j) → i < k → is_partner (nth i ts) (nth k ts) ≡ false
-    by k (inl m) l = h k l m
-    by k (inr q) l = ap (λ (n : ℕ). is_partner (nth i ts) (nth n ts)) q ∙ e
+pub no_partner_more : (i j : ℕ) (ts : Trees) → HasNoPartner i j ts → is_partner (nth i ts) (nth j ts) ≡ false → HasNoPartner i (j + 1) ts
+no_partner_more i j ts h e k l m = below_more (λ n. i < n → is_partner (nth i ts) (nth n ts) ≡ false) j (λ n o p. h n p o) (λ p. e) k m l
 
 pub no_pair_more : (i : ℕ) (ts : Trees) → ((k : ℕ) → k < i → HasNoPartner k (count ts) ts) → HasNoPartner i (count ts) ts → (k : ℕ) → k < i + 1 → HasNoPartner k (count ts) ts
-no_pair_more i ts h e k m = by (by_test (λ b. nat_lt k i ≡ b → (k < i) ⊎ (k ≡ i)) (nat_lt k i) (λ p q. inl (ltb-true k i q)) (λ p q. inr (omega (arith, ltb-false k i q))) refl)
-  where
-    by : (k < i) ⊎ (k ≡ i) → HasNoPartner k (count ts) ts
-    by (inl l) = h k l
-    by (inr q) = subst (λ (n : ℕ). HasNoPartner n (count ts) ts) (sym q) e
+no_pair_more i ts = below_more (λ n. HasNoPartner n (count ts) ts) i

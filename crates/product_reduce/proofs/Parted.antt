@@ -6,11 +6,12 @@ use Rattle.product_reduce.proofs.Shared.{result_lacks, Tree, mult, Trees, none, 
 use Rattle.product_reduce.proofs.Shared.{State, free_of, tree_of, Forest, forest, Stands, KeepsRefusals, IsHanded, Gives, KeepsFront, without_root, behind_first, front_after_one, front_after_two}
 use Rattle.product_reduce.proofs.Shared.{gives_as, given_told, by_test, overflow_as, passed_on, OfOverflow, Joining, IfFinished, IfJoined, AreOthers, IsStop, at_zero, at_end, IsFinished, IsOrdered}
 use Rattle.product_reduce.proofs.Shared.{IsGathered, AreFactorsHeld, IsCoefficient, coefficient_times, opened, numbers_in, others_in, MultiplyingOverflows, SpreadingOverflows, multiplying, spreading}
-use Rattle.product_reduce.proofs.{Shared.{IsProduct, Becomes, IsTakenOut, factors_in, KeepsFactorBounds, KeepsProductBounds, AreFewBits}, Beside.{beside_product, beside_apart, behind_beside}}
-use Rattle.product_reduce.proofs.{Finished.{reduced_opened, stopped}, FreeBytes.{becomes_free, taken_out_free, opened_size, step_lacks_numbers, step_lacks_pair}, Gathered.{gathered}}
-use Rattle.product_reduce.proofs.{GatheredCounts.{finished_counted, others_at_most, gathered_counted, gathered_few}, GatheredParts.{finished_powers, coefficient_spanned, spans_finished}}
-use Rattle.product_reduce.proofs.{GatheredParts.{spans_factors, spans_opened, spans_others, gathered_powers, spans_gathered}, HeldProducts.{apart, finished_held, gathered_held}}
+use Rattle.product_reduce.proofs.Shared.{IsProduct, Becomes, IsTakenOut, factors_in, KeepsFactorBounds, KeepsProductBounds, AreFewBits, SpansRoot}
+use Rattle.product_reduce.proofs.{Beside.{beside_product, beside_apart, behind_beside}, Finished.{reduced_opened, stopped}, FreeBytes.{becomes_free, taken_out_free, opened_size, step_lacks_numbers}}
+use Rattle.product_reduce.proofs.{FreeBytes.{step_lacks_pair}, Gathered.{gathered}, GatheredCounts.{finished_counted, others_at_most, gathered_counted, gathered_few}, GatheredParts.{finished_powers}}
+use Rattle.product_reduce.proofs.{GatheredParts.{coefficient_spanned, spans_finished, spans_factors, gathered_powers, spans_gathered}, HeldProducts.{apart, finished_held, gathered_held}}
 use Rattle.product_reduce.proofs.{LastSteps.{permuted_none_is}, Products.{product_at, factors_are}, SpreadFits.{no_spreading}, Stepped.{others_are, opened_value, none_beside}}
+use Rattle.product_reduce.proofs.Forms.{opened_parts, others_parts}
 use Rattle.product_reduce.specs.Misfits.{IsFactorMisfit}
 use Rattle.calc_room.specs.Needs.{product_need}
 use Rattle.tree_handles.proofs.Refused.{refused_as as refused_on}
@@ -69,7 +70,7 @@ pub numbers_room : {A : Type 0} {i : ℕ} {old mid : State} (gs : List ℕ) (r :
 numbers_room {i = i} {old = old} gs r f e o s k =
     let ts = factors_in i (forest old) in
     let t = spans_factors gs _ ts o.product.tree s in
-    passed_lacks r f _ _ e (k (subst (SpansTrees gs) (sym o.factors) (spans_opened gs ts t)))
+    passed_lacks r f _ _ e (k (subst (SpansTrees gs) (sym o.factors) (opened_parts (SpansRoot gs) ts t)))
     (λ g l. step_lacks_numbers (product_count ts) (2 ^ length gs) (size (mult ts)) _ (product_bytes gs ts o.reduced t) (omega (arith, o.free, ap size o.product.tree, opened_size ts, l)))
 
 -- ---- the coefficient is taken out
@@ -141,9 +142,9 @@ pub parted_room : {A : Type 0} {i h : ℕ} {old now : State} (gs : List ℕ) (r 
 parted_room {i = i} {h = h} {old = old} {now = now} gs r p s k =
     let ts = factors_in i (forest old) in
     let us = others_in (opened ts) in
-    let o : SpansTrees gs (opened ts) = spans_opened gs ts (spans_factors gs _ ts p.tree s) in
+    let o : SpansTrees gs (opened ts) = opened_parts (SpansRoot gs) ts (spans_factors gs _ ts p.tree s) in
     let room : put_room (counted (mult (factors_in i (forest now)))) (2 ^ length gs) ≡ put_room (counted (mult us)) (2 ^ length gs) = ap (λ (vs : Trees). put_room (counted (mult vs)) (2 ^ length gs)) p.factors in
-    result_lacks r _ _ (k (coefficient_spanned gs (opened ts) (tree_of h now) o p.coefficient) (subst (SpansTrees gs) (sym p.factors) (spans_others gs (opened ts) o)))
+    result_lacks r _ _ (k (coefficient_spanned gs (opened ts) (tree_of h now) o p.coefficient) (subst (SpansTrees gs) (sym p.factors) (others_parts (SpansRoot gs) (opened ts) o)))
     (λ g l. step_lacks_pair (counted (mult us)) (product_count ts) (2 ^ length gs) _ (pow_pos (length gs)) (others_at_most ts) (omega (arith, p.free, room, l)))
 
 -- ---- rationals

@@ -1,19 +1,15 @@
 -- The Numbers among the factors are multiplied from left to right.
 use Rattle.std.specs.Prelude.{Result}
-use Rattle.std.proofs.Common.{ℕ, zero, suc, ◌<◌, ◌≤◌, ◌≡◌, true, refl, sym, ap, ◌∙◌, subst, arith}
-use Rattle.product_reduce.proofs.Shared.{and_parts, and_from, one_fraction, lowest, gcd, Tree, mult, Trees, none, more, append, count, is_number, are_numbers, value, are_reduced, num_one, is_reduced}
-use Rattle.product_reduce.proofs.Shared.{Same, surd_one, surd_times, Same-sym, Same-trans, Agree-Same, surd_times_assoc, surd_times-one, surd_times-surd_one, Same-refl, Same-eq, Same-surd_times}
-use Rattle.product_reduce.proofs.Shared.{HasFewBits, PlainValue, plain_value, SpansRoot, AnswersTotal, AreJoined, IsNextOf, IsNextNumber, NoNumberBetween, first_of, fold_begun, plain_product}
-use Rattle.product_reduce.proofs.Shared.{no_numbers, some_number, sizes_taken, append_one, append_none, trees_assoc, count_append, front_numbers, numbers_are, numbers_removed, others_removed}
-use Rattle.product_reduce.proofs.Shared.{no_numbers_none, parts_taken, State, AnswersRationals, removed, Overflow, nth, NumberFault, AreFactorsHeld, numbers_in, product_of_values, IsCoefficient}
-use Rattle.product_reduce.proofs.{Shared.{NamesProduct, MultiplyingOverflows, IsProductOf, IsBegun, AreFewBits}, HeldNumbers.{alone_held, front_held, next_held, no_factors_held}}
+use Rattle.std.proofs.Common.{ℕ, ◌≤◌, ◌≡◌, true, refl, sym, ap, ◌∙◌, subst, arith}
+use Rattle.product_reduce.proofs.Shared.{Tree, mult, Trees, none, more, append, count, is_number, are_numbers, value, are_reduced, num_one, Same, surd_times, Same-sym, Same-trans, Agree-Same}
+use Rattle.product_reduce.proofs.Shared.{surd_times_assoc, surd_times-one, surd_times-surd_one, Same-refl, Same-eq, Same-surd_times, HasFewBits, PlainValue, plain_value, SpansRoot, AnswersTotal}
+use Rattle.product_reduce.proofs.Shared.{AreJoined, IsNextOf, IsNextNumber, NoNumberBetween, first_of, fold_begun, plain_product, no_numbers, some_number, sizes_taken, append_one, append_none}
+use Rattle.product_reduce.proofs.Shared.{trees_assoc, count_append, front_numbers, numbers_are, numbers_removed, others_removed, no_numbers_none, parts_taken, State, AnswersRationals, removed}
+use Rattle.product_reduce.proofs.Shared.{Overflow, nth, NumberFault, AreFactorsHeld, numbers_in, product_of_values, IsCoefficient, NamesProduct, MultiplyingOverflows, IsProductOf, IsBegun, AreFewBits}
+use Rattle.product_reduce.proofs.{HeldNumbers.{alone_held, front_held, next_held, no_factors_held}, JointPlaces.{reduced_removed}}
+use Rattle.like_children.proofs.Addends.{one_value}
 
 -- ---- the first Number
-
-reduced_removed : (n : ℕ) (ts : Trees) → n < count ts → are_reduced ts ≡ true → are_reduced (removed n ts) ≡ true
-reduced_removed n none l h = absurd (omega arith)
-reduced_removed zero (more t ts) l h = (and_parts (is_reduced t) (are_reduced ts) h).1
-reduced_removed (suc n) (more t ts) l h = let (a, b) = and_parts (is_reduced t) (are_reduced ts) h in and_from _ _ a (reduced_removed n ts (omega arith) b)
 
 pub started : (n : ℕ) (ts : Trees) → are_reduced ts ≡ true → IsNextNumber 0 n ts → IsBegun ts (removed n ts) (nth n ts)
 started n ts r h = record {
@@ -23,15 +19,11 @@ started n ts r h = record {
   some = λ m. omega arith;
   product = record { worth = Same-sym (Agree-Same (surd_times-one (value (nth n ts)))); held = λ k l a. alone_held (nth n ts) h.number a };
   others = others_removed n ts h.within h.number;
-  reduced = reduced_removed n ts h.within r;
+  reduced = reduced_removed n ts r;
   fewer = omega (arith, sizes_taken n ts h.within);
   spanned = λ gs s. parts_taken (SpansRoot gs) n ts h.within s;
   folded = λ q m. fold_begun (plain_value (mult ts)) n ts (first_of n ts q h) (λ f. ap (λ (x : Trees). plain_value (mult x)) f.is ∙ plain_product (nth n ts) f.rest f.rational f.rationals);
 }
-
-pub one_value : value num_one ≡ surd_one
-unfolding one_fraction lowest gcd
-one_value = refl
 
 -- where there is none
 pub started_at_one : (ts : Trees) → are_reduced ts ≡ true → NoNumberBetween 0 (count ts) ts → IsBegun ts ts num_one

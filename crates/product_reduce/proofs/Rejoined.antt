@@ -5,7 +5,7 @@ use Rattle.product_reduce.proofs.Shared.{AllParts, AllPartsOf, AnswersRationalSt
 use Rattle.product_reduce.proofs.Shared.{IsPlainAnswer, IsRejoined, IsStop, NoneIs, NumberFault, PlainValue, SpansRoot, SpansTree, SpansTrees, State, Step, Tree, Trees, add, and_from, are_rationals}
 use Rattle.product_reduce.proofs.Shared.{coefficient_before, counted, counted_among, factors_bytes, factors_in, first_partner, forest, given_told, gives_as, has_undef, is_number, joined, joint, keeps}
 use Rattle.product_reduce.proofs.Shared.{more, mul-le, mult, no_new_name, none, none_is, num, opened, others_in, power, put_room, size, sizes, tree_of, undef, without_partner, without_root}
-use Rattle.product_reduce.proofs.{Finished.{product_keeps, product_within}, GatheredParts.{before_factors, coefficient_spanned, opened_parts, others_parts}, Joined.{joined_keeps}}
+use Rattle.product_reduce.proofs.{Finished.{product_keeps, product_within}, GatheredParts.{before_factors, coefficient_spanned}, Forms.{opened_parts, others_parts}, Joined.{joined_keeps}}
 use Rattle.product_reduce.proofs.{NoNewNames.{names_joined}, Parted.{AreParted, stop_alone}, Stepped.{none_beside}}
 use Rattle.number_forms.proofs.Rooms.{number_size}
 

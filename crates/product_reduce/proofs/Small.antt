@@ -1,19 +1,12 @@
 -- Small trees that are reduced.
-use Rattle.std.proofs.Common.{arith, ℕ, zero, suc, ℤ, List, ◌≤◌, ◌≡◌, inr, true, refl, sym, ap, subst}
+use Rattle.std.proofs.Common.{arith, ℕ, ℤ, List, ◌≤◌, ◌≡◌, true, refl, sym, ap, subst}
 use Rattle.std.specs.{Prelude.{pos, negsuc}, Cmp.Lexicographic.{slice_cmp}}
-use Rattle.product_reduce.proofs.Shared.{and_from, and_parts, nat_cmp, Less, is_clean, left_of, square_root, ratio_of, value_of, Ratio, whole, lowest, zero_fraction, one_fraction, gcd, is_number}
-use Rattle.product_reduce.proofs.Shared.{is_reduced, are_reduced, Tree, num, symbol, undef, add, mult, power, root, Trees, none, more, count, is_mult, number_words, IsMonic, parts_reduced}
-use Rattle.product_reduce.proofs.Shared.{number_parts, plain, inserted, children_of, Forest, kids, with_nth, IsHanded, Ends, Gives, root_tree, without_root, put, given_handed, given_told, last_tree}
-use Rattle.product_reduce.proofs.{Shared.{Step, IfDone, IfAgain, IsProduct, Becomes, factors_in}, Beside.{beside_given, beside_product}, Joins.{put_back}, Products.{becomes_as, factors_are}}
+use Rattle.product_reduce.proofs.Shared.{nat_cmp, Less, is_clean, left_of, square_root, ratio_of, value_of, Ratio, whole, lowest, zero_fraction, one_fraction, gcd, is_number, is_reduced, are_reduced}
+use Rattle.product_reduce.proofs.Shared.{Tree, num, symbol, undef, add, mult, power, root, Trees, none, more, count, is_mult, plain, inserted, children_of, Forest, kids, with_nth, IsHanded, Ends}
+use Rattle.product_reduce.proofs.Shared.{Gives, root_tree, without_root, put, given_handed, given_told, last_tree, Step, IfDone, IfAgain, IsProduct, Becomes, factors_in}
+use Rattle.product_reduce.proofs.{Beside.{beside_given, beside_product}, Joins.{put_back}, Products.{becomes_as, factors_are}}
 use Rattle.calc_terms.specs.declared.rat.Rat.{Rat}
 use Rattle.reduce_port.specs.declared.step.Step.TheVariants as step
-
-pub number_reduced : (t : Tree) → is_number t ≡ true → is_reduced t ≡ true
-number_reduced t h = parts_reduced t (number_parts t (number_words t h))
-
-pub symbol_monic : (x : List ℕ) → IsMonic (symbol x)
-unfolding is_number
-symbol_monic x = record { reduced = parts_reduced (symbol x) (inr tt); defined = refl; no_coefficient = refl }
 
 pub undef_reduced : is_reduced undef ≡ true
 unfolding is_reduced
@@ -79,11 +72,6 @@ pub put_beside : {i h : ℕ} {f l g new : Forest} {us : Trees} {Told : Tree → 
     → new ≡ put i (with_nth at (root_tree h g) (kids (root_tree i g))) (without_root h g) → Becomes i f new (inserted at (more (plain (root_tree h g)) none) us)
 put_beside {i = i} {h = h} {f = f} {l = l} {g = g} {new = new} {us = us} at b k w e =
     put_back i at h us f l g new _ b (record { tree = k.tree; ends = k.ends; once = k.once; whole = k.whole; told = ap plain (sym (last_tree k.ends)) }) w e
-
-pub reduced_inserted : (n : ℕ) (t : Tree) (ts : Trees) → is_reduced t ≡ true → are_reduced ts ≡ true → are_reduced (inserted n (more t none) ts) ≡ true
-reduced_inserted zero t ts h k = and_from _ _ h k
-reduced_inserted (suc n) t none h k = and_from _ _ h refl
-reduced_inserted (suc n) t (more u ts) h k = let (a, b) = and_parts (is_reduced u) (are_reduced ts) k in and_from _ _ a (reduced_inserted n t ts h b)
 
 -- the product goes behind all other trees
 pub moved_product : {i n : ℕ} {f l g others : Forest} {us : Trees} → Becomes i f l us → Ends i (root_tree i l) (without_root i l) g → without_root i f ≡ others → n ≤ count us → are_reduced us ≡ true

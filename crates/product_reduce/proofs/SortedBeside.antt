@@ -3,12 +3,12 @@ use Rattle.std.proofs.Common.{ℕ, ◌≡◌, ◌+◌, ◌^◌, ◌∙◌, List,
 use Rattle.std.specs.Prelude.{IfErr}
 use Rattle.product_reduce.proofs.Shared.{base_of, counted, SpansTree, SpansTrees, put_room, result_lacks, refused_as, OfOverflow, NumberFault, Tree, Trees, mult, none, size, IsSorting, State, free_of}
 use Rattle.product_reduce.proofs.Shared.{tree_of, plain, Forest, forest, Stands, KeepsRefusals, IsHanded, KeepsFront, without_root, without-swap, eqb-sym, behind_first, behind_later, front_same}
-use Rattle.product_reduce.proofs.{Shared.{front_after_one, front_after_two, AreOthers, IsEnding, SpreadingOverflows, IsProduct, factors_in}, Beside.{beside_becomes, tree_becomes}}
-use Rattle.product_reduce.proofs.{FreeBytes.{becomes_free}, Gathered.{others_permuted, ending_before, spreading_before}, GatheredCounts.{sorted_counted}, GatheredParts.{spans_sorted}}
-use Rattle.product_reduce.proofs.{LastSteps.{permuted_none_is}, Products.{factors_are, product_at}}
+use Rattle.product_reduce.proofs.{Shared.{front_after_one, front_after_two, AreOthers, IsEnding, SpreadingOverflows, IsProduct, factors_in, SpansRoot}, Beside.{beside_becomes, tree_becomes}}
+use Rattle.product_reduce.proofs.{FreeBytes.{becomes_free}, Gathered.{others_permuted, ending_before, spreading_before}, GatheredCounts.{sorted_counted}, LastSteps.{permuted_none_is}}
+use Rattle.product_reduce.proofs.Products.{factors_are, product_at}
 use Rattle.coefficients.specs.Rooms.{LacksRoom}
 use Rattle.product_reduce.specs.Sorting.{SortsFactors}
-use Rattle.like_children.proofs.Permutations.{of_lists}
+use Rattle.like_children.proofs.{Permutations.{of_lists}, Parts.{permuted_parts}}
 
 -- the factors stand in the order of their bases, and the coefficient as before
 pub record AreSorted (i c : ℕ) (old now : State) : Type 0 where
@@ -58,5 +58,5 @@ pub room_sorted : {A : Type 0} {i c : ℕ} {old now : State} (gs : List ℕ) (r 
     → IfErr r (LacksRoom (counted (mult (factors_in i (forest old)))) (free_of old + size (tree_of c old) + size (mult (factors_in i (forest old)))) gs)
 room_sorted {i = i} {old = old} {now = now} gs r s x k f =
     let room = ap (λ (n : ℕ). put_room n (2 ^ length gs)) (sorted_counted (factors_in i (forest old)) (factors_in i (forest now)) s.sorted) in
-    result_lacks r _ _ (f (subst (SpansTree gs) (sym s.tree) x) (spans_sorted gs (factors_in i (forest old)) (factors_in i (forest now)) s.sorted k))
+    result_lacks r _ _ (f (subst (SpansTree gs) (sym s.tree) x) (permuted_parts (SpansRoot gs) (of_lists (factors_in i (forest old)) (factors_in i (forest now)) s.sorted.moved) k))
     (λ g l. omega (arith, s.free, ap size s.tree, room, l))

@@ -1,9 +1,10 @@
 -- From the handed product to its other factors, and from one answer to another.
 use Rattle.std.proofs.Common.{arith, ℕ, ◌≡◌, Result, true, false, refl, ap, ◌∙◌}
 use Rattle.std.specs.Prelude.{IfOk}
-use Rattle.product_reduce.proofs.Shared.{and_from, Tree, mult, Trees, none, more, is_mult, has_undef, are_rationals, are_reduced, NumberFault, plain, children_of, Forest, IsHanded, root_tree, Joining}
-use Rattle.product_reduce.proofs.{Shared.{AreOthers, IfFinished, IfJoined, opened, others_in, IsProduct, factors_in}, Finished.{formed_defined, formed_reduced, reduced_formed, opened_rationals}}
-use Rattle.product_reduce.proofs.{Finished.{rationals_alone}, Forms.{AllFormed, opened_formed, others_formed, others_no_numbers, others_none, opened_flat}}
+use Rattle.product_reduce.proofs.Shared.{Tree, mult, Trees, none, more, is_mult, has_undef, are_rationals, are_reduced, NumberFault, plain, children_of, Forest, IsHanded, root_tree, Joining}
+use Rattle.product_reduce.proofs.Shared.{AreOthers, IfFinished, IfJoined, opened, others_in, IsProduct, factors_in, AllPartsOf, HasForm, parts_defined}
+use Rattle.product_reduce.proofs.{Finished.{opened_rationals, rationals_alone}, Forms.{others_no_numbers, others_none, opened_flat, opened_parts, others_parts}}
+use Rattle.like_children.proofs.Parts.{formed_reduced, reduced_formed}
 
 -- ---- the handed product
 
@@ -15,12 +16,20 @@ handed_product {i = i} {f = f} h m = record { handed = h; tree = mult_words (pla
 
 -- ---- the other factors
 
-formed_others : (ts : Trees) → AllFormed ts → (are_reduced ts ≡ true) × (has_undef ts ≡ false)
-formed_others none h = (refl, refl)
-formed_others (more t ts) h = grind (arith, formed_others ts h.1, and_from, formed_reduced, formed_defined)
+formed_defined : (ts : Trees) → AllPartsOf HasForm ts → has_undef ts ≡ false
+formed_defined none h = refl
+formed_defined (more t ts) h = rw (parts_defined t h.0, formed_defined ts h.1) refl
 
 pub others_are : (ts : Trees) → are_reduced ts ≡ true → has_undef ts ≡ false → AreOthers (others_in (opened ts))
-others_are ts r d = grind (arith, reduced_formed, formed_others, others_formed, opened_formed, others_no_numbers, others_none, opened_flat)
+others_are ts r d =
+    let f = reduced_formed ts r d in
+    let g = others_parts HasForm (opened ts) (opened_parts HasForm ts f) in
+    record {
+      reduced = formed_reduced _ g;
+      defined = formed_defined _ g;
+      no_number = others_no_numbers (opened ts);
+      no_product = others_none is_mult (opened ts) (opened_flat ts f);
+    }
 
 -- the opened rationals are the rationals
 pub opened_value : (ts us : Trees) → are_rationals ts ≡ true → us ≡ opened ts → us ≡ ts

@@ -54,9 +54,7 @@ pub fn finished(
     ensures stands { Stands pool.new }
 {
     if factor_count(pool, &product) == 0 {
-        release(pool, product);
-        move_last(pool, &coefficient);
-        return Ok(coefficient);
+        return Ok(alone(pool, product, coefficient));
     }
     let part = unwrapped(pool, product);
     put_coefficient(pool, coefficient, part)

@@ -1,9 +1,9 @@
 -- What is answered for terms no two of which have identical parts.
 use Rattle.std.specs.Prelude.{IsPermutation}
-use Rattle.std.proofs.Common.{◌≤◌, ◌≡◌, [], length, true, inl, inr, refl, sym, ap, ◌∙◌, subst, arith, append-nil}
+use Rattle.std.proofs.Common.{◌≤◌, ◌≡◌, length, true, inl, inr, refl, sym, ap, ◌∙◌, subst, arith, append-nil}
 use Rattle.sum_reduce.proofs.Shared.{append_none, no_numbers_others, no_numbers_none, zero_fraction, is_number, value, terms_of, NoneIs, Same, Tree, num, add, Trees, none, more, append, count}
 use Rattle.sum_reduce.proofs.Shared.{number_test, number_words, AsNumber, as_number, list_of, IsLead, IsSettled, numbers_in, others_in, sum_of_values, AreUnlike, IsTotalNumber, IsWrittenSum, IsStage}
-use Rattle.sum_reduce.proofs.{Shared.{IsCollected, opened, terms_of_number, sum_tree, written_tree}, Orders.{arranged_flat}, Rearranged.{tight_opened}, WrittenSums.{zero_terms, term_in}}
+use Rattle.sum_reduce.proofs.{Shared.{IsCollected, opened, terms_of_number, sum_tree, written_tree}, Orders.{arranged_flat}, Rearranged.{tight_opened}, WrittenSums.{zero_terms, term_in, zero_value}}
 
 -- ---- a Number alone
 
@@ -35,14 +35,6 @@ lead_numbers lead os l n = grind (arith, no_numbers_none)
 
 lead_others : (lead os : Trees) → IsLead lead → NoneIs is_number os → others_in (append lead os) ≡ os
 lead_others lead os l n = grind (arith, no_numbers_others)
-
-zero_value : value (num zero_fraction) ≡ []
-zero_value = by (as_number (num zero_fraction) tt)
-  where
-    by : AsNumber (num zero_fraction) → value (num zero_fraction) ≡ []
-    by (inl z) = z.value_is
-    by (inr (inl s)) = absurd (s.one refl)
-    by (inr (inr s)) = let e = s.is in cc
 
 lead_worth : (lead : Trees) → IsLead lead → value (lead_number lead) ≡ sum_of_values lead
 unfolding lead_number

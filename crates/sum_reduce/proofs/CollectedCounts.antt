@@ -1,11 +1,12 @@
 -- The terms of a sum are collected to terms that count no more.
 use Rattle.std.proofs.Common.{◌≡◌, suc, ◌≤◌, Bool, true, false, if◌then◌else◌, refl, ap, subst, arith}
-use Rattle.sum_reduce.proofs.Shared.{permuted_parts, first_parts, last_parts, Tree, Trees, none, more, append, count, AllPartsOf, IsNumber, is_number, HasForm, number_test, number_words, counted}
-use Rattle.sum_reduce.proofs.Shared.{counted_among, with_coefficient, IsMonic, put_formed, taken, number_parts, parts_defined, parts_reduced, AreLike, Collects, collects_opened, collects_ordered}
-use Rattle.sum_reduce.proofs.{Shared.{collects_numbers, collects_like, collects_then, terms_of_loose, opened, terms_of_number, sum_tree, leads_number, written_tree}, CollectedParts.{opened_parts}}
+use Rattle.sum_reduce.proofs.Shared.{permuted_parts, first_parts, Tree, Trees, none, more, append, count, AllPartsOf, IsNumber, is_number, HasForm, number_test, number_words, counted, counted_among}
+use Rattle.sum_reduce.proofs.Shared.{with_coefficient, IsMonic, put_formed, taken, number_parts, parts_defined, parts_reduced, AreLike, Collects, collects_opened, collects_ordered, collects_numbers}
+use Rattle.sum_reduce.proofs.{Shared.{collects_like, collects_then, terms_of_loose, opened, terms_of_number, sum_tree, leads_number, written_tree}, CollectedParts.{opened_parts}}
 use Rattle.calc_room.proofs.TreeBytes.{counted_number, none_counted, number_counts}
 use Rattle.tree_room.proofs.{Coefficients.{part_counts}, Counts.{appended}}
 use Rattle.like_children.proofs.{Counted.{counted_at_most, counted_in, permuted_counted, put_counted}, Permutations.{of_lists}}
+use Rattle.coefficients.proofs.TermMultiples.{behind_parts}
 
 other_counts : (t : Tree) → is_number t ≡ false → counted_in t ≡ counted t
 other_counts t e = ap (λ (b : Bool). if b then 0 else counted t) e
@@ -31,7 +32,7 @@ pub collected_formed : {ts us : Trees} → Collects ts us → AllPartsOf HasForm
 collected_formed (collects_opened {ts}) h = opened_parts HasForm ts h
 collected_formed (collects_ordered {ts} {us} k) h = permuted_parts HasForm (of_lists ts us k) h
 collected_formed (collects_numbers {ts} {a} {b} {n} x y k) h = (number_parts n (number_words n k.number), (h.1).1)
-collected_formed (collects_like {ts} us c p l a k) h = grind (arith, first_parts, put_formed, number_words, like_monic, last_parts)
+collected_formed (collects_like {ts} us c p l a k) h = grind (arith, first_parts, put_formed, number_words, like_monic, behind_parts)
 collected_formed (collects_then k l) h = collected_formed l (collected_formed k h)
 
 pub collected_counts : {ts us : Trees} → Collects ts us → AllPartsOf HasForm ts → counted_among us ≤ counted_among ts

@@ -1,14 +1,14 @@
 -- Exponents that count their bases are collected to exponents that count them no more often.
 use Rattle.std.proofs.{Common.{◌≡◌, ℕ, ◌≤◌, ◌++◌, [], ℤ, pos, ◌+ℤ◌, ◌*ℤ◌, Bool, true, false, ◌==◌, if◌then◌else◌, refl, sym, ap, ◌∙◌, subst, arith}, lemmas.Bool.{false≢true, true≢false}}
-use Rattle.sum_reduce.proofs.Shared.{first_parts, and_parts, and_from, eqb-true, Fraction, times, whole_fraction, zero_fraction, one_fraction, is_zero_fraction, is_one_fraction, zero_is, one_is}
-use Rattle.sum_reduce.proofs.Shared.{whole_denominator, whole_numerator, Tree, num, symbol, undef, add, mult, Trees, none, more, append, count, is_add, has_undef, AllPartsOf, IsNumber, is_number}
-use Rattle.sum_reduce.proofs.Shared.{value, NoneIs, HasForm, part_of, product_tree, Same, surd_of, Permuted, permuted_none, permuted_more, permuted_swap, permuted_trans, number_rational, number_words}
-use Rattle.sum_reduce.proofs.Shared.{Same-trans, coefficient_of, rational_before, with_coefficient, IsMonic, mapped, rational_times_term, monic_sum, monic_no_number, IsNumberOf, AreLike}
-use Rattle.sum_reduce.proofs.Shared.{sum_of_coefficients, Collects, collects_opened, collects_ordered, collects_numbers, collects_like, collects_then, terms_of_loose, opened, terms_of_number}
-use Rattle.sum_reduce.proofs.Shared.{sum_tree, leads_number, written_tree, Counts, counts, added, is_counted, are_counted, counts_of, counts_of_all, IsWithin, IsCountedWithin, KeepsSumBounds}
+use Rattle.sum_reduce.proofs.Shared.{first_parts, and_parts, and_from, Fraction, times, whole_fraction, zero_fraction, one_fraction, is_zero_fraction, is_one_fraction, one_is, whole_denominator}
+use Rattle.sum_reduce.proofs.Shared.{whole_numerator, Tree, num, symbol, undef, add, mult, Trees, none, more, append, count, is_add, has_undef, AllPartsOf, IsNumber, is_number, value, NoneIs, HasForm}
+use Rattle.sum_reduce.proofs.Shared.{part_of, product_tree, Same, surd_of, Permuted, permuted_none, permuted_more, permuted_swap, permuted_trans, number_rational, number_words, Same-trans}
+use Rattle.sum_reduce.proofs.Shared.{coefficient_of, rational_before, with_coefficient, IsMonic, mapped, rational_times_term, monic_sum, monic_no_number, IsNumberOf, AreLike, sum_of_coefficients}
+use Rattle.sum_reduce.proofs.Shared.{Collects, collects_opened, collects_ordered, collects_numbers, collects_like, collects_then, terms_of_loose, opened, terms_of_number, sum_tree, leads_number}
+use Rattle.sum_reduce.proofs.Shared.{written_tree, Counts, counts, added, is_counted, are_counted, counts_of, counts_of_all, IsWithin, IsCountedWithin, KeepsSumBounds}
 use Rattle.sum_reduce.proofs.{CollectedCounts.{collected_formed, like_monic}, CountedMultiples.{within_same, within_after, within_both, nothing_within, sum_within, product_within, multiple_added}}
-use Rattle.calc_algebra.proofs.{ExponentLaws.{whole_plus, whole_times}, MeaningLaws.{Same-sym}, TermLaws.{joined_radicand, Same-append, Same-eq, Same-refl, zero_term}}
-use Rattle.like_children.proofs.Permutations.{of_lists}
+use Rattle.calc_algebra.proofs.{ExponentLaws.{whole_plus, whole_times}, MeaningLaws.{Same-sym}, TermLaws.{joined_radicand, Same-append, Same-eq, zero_term}}
+use Rattle.like_children.proofs.{Permutations.{of_lists}, Addends.{num_value}}
 use Rattle.tree_bits.specs.Exponents.{multiple}
 pub use Rattle.calc_measures.proofs.LiteralValues.{whole_of}
 
@@ -69,22 +69,12 @@ pub zero_whole : zero_fraction ≡ whole_fraction (pos 0)
 unfolding zero_fraction
 zero_whole = refl
 
-one_den : (n : ℕ) → (n == 1) ≡ true → n ≡ 1
-one_den n h = eqb-true n 1 h
-
 whole_test : (z : ℤ) → ((whole_fraction z).den == 1) ≡ true
 whole_test z = ap (λ (n : ℕ). n == 1) (whole_denominator z)
 
 -- the whole number z as an exponent
 pub num_counted : (z : ℤ) → IsCountedWithin (multiple z (counts 1 0)) (num (whole_fraction z))
 num_counted z = record { counted = whole_test z; within = subst (λ (c : Counts). IsWithin c (multiple z (counts 1 0))) (ap (λ (y : ℤ). multiple y (counts 1 0)) (sym (whole_numerator z))) (within_same (multiple z (counts 1 0))) }
-
-pub num_value : (q : Fraction) → Same (value (num q)) (surd_of q)
-num_value q = by (is_zero_fraction q) refl
-  where
-    by : (b : Bool) → is_zero_fraction q ≡ b → Same (if b then [] else surd_of q) (surd_of q)
-    by true e = subst (λ (x : Fraction). Same [] (surd_of x)) (sym (zero_is q e)) (Same-sym (zero_term 1))
-    by false e = Same-refl (surd_of q)
 
 -- ---- two Numbers
 

@@ -1,9 +1,10 @@
 -- What holds of each part of the terms of a sum holds of each part of what they are collected to.
 use Rattle.std.proofs.Common.{◌≡◌, ◌≤◌, ◌++◌, true, subst, arith}
 use Rattle.sum_reduce.proofs.Shared.{Fraction, Tree, num, add, mult, Trees, none, more, count, AllParts, AllPartsOf, is_number, value, part_of, split_product, coefficient_of, AllPartsOf-append}
-use Rattle.sum_reduce.proofs.Shared.{IsNumberOf, permuted_parts, first_parts, last_parts, product_tree_parts, with_parts, AreLike, sum_of_coefficients, Collects, collects_opened, collects_ordered}
+use Rattle.sum_reduce.proofs.Shared.{IsNumberOf, permuted_parts, first_parts, product_tree_parts, with_parts, AreLike, sum_of_coefficients, Collects, collects_opened, collects_ordered}
 use Rattle.sum_reduce.proofs.Shared.{collects_numbers, collects_like, collects_then, terms_of_loose, opened, written_tree}
 use Rattle.like_children.proofs.Permutations.{of_lists}
+use Rattle.coefficients.proofs.TermMultiples.{behind_parts}
 
 -- ---- terms that are opened, change places, or stand before others
 
@@ -49,5 +50,5 @@ module _ (P : Tree → Type 0)
     collected_parts (collects_numbers {ts} {a} {b} {n} x y k) h = (of_sums a b n x y h.0 (h.1).0 k, (h.1).1)
     collected_parts (collects_like {ts} us c p l a k) h =
         let like = first_parts P us ts h in
-        (with_parts P of_num of_add of_mult c p (of_coefficients us c like k) (like_parts us p l a like), last_parts P us ts h)
+        (with_parts P of_num of_add of_mult c p (of_coefficients us c like k) (like_parts us p l a like), behind_parts P us ts h)
     collected_parts (collects_then k l) h = collected_parts l (collected_parts k h)

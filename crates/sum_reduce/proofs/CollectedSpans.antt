@@ -1,8 +1,10 @@
--- What spans the terms of a sum spans what they are collected to.
+-- What spans the terms of a sum spans what they are collected to, and each power in that is a part of one of them.
 use Rattle.std.proofs.Common.{arith, ◌≡◌, ℕ, List, true}
 use Rattle.sum_reduce.proofs.Shared.{Tree, num, mult, root, Trees, none, more, is_add, value, split_product, num_one, number_words, term_words, Spans, SpansRoot, SpansTree, SpansTrees, coefficient_of}
-use Rattle.sum_reduce.proofs.{Shared.{IsNumberOf, sum_spans, children_of, sum_of_coefficients, Collects, written_tree}, CollectedParts.{collected_parts, written_parts}, Splits.{split_cases}}
+use Rattle.sum_reduce.proofs.{Shared.{IsNumberOf, sum_spans, children_of, sum_of_coefficients, Collects, written_tree, IsPowerOf, HasPowersOf}, CollectedParts.{collected_parts, written_parts}}
+use Rattle.sum_reduce.proofs.Splits.{split_cases}
 use Rattle.calc_room.proofs.NumberSpans.{spans_append, spans_same, term_spanned, tree_spanned, value_spanned}
+use Rattle.like_children.proofs.OwnPowers.{number_powers, own_powers_of}
 
 split_spans : (gs : List ℕ) (ts : Trees) → SpansTrees gs ts → Spans gs (value (split_product ts).coefficient)
 split_spans gs ts =
@@ -30,3 +32,9 @@ spans_written gs ts h = written_parts (SpansRoot gs) (λ q. tt) (λ vs. tt) (λ 
 
 pub spans_terms : (gs : List ℕ) (t : Tree) → is_add t ≡ true → SpansTree gs t → SpansTrees gs (children_of t)
 spans_terms gs t e h = grind arith
+
+pub collected_powers : (ts us : Trees) → Collects ts us → HasPowersOf ts (written_tree us)
+collected_powers ts us k =
+    written_parts (IsPowerOf ts) (λ q. tt) (λ vs. tt) (λ vs. tt) us
+    (collected_parts (IsPowerOf ts) (λ q. tt) (λ vs. tt) (λ vs. tt) (λ a b n x y s t m. number_powers ts n (number_words n m.number))
+    (λ vs c s m. number_powers ts c (number_words c m.number)) k (own_powers_of ts ts (λ p h. h)))

@@ -111,25 +111,6 @@ held_split c d = record { keeps = λ zs h l k. by k.weighted k.held }
 
 -- ---- coefficients alone
 
-pub first_held : {c : Surd} {ts : Trees} {zs : List Addend} {h l : ℕ} → IsSumHeld (addend c ts ∷ zs) h l → IsHeld c h l
-first_held {c = c} {ts = ts} {zs = zs} {h = h} {l = l} k = by k.weighted k.held
-  where
-    by : {ws : List Weighted} → AreWeighted (addend c ts ∷ zs) ws → AreHeld ws h l → IsHeld c h l
-    by (more_weighted {ws = ws} p q f r) a = record {
-      denominator = a.denominator;
-      parts = a.parts.0;
-      low =
-          let x : a.denominator * 1 ≤ a.denominator * 2 ^ (q + lows ws) = mul-le a.denominator 1 a.denominator (2 ^ (q + lows ws)) (omega arith) (pow_pos (q + lows ws)) in
-          let z : a.denominator * 2 ^ (q + lows ws) ≤ 2 ^ l = a.low in
-          omega (arith, x, z);
-      scale = a.scale;
-      scaled = a.scaled.0;
-      high =
-          let y : mass a.scale c * 1 ≤ mass a.scale c * 2 ^ p = mul-le (mass a.scale c) 1 (mass a.scale c) (2 ^ p) (omega arith) (pow_pos p) in
-          let z : mass a.scale c * 2 ^ p + weighted_mass a.scale ws ≤ a.scale * 2 ^ h = a.high in
-          omega (arith, y, z);
-    }
-
 pub both_held : {c d : Surd} {ts us : Trees} {zs : List Addend} {h l : ℕ} → IsSumHeld (addend c ts ∷ (addend d us ∷ zs)) h l → IsHeld (c ++ d) h l
 both_held {c = c} {d = d} {ts = ts} {us = us} {zs = zs} {h = h} {l = l} k = by k.weighted k.held
   where

@@ -1,11 +1,11 @@
 -- What holds the terms of a sum holds them opened, with one coefficient put back, and written as a tree.
 use Rattle.std.proofs.{Common.{◌≡◌, ◌≤◌, ℕ, List, [], ◌∷◌, ◌++◌, Bool, true, false, if◌then◌else◌, inl, inr, refl, sym, ap, ◌∙◌, subst, arith, append_assoc, append-nil}, lemmas.Bool.{true≢false}}
 use Rattle.sum_reduce.proofs.Shared.{not_from_false, Fraction, zero_fraction, is_zero_fraction, is_one_fraction, no_zero, one_is, Tree, num, add, Trees, none, more, append, count, is_add, AllParts}
-use Rattle.sum_reduce.proofs.Shared.{IsNumber, AreTerms, is_number, term_of, terms_of, value, HasForm, NoneIs, part_of, Same, Surd, surd_of, surd_one, number_test, number_words, surd_times-surd_one}
+use Rattle.sum_reduce.proofs.Shared.{IsNumber, AreTerms, is_number, term_of, terms_of, value, HasForm, NoneIs, part_of, Same, Surd, surd_one, number_test, number_words, surd_times-surd_one}
 use Rattle.sum_reduce.proofs.Shared.{SharesDenominators, coefficient_of, factors_of, rational_before, with_coefficient, IsMonic, monic_sum, put, monic_parts, number_of_term, IsFactor, not_one_is}
 use Rattle.sum_reduce.proofs.Shared.{IsArranged, IsLead, KeepsHeld, AreFormed, terms_of_loose, opened, terms_of_number, sum_tree, written_tree, IsSumHeld, addends_of_each, distributed, Addend, addend}
 use Rattle.sum_reduce.proofs.{Shared.{addends, addends_of, IsTreeHeld, sum_as_tree, alone}, Held.{held_same, held_after, held_equal, held_behind, held_beside, held_joined, held_left_out}}
-use Rattle.sum_reduce.proofs.{Held.{held_nothing, held_split, holds}, HeldFactors.{held_distributed}, Settled.{no_sums}, WrittenSums.{number_terms_in}}
+use Rattle.sum_reduce.proofs.{Held.{held_nothing, held_split, holds}, HeldFactors.{held_distributed}, Settled.{no_sums}, WrittenSums.{number_terms_in, zero_value}}
 use Rattle.calc_bits.proofs.NoLarger.{no_larger}
 use Rattle.like_children.proofs.Addends.{IsSplit, monic_addends, multiple_addends, one_addend, one_value, rational_value, spliced_addends, split_sum, sum_addends, term_addends}
 use Rattle.number_forms.proofs.Shaped.{term_value}
@@ -71,13 +71,6 @@ partner_held c e p u others h n s same he w d =
     (held_beside (held_joined (value c) (value (coefficient_of u)) (value e) (factors_of p) (no_larger e (value c ++ value (coefficient_of u)) he w d)) (held_same (addends_of_each others)))
 
 -- ---- a coefficient that is put back
-
-zero_value : value (num zero_fraction) ≡ []
-zero_value = by (is_zero_fraction zero_fraction) refl
-  where
-    by : (b : Bool) → is_zero_fraction zero_fraction ≡ b → value (num zero_fraction) ≡ []
-    by true e = ap (λ (b : Bool). if b then [] else surd_of zero_fraction) e
-    by false e = absurd (no_zero zero_fraction (not_from_false _ e) refl)
 
 zero_addends : addends (num zero_fraction) ≡ addend [] none ∷ []
 zero_addends = alone (num zero_fraction) (number_test (num zero_fraction) tt) ∙ ap (λ (v : Surd). addend v none ∷ []) zero_value

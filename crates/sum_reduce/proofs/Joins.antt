@@ -1,5 +1,5 @@
 -- Terms with identical parts become one.
-use Rattle.std.proofs.Common.{ℕ, zero, suc, ◌+◌, ◌≤◌, ◌<◌, ◌≡◌, ◌++◌, [], ◌∷◌, Bool, true, false, ◌&&◌, not, refl, sym, ap, ◌∙◌, subst, arith, append-nil}
+use Rattle.std.proofs.{Common.{ℕ, zero, suc, ◌+◌, ◌≤◌, ◌<◌, ◌≡◌, ◌++◌, [], ◌∷◌, Bool, true, false, ◌&&◌, not, refl, sym, ap, ◌∙◌, subst, arith, append-nil}, lemmas.Bool.{true≢false}}
 use Rattle.sum_reduce.proofs.Shared.{other_in, count_removed, is_eq, is_number, value, are_numbers, part_of, NoneIs, is_reduced, Same, tree_cmp, Tree, add, mult, Trees, none, more, append, count}
 use Rattle.sum_reduce.proofs.Shared.{names, names_of, nodes, is_add, is_undef, KeepsMeanings, KeepsMeanings-refl, KeepsMeanings-eq, KeepsMeanings-trans, KeepsMeanings-sum_more, Permuted, Permuted-sym}
 use Rattle.sum_reduce.proofs.Shared.{Permuted-append_right, Permuted-to_front, permuted_more, permuted_trans, permuted_sum, joined_in_sum, same_factor, number_words, number_test, sum_of_numbers}
@@ -8,7 +8,7 @@ use Rattle.sum_reduce.proofs.Shared.{coefficient_of, factors_of, with_coefficien
 use Rattle.sum_reduce.proofs.Shared.{parts_defined, keeps, kept, nth, inserted, IsPairAt, others_in, AreUnlike, AreLike, sum_of_coefficients, collects_ordered, collects_like, collects_then, IsAdded}
 use Rattle.sum_reduce.proofs.Shared.{IsJoining, IsStage, widths, removed, AreFormed, is_loose, is_partner, opened, IsNumberOver, Within, no_new_name, within_of, within_same, within_both}
 use Rattle.sum_reduce.proofs.Shared.{within_beside, within_trans, within_right, within_none, within_eq, names_permuted, number_names, addends_of_each, addend, nest_permuted, nest_number}
-use Rattle.sum_reduce.proofs.{Held.{held_after, held_beside, held_behind, held_equal, held_permuted, held_same}, HeldTerms.{partner_held, put_held}, Names.{names_of_part}, Nests.{nest_of_part}}
+use Rattle.sum_reduce.proofs.{Held.{held_after, held_beside, held_behind, held_equal, held_permuted, held_same}, HeldTerms.{partner_held, put_held}, Splits.{names_of_part, nest_of_part}}
 use Rattle.sum_reduce.proofs.{Rearranged.{tight_opened, others_permuted, unlike_permuted}, Stages.{formed_permuted, stage_after, stage_permuted}}
 use Rattle.sum_reduce.proofs.Widths.{widths_permuted, width_other, coefficient_width}
 use Rattle.calc_algebra.proofs.{NumberRewrites.{with_coefficient as coefficient_for}, TermLaws.{Same-eq}}
@@ -166,7 +166,7 @@ written c p ts rest less j l =
         formed = (put_formed c p n j.monic, j.formed);
         some = omega arith;
         nest = omega (arith, j.nest, coefficient_nest c p, nest_number c j.number);
-        numbers = λ h. absurd (clash (sym h ∙ j.other));
+        numbers = λ h. absurd (true≢false (sym h ∙ j.other));
         width = omega (arith, fewer);
         collects = collects_then (collects_ordered j.added.moved) (collects_like j.added.like c p (j.added.two l) j.added.are (record { number = j.number; worth = j.added.worth }));
         rearranged = λ u. absurd (not_unlike ts c p rest less j.added l u);
@@ -175,9 +175,6 @@ written c p ts rest less j l =
       fewer = fewer;
     }
   where
-    clash : true ≡ false → ⊥
-    clash e = cc
-
     part_names : Within (names p) (names c ++ (names p ++ names_of none))
     part_names =
         within_both (names p) (names c) (names p ++ names_of none) (within_trans (within_none (names p)) (within_eq (number_names c j.number)))

@@ -1,6 +1,4 @@
 pub mod Splits
-pub mod Names
-pub mod Nests
 pub mod Widths
 pub mod Opened
 pub mod Sums
@@ -23,7 +21,6 @@ pub mod Hindered
 pub mod CollectedParts
 pub mod CollectedCounts
 pub mod CollectedSpans
-pub mod CollectedPowers
 pub mod SumBytes
 pub mod Rooms
 pub mod Held

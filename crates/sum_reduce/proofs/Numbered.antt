@@ -1,6 +1,6 @@
 -- The Numbers among the terms become one.
 use Rattle.std.specs.Prelude.{Err, Option, MatchOption, is_some}
-use Rattle.std.proofs.Common.{ℕ, suc, ◌<◌, ◌≤◌, ◌≡◌, ◌++◌, [], ◌∷◌, Bool, true, false, refl, sym, ap, ◌∙◌, subst, arith}
+use Rattle.std.proofs.{Common.{ℕ, suc, ◌<◌, ◌≤◌, ◌≡◌, ◌++◌, [], ◌∷◌, true, false, refl, sym, ap, ◌∙◌, subst, arith}, lemmas.Bool.{true≢false}}
 use Rattle.sum_reduce.proofs.Shared.{and_parts, add_op, is_number, are_numbers, value, NoneIs, permuted_more, number_words, HasFewBits, PlainValue, fold_values, plain_value, Tree, add, Trees, none}
 use Rattle.sum_reduce.proofs.Shared.{more, append, count, is_num, are_rationals, number_parts, State, Overflow, addends_of_each, alone, NumberFault, nth, Forest, IsBehind, behind_first, behind_later}
 use Rattle.sum_reduce.proofs.Shared.{behind_new, front_same, front_at, front_put, front_without, put-put, num_number, sum_begun, plain_sum, first_of, fold_done, no_numbers, no_rationals}
@@ -10,6 +10,7 @@ use Rattle.sum_reduce.proofs.{Stages.{formed_permuted, stage_after, stage_permut
 use Rattle.tree_handles.specs.Roots.{put}
 use Rattle.like_children.specs.{Folds.{rational_of, rationals_of, IsTotal, AnswersTotal}, Joining.{AreJoined, IsNextOf}, Numbers.{numbers_in, others_in, IsNextNumber, NoNumberBetween}}
 use Rattle.like_children.proofs.{Places.{taken_permuted}, Permutations.{none_permuted}}
+use Rattle.coefficients.proofs.TermMultiples.{behind_none}
 
 -- Numbers among the terms were added to another: it is a Number, and none of the terms is
 pub record IsGathered (n : Tree) (ts : Trees) (m : Tree) (us : Trees) : Type 0 where
@@ -34,13 +35,9 @@ pub gathered : (n m : Tree) (ts : Trees) → is_number n ≡ true → AreFormed 
 gathered n m ts h f k j = record {
   number = k;
   no_number = none_number ts;
-  no_sum = λ s. none_behind is_loose (numbers_in ts) (others_in ts) (none_permuted is_loose (numbers_first ts) s);
+  no_sum = λ s. behind_none is_loose (numbers_in ts) (others_in ts) (none_permuted is_loose (numbers_first ts) s);
   stage = stage_after (numbers_led n ts h f) (added (numbers_in ts) (others_in ts) n m h (numbers_are ts) (formed_permuted (numbers_first ts) f) j);
 }
-  where
-    none_behind : (p : Tree → Bool) (ts us : Trees) → NoneIs p (append ts us) → NoneIs p us
-    none_behind p none us h = h
-    none_behind p (more t ts) us h = none_behind p ts us h.1
 
 -- one of them, and those before it added
 pub record IsNextAdded (n : Tree) (ts : Trees) (d x : Tree) : Type 0 where
@@ -129,12 +126,9 @@ total_folded v w m vs ws e t n q = record { q = t.q; plain = e ∙ t.plain; is =
 pub led_folded : (ts : Trees) → IsLed ts → are_rationals ts ≡ true → 1 ≤ count ts → IsFolded (plain_value (add ts)) ts
 led_folded ts h r l = by h.lead h.others h.split h.one h.no_number
   where
-    clash : true ≡ false → ⊥
-    clash e = cc
-
     no_rational : (us : Trees) → NoneIs is_number us → are_rationals us ≡ true → 1 ≤ count us → ⊥
     no_rational none n q m = absurd (omega arith)
-    no_rational (more t us) n q m = clash (sym (num_number t (and_parts (is_num t) (are_rationals us) q).0) ∙ n.0)
+    no_rational (more t us) n q m = true≢false (sym (num_number t (and_parts (is_num t) (are_rationals us) q).0) ∙ n.0)
 
     by : (lead os : Trees) → ts ≡ append lead os → IsLead lead → NoneIs is_number os → IsFolded (plain_value (add ts)) ts
     by none os e o n = absurd (no_rational ts (subst (NoneIs is_number) (sym e) n) r l)

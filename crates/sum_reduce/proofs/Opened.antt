@@ -1,10 +1,11 @@
 -- Sums among the terms are opened.
 use Rattle.std.proofs.Common.{◌≤◌, ◌≡◌, Bool, true, false, not, ◌&&◌, if◌then◌else◌, refl, ap, ◌∙◌, subst, arith}
-use Rattle.sum_reduce.proofs.Shared.{and_parts, nest, nest_of, is_number, are_numbers, HasForm, IsSumForm, NoneIs, Tree, add, Trees, none, more, append, count, names, names_of, is_add, HasTwo}
-use Rattle.sum_reduce.proofs.Shared.{AllParts, KeepsMeanings, KeepsMeanings-refl, KeepsMeanings-sum_append, flat_sum, number_test, AllPartsOf-append, children_of, append_none, count_append, width}
-use Rattle.sum_reduce.proofs.Shared.{widths, AreFormed, is_loose, terms_of_loose, opened, Within, within_same, within_beside, within_trans, within_eq, within_both, names_of-append, nest-append}
+use Rattle.sum_reduce.proofs.Shared.{and_parts, nest, nest_of, is_number, are_numbers, HasForm, IsSumForm, NoneIs, Tree, add, Trees, none, more, append, count, names, names_of, is_add, AllParts}
+use Rattle.sum_reduce.proofs.Shared.{KeepsMeanings, KeepsMeanings-refl, KeepsMeanings-sum_append, flat_sum, number_test, AllPartsOf-append, children_of, append_none, count_append, width, widths}
+use Rattle.sum_reduce.proofs.Shared.{AreFormed, is_loose, terms_of_loose, opened, Within, within_same, within_beside, within_trans, within_eq, within_both, names_of-append, nest-append}
 use Rattle.sum_reduce.proofs.Widths.{widths-append}
 use Rattle.like_children.specs.Opening.{Opens}
+use Rattle.coefficients.proofs.{Splits.{NoneIs-append}, Factors.{two_count}}
 
 -- ---- one tree
 
@@ -75,10 +76,6 @@ no_sums_tight : (ts : Trees) → NoneIs is_add ts → NoneIs is_loose ts
 no_sums_tight none h = tt
 no_sums_tight (more t ts) h = (no_sum_tight t h.0, no_sums_tight ts h.1)
 
-pub NoneIs-append : (p : Tree → Bool) (ts us : Trees) → NoneIs p ts → NoneIs p us → NoneIs p (append ts us)
-NoneIs-append p none us h k = k
-NoneIs-append p (more t ts) us h k = (h.0, NoneIs-append p ts us h.1 k)
-
 first_tight : (t : Tree) → AllParts HasForm t → NoneIs is_loose (terms_of_loose t)
 first_tight (add us) h = by (is_number (add us)) refl
   where
@@ -92,16 +89,7 @@ opened_tight none h = tt
 opened_tight (more t ts) h = NoneIs-append is_loose (terms_of_loose t) (opened ts) (first_tight t h.0) (opened_tight ts h.1)
 
 first_some : (t : Tree) → AllParts HasForm t → 1 ≤ count (terms_of_loose t)
-first_some (add us) h = by (is_number (add us)) refl
-  where
-    two : (ts : Trees) → HasTwo ts → 1 ≤ count ts
-    two none h = absurd h
-    two (more t ts) h = omega arith
-
-    by : (k : Bool) → is_number (add us) ≡ k → 1 ≤ count (if k then more (add us) none else us)
-    by true e = omega arith
-    by false e = two us (sum_form us h.0 e).two
-first_some t h = omega arith
+first_some t h = grind (arith, sum_form, two_count)
 
 pub opened_some : (ts : Trees) → AreFormed ts → 1 ≤ count ts → 1 ≤ count (opened ts)
 opened_some none h l = l

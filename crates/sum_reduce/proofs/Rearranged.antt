@@ -1,6 +1,6 @@
 -- The terms of a sum that change places, are opened or added, with their Numbers and the others.
 use Rattle.std.specs.Prelude.{IsPermutation}
-use Rattle.std.proofs.{Common.{◌≡◌, ◌≤◌, ◌++◌, [], Bool, true, false, if◌then◌else◌, refl, sym, ap, ◌∙◌, subst, arith, append_assoc}, lemmas.List.Sorted.{IsPermutation-refl, IsPermutation-trans}}
+use Rattle.std.proofs.{Common.{◌≡◌, ◌≤◌, ◌++◌, [], true, refl, sym, ap, ◌∙◌, subst, arith, append_assoc}, lemmas.List.Sorted.{IsPermutation-refl, IsPermutation-trans}}
 use Rattle.sum_reduce.proofs.Shared.{is_number, value, NoneIs, Same, Tree, Trees, none, more, append, count, Permuted, Permuted-refl, Permuted-sym, permuted_none, permuted_more, permuted_swap}
 use Rattle.sum_reduce.proofs.Shared.{permuted_trans, Permuted-append_right, Permuted-to_front, Same-Agree, Agree, Agree-refl, Agree-trans, Agree-eq, Agree-Same, Agree-append, append_comm}
 use Rattle.sum_reduce.proofs.Shared.{tree_cmp_total, list_of, number_in, number_out, numbers_in, others_in, sum_of_values, AreUnlike, IsRearranged, is_loose, is_partner, terms_of_loose, opened}
@@ -31,32 +31,14 @@ number_opened t ts h = ap (λ (x : Trees). append x (opened ts)) (tight_terms t 
 
 pub numbers_permuted : {ts us : Trees} → Permuted ts us → Permuted (numbers_in ts) (numbers_in us)
 numbers_permuted permuted_none = permuted_none
-numbers_permuted (permuted_more {t} {ts} {us} k) = by (is_number t) (numbers_permuted k)
-  where
-    by : (b : Bool) → Permuted (numbers_in ts) (numbers_in us) → Permuted (if b then more t (numbers_in ts) else numbers_in ts) (if b then more t (numbers_in us) else numbers_in us)
-    by true p = permuted_more p
-    by false p = p
-numbers_permuted (permuted_swap {t} {u} {ts}) = by (is_number t) (is_number u) (numbers_in ts)
-  where
-    by : (a b : Bool) (x : Trees)
-        → Permuted (if a then more t (if b then more u x else x) else (if b then more u x else x)) (if b then more u (if a then more t x else x) else (if a then more t x else x))
-    by true true x = permuted_swap
-    by a b x = Permuted-refl _
+numbers_permuted (permuted_more k) = grind (arith, numbers_permuted k, permuted_more)
+numbers_permuted permuted_swap = grind (arith, permuted_swap, Permuted-refl)
 numbers_permuted (permuted_trans k l) = permuted_trans (numbers_permuted k) (numbers_permuted l)
 
 pub others_permuted : {ts us : Trees} → Permuted ts us → Permuted (others_in ts) (others_in us)
 others_permuted permuted_none = permuted_none
-others_permuted (permuted_more {t} {ts} {us} k) = by (is_number t) (others_permuted k)
-  where
-    by : (b : Bool) → Permuted (others_in ts) (others_in us) → Permuted (if b then others_in ts else more t (others_in ts)) (if b then others_in us else more t (others_in us))
-    by true p = p
-    by false p = permuted_more p
-others_permuted (permuted_swap {t} {u} {ts}) = by (is_number t) (is_number u) (others_in ts)
-  where
-    by : (a b : Bool) (x : Trees)
-        → Permuted (if a then (if b then x else more u x) else more t (if b then x else more u x)) (if b then (if a then x else more t x) else more u (if a then x else more t x))
-    by false false x = permuted_swap
-    by a b x = Permuted-refl _
+others_permuted (permuted_more k) = grind (arith, others_permuted k, permuted_more)
+others_permuted permuted_swap = grind (arith, permuted_swap, Permuted-refl)
 others_permuted (permuted_trans k l) = permuted_trans (others_permuted k) (others_permuted l)
 
 -- ---- their values

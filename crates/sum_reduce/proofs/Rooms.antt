@@ -1,21 +1,18 @@
 -- How many bytes the terms of a sum have while they are collected, and for how few at hand that is refused.
 use Rattle.std.proofs.Common.{◌≡◌, ℕ, suc, ◌+◌, ◌*◌, ◌^◌, ◌<◌, ◌≤◌, List, length, Bool, true, false, if◌then◌else◌, refl, ap, ◌∙◌, subst, arith}
-use Rattle.sum_reduce.proofs.Shared.{first_parts, last_parts, permuted_parts, count_removed, sizes_taken, and_from, is_number, NoneIs, are_reduced, Permuted, permuted_none, permuted_more}
-use Rattle.sum_reduce.proofs.Shared.{permuted_swap, permuted_trans, number_words, counted, counted_among, SpansRoot, SpansTree, SpansTrees, Tree, add, Trees, none, more, append, count, size}
-use Rattle.sum_reduce.proofs.Shared.{with_coefficient, put_room, parts_reduced, IsPairAt, State, free_of, removed, number_size, IsArranged, IsLead, AreLike, Collects, IsJoining, AreFormed, is_partner}
-use Rattle.sum_reduce.proofs.{Shared.{nth, inserted, counted_in_all, sum_count}, CollectedCounts.{collected_counts}, CollectedParts.{part_parts}, CollectedSpans.{total_spans}}
+use Rattle.sum_reduce.proofs.Shared.{first_parts, permuted_parts, count_removed, sizes_taken, and_from, is_number, NoneIs, Permuted, permuted_none, permuted_more, permuted_swap, permuted_trans}
+use Rattle.sum_reduce.proofs.Shared.{number_words, counted, counted_among, SpansRoot, SpansTree, SpansTrees, Tree, add, Trees, none, more, append, count, size, with_coefficient, put_room, IsPairAt}
+use Rattle.sum_reduce.proofs.Shared.{State, free_of, removed, number_size, IsArranged, IsLead, AreLike, Collects, IsJoining, AreFormed, is_partner, nth, inserted, counted_in_all, sum_count}
+use Rattle.sum_reduce.proofs.{CollectedCounts.{collected_counts}, CollectedParts.{part_parts}, CollectedSpans.{total_spans}}
 use Rattle.calc_room.specs.Needs.{sum_need}
 use Rattle.coefficients.specs.Bytes.{bytes_of_taking, IsShort}
 use Rattle.node_pool.specs.declared.full.Full.{Full}
 use Rattle.sum_reduce.specs.Rooms.{terms_room}
-use Rattle.like_children.proofs.{Counted.{counted_at_most, counted_in, put_counted}, Places.{inserted_permuted, nth_behind_removed, taken_permuted}, Permutations.{of_lists}}
+use Rattle.like_children.proofs.{Counted.{counted_at_most, counted_in, put_counted}, Places.{inserted_permuted, nth_behind_removed, taken_permuted}, Permutations.{of_lists}, Parts.{formed_reduced}}
 use Rattle.tree_room.specs.Needs.{tree_bytes, sum_room}
-use Rattle.tree_room.proofs.{Coefficients.{part_counts}, Counts.{all_appended, counts_one, number_counts_one, numbers_and_others}, Handed.{sum_bytes}, Multiples.{scaled}}
+use Rattle.tree_room.proofs.{Coefficients.{part_counts}, Counts.{all_appended, counts_one, number_counts_one, numbers_and_others, appended}, Handed.{sum_bytes}, Multiples.{scaled}}
 pub use Rattle.number_forms.proofs.Rooms.{few_for_sum as few_lack}
-
-all_reduced : (ts : Trees) → AreFormed ts → are_reduced ts ≡ true
-all_reduced none h = refl
-all_reduced (more t ts) h = and_from _ _ (parts_reduced t h.0) (all_reduced ts h.1)
+use Rattle.coefficients.proofs.TermMultiples.{behind_parts}
 
 -- ---- counts
 
@@ -66,14 +63,10 @@ arranged_counts {ts = ts} {us = us} k f a =
       ap counted_in_all a.split,
       ap counted_among a.split,
       all_appended a.lead a.others,
-      among_appended a.lead a.others,
+      appended a.lead a.others,
       lead_counts a.lead a.one,
       other_counts a.others a.no_number,
     )
-  where
-    among_appended : (ts us : Trees) → counted_among us ≤ counted_among (append ts us)
-    among_appended none us = omega arith
-    among_appended (more t ts) us = omega (arith, among_appended ts us)
 
 -- ---- what is spanned
 
@@ -94,7 +87,7 @@ joining_spans gs ts c p rest less j s =
     record {
       coefficient = total_spans gs a.like c like (record { number = j.number; worth = a.worth });
       part = like_spans gs a.like p a.some a.are like;
-      others = last_parts (SpansRoot gs) a.like rest all;
+      others = behind_parts (SpansRoot gs) a.like rest all;
     }
 
 -- and the partner behind the part
@@ -109,14 +102,14 @@ spans_next gs us at w h =
 
 terms_bytes : (gs : List ℕ) (ts : Trees) (h : ℕ) → AreFormed ts → SpansTrees gs ts → sum_count ts ≤ h → size (add ts) ≤ tree_bytes h (2 ^ length gs)
 terms_bytes gs ts h f s l =
-    let a : size (add ts) ≤ 204 * sum_count ts * 2 ^ length gs = sum_bytes gs ts (all_reduced ts f) s in
+    let a : size (add ts) ≤ 204 * sum_count ts * 2 ^ length gs = sum_bytes gs ts (formed_reduced ts f) s in
     let b : 204 * sum_count ts * 2 ^ length gs ≤ 204 * h * 2 ^ length gs = scaled (204 * sum_count ts) (204 * h) (2 ^ length gs) (omega (arith, l)) in
     omega (arith, a, b)
 
 joining_bytes : (gs : List ℕ) (ts : Trees) (c p : Tree) (rest : Trees) (less : ℕ) → IsJoining ts c p rest less → SpansTrees gs ts → size (add (more p rest)) ≤ tree_bytes (sum_count ts) (2 ^ length gs)
 joining_bytes gs ts c p rest less j s =
     let w = joining_spans gs ts c p rest less j s in
-    let a : size (add (more p rest)) ≤ 204 * sum_count (more p rest) * 2 ^ length gs = sum_bytes gs (more p rest) (and_from _ _ j.monic.reduced (all_reduced rest j.formed)) (w.part, w.others) in
+    let a : size (add (more p rest)) ≤ 204 * sum_count (more p rest) * 2 ^ length gs = sum_bytes gs (more p rest) (and_from _ _ j.monic.reduced (formed_reduced rest j.formed)) (w.part, w.others) in
     let b : 204 * sum_count (more p rest) * 2 ^ length gs ≤ 204 * sum_count ts * 2 ^ length gs =
     scaled (204 * sum_count (more p rest)) (204 * sum_count ts) (2 ^ length gs) (omega (arith, joining_counts ts c p rest less j)) in
     omega (arith, a, b)
@@ -147,7 +140,7 @@ part_lacks gs ts c us at less free j l s k =
     let p = nth at us in
     let rest = removed at us in
     let w = joining_spans gs ts c p rest less j s in
-    let a : size (add rest) ≤ 204 * sum_count rest * 2 ^ length gs = sum_bytes gs rest (all_reduced rest j.formed) w.others in
+    let a : size (add rest) ≤ 204 * sum_count rest * 2 ^ length gs = sum_bytes gs rest (formed_reduced rest j.formed) w.others in
     let b : 204 * (counted p + sum_count rest) * 2 ^ length gs ≤ 204 * sum_count ts * 2 ^ length gs =
     scaled (204 * (counted p + sum_count rest)) (204 * sum_count ts) (2 ^ length gs) (omega (arith, joining_counts ts c p rest less j)) in
     omega (arith, a, b, sizes_taken at us l, k)

@@ -1,25 +1,15 @@
 -- What is answered for settled terms.
 use Rattle.std.specs.Prelude.{⊤, IsSortedByKey}
-use Rattle.std.proofs.Common.{suc, ◌≤◌, arith, add-one, ◌≡◌, Bool, true, false, ◌||◌, if◌then◌else◌, refl, sym, ap, ◌∙◌, subst}
-use Rattle.sum_reduce.proofs.Shared.{Ordering, Less, is_eq, is_lt, ordering_reverse, and_parts, nest, nest_of, is_number, are_numbers, part_of, NoneIs, RisesBy, HasForm, is_reduced, are_reduced}
-use Rattle.sum_reduce.proofs.Shared.{tree_cmp, Tree, undef, add, Trees, none, more, append, count, names, names_of, is_add, is_undef, AllParts, in_add, has_undef, KeepsMeanings, single_sum}
-use Rattle.sum_reduce.proofs.Shared.{number_test, numbers_defined, tree_cmp_total, parts_reduced, parts_defined, reduced_parts, list_of, keeps, reduces_after, NoPairBetween, IsLead, IsSettled}
-use Rattle.sum_reduce.proofs.Shared.{IsStage, IsSumAnswer, AreFormed, is_loose, is_partner, terms_of_number, sum_tree, written_tree, Within, no_new_name, within_left, within_none}
-use Rattle.sum_reduce.proofs.WrittenSums.{AreOthers, written_sum, written_formed, written_keeps, written_names, written_nest}
+use Rattle.std.proofs.{Common.{suc, ◌≤◌, arith, add-one, ◌≡◌, Bool, true, false, if◌then◌else◌, refl, sym, ap, ◌∙◌, subst}, lemmas.Bool.{true≢false}}
+use Rattle.sum_reduce.proofs.Shared.{Ordering, Less, is_eq, is_lt, ordering_reverse, nest, nest_of, is_number, are_numbers, part_of, NoneIs, RisesBy, HasForm, is_reduced, tree_cmp, Tree, undef, add}
+use Rattle.sum_reduce.proofs.Shared.{Trees, none, more, append, count, names, names_of, is_add, AllParts, in_add, has_undef, KeepsMeanings, single_sum, number_test, numbers_defined, tree_cmp_total}
+use Rattle.sum_reduce.proofs.Shared.{parts_reduced, parts_defined, list_of, keeps, reduces_after, NoPairBetween, IsLead, IsSettled, IsStage, IsSumAnswer, AreFormed, is_loose, is_partner}
+use Rattle.sum_reduce.proofs.{Shared.{terms_of_number, sum_tree, written_tree, Within, no_new_name, within_left, within_none}, WrittenSums.{AreOthers, written_sum, written_formed, written_keeps}}
+use Rattle.sum_reduce.proofs.WrittenSums.{written_names, written_nest}
 use Rattle.calc_algebra.proofs.UndefRewrites.{undef_part}
 use Rattle.tree_handles.proofs.UndefChildren.{undef_inside}
 
 -- ---- reduced terms
-
-or_none : (a b : Bool) → (a || b) ≡ false → (a ≡ false) × (b ≡ false)
-or_none a b h = grind arith
-
-pub reduced_formed : (ts : Trees) → are_reduced ts ≡ true → has_undef ts ≡ false → AreFormed ts
-reduced_formed none h d = tt
-reduced_formed (more t ts) h d =
-    let (a, b) = and_parts (is_reduced t) (are_reduced ts) h in
-    let (x, y) = or_none (is_undef t) (has_undef ts) d in
-    (reduced_parts t a x, reduced_formed ts b y)
 
 -- ---- Undef
 
@@ -28,12 +18,9 @@ unfolding is_reduced
 undef_answer ts h = record {
   reduces = record { reduced = refl; no_new_name = no_new_name (within_none (names_of ts)); meanings = keeps (undef_part (add ts) (in_add (undef_inside ts h))) };
   undefined = sym h;
-  number = λ e. absurd (clash (sym h ∙ numbers_defined ts e));
+  number = λ e. absurd (true≢false (sym h ∙ numbers_defined ts e));
   nest = omega arith;
 }
-  where
-    clash : true ≡ false → ⊥
-    clash e = cc
 
 -- ---- parts that rise strictly
 

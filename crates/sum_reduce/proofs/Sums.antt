@@ -1,16 +1,17 @@
 -- Roots that are sums, from call to call.
-use Rattle.std.proofs.Common.{ℕ, ◌<◌, ◌≡◌, List, [], ◌∷◌, eqb, true, false, refl, sym, ap, ◌∙◌, subst, arith}
-use Rattle.sum_reduce.proofs.Shared.{Tree, Trees, add, none, more, count, is_add, State, IsOver, over_sum, over_handed, over_plain, over_put, over_same, over_end, over_beside, without_put, once_count}
-use Rattle.sum_reduce.proofs.Shared.{children_in, live, expression, seen, nth, plain, inserted, children_of, IsExpression, Forest, arity, kids, root_count, tree_nth, without_nth, with_nth, merged_nth}
-use Rattle.sum_reduce.proofs.Shared.{IsOnce, IsHanded, Represents, Ends, Gives, KeepsFront, holds, tree_at, kids_of, root_tree, without_root, Stands, forest, arity-tree_nth, IsBehind, behind_first}
-use Rattle.sum_reduce.proofs.Shared.{behind_later, behind_new, front_same, front_at, front_end, front_put, front_without, gives, gives_as, given_handed, given_root, given_rest, given_same, given_told}
-use Rattle.sum_reduce.proofs.Shared.{given_other, given_without, handed_by_put, represents_handed, represents_with, apart, other_apart, kids_of_root, last_tree, eqb-sym, root-put, put-put, put-same}
-use Rattle.sum_reduce.proofs.Shared.{tree-put, without-put, represents_nth, represents_without, represents_merged, terms_in, IsSum, Changes, Takes, removed}
+use Rattle.std.proofs.Common.{ℕ, ◌<◌, ◌≡◌, List, [], ◌∷◌, eqb, true, false, refl, sym, ap, ◌∙◌, subst, arith, inl}
+use Rattle.sum_reduce.proofs.Shared.{Tree, Trees, add, none, more, count, is_add, State, IsOver, over_sum, over_handed, over_plain, over_put, over_same, over_end, over_beside, without_put, live}
+use Rattle.sum_reduce.proofs.Shared.{expression, seen, nth, plain, inserted, children_of, IsExpression, Forest, arity, kids, root_count, tree_nth, without_nth, with_nth, merged_nth, IsHanded}
+use Rattle.sum_reduce.proofs.Shared.{Represents, Ends, Gives, KeepsFront, holds, tree_at, kids_of, root_tree, without_root, Stands, forest, IsBehind, behind_first, behind_later, behind_new}
+use Rattle.sum_reduce.proofs.Shared.{front_same, front_at, front_end, front_put, front_without, gives, gives_as, given_handed, given_root, given_rest, given_same, given_told, given_other}
+use Rattle.sum_reduce.proofs.Shared.{given_without, handed_by_put, represents_handed, represents_with, apart, other_apart, last_tree, eqb-sym, root-put, put-put, put-same, tree-put, without-put}
+use Rattle.sum_reduce.proofs.Shared.{represents_nth, represents_without, represents_merged, terms_in, IsSum, Changes, Takes, removed}
 use Rattle.coefficients.proofs.Loops.{set_removed}
 use Rattle.coefficients.specs.Pairs.{GivesTwo}
-use Rattle.tree_handles.proofs.{Cuts.{represents_count}, Beside.{gives_without}, Filling.{hole_behind}, Roots.{put-left, tree-left}, Counted.{all-tree_nth}}
+use Rattle.tree_handles.proofs.{Cuts.{represents_count}, Beside.{gives_without}, Filling.{hole_behind}, Roots.{put-left, tree-left}}
 use Rattle.tree_handles.specs.{Holes.{ChangesTree, IsHole, Place, set_child, set_tree}, Forest.{join}, Roots.{has_root, put}}
 use Rattle.like_children.specs.Children.{LeavesChildren}
+use Rattle.like_children.proofs.Many.{many, child_within, child_once}
 use Rattle.calc_terms.specs.declared.kind.Kind.TheVariants as kind
 
 -- ---- a sum
@@ -33,20 +34,14 @@ sum_expression e st h = expression e st h.handed
 pub sum_seen : {s : State} {i j : ℕ} → j ≡ i → Stands s → IsSum i (forest s) → children_of (plain (tree_at j (forest s))) ≡ terms_in i (forest s)
 sum_seen e st h = ap children_of (seen e st h.handed)
 
-sum_arity : {s : State} {i : ℕ} → Stands s → IsSum i (forest s) → arity (kids_of i (forest s)) ≡ count (terms_in i (forest s))
-sum_arity st h = children_in st (sum_over h)
-
 pub sum_within : {s : State} {i : ℕ} (n : ℕ) → Stands s → IsSum i (forest s) → n < count (terms_in i (forest s)) → n < arity (kids_of i (forest s))
-sum_within n st h l = omega (arith, sum_arity st h)
+sum_within n st h l = child_within n st (many h.handed (inl h.sum)) l
 
 pub root_within : {i : ℕ} {f : Forest} (n : ℕ) → IsSum i f → n < count (terms_in i f) → n < arity (kids (root_tree i f))
 root_within n h l = omega (arith, represents_count (sum_over h).kids)
 
 pub sum_once : {s : State} {i : ℕ} (n : ℕ) → Stands s → IsSum i (forest s) → n < count (terms_in i (forest s)) → root_count (tree_nth n (kids_of i (forest s))) ≡ 1
-sum_once {s = s} {i = i} n st h l =
-    subst (λ (k : Forest). root_count (tree_nth n k) ≡ 1) (sym (kids_of_root i st h.handed.root))
-    (once_count (tree_nth n (kids (root_tree i (forest s)))) (arity-tree_nth n (kids (root_tree i (forest s))) (root_within n h l))
-    (all-tree_nth IsOnce n (kids (root_tree i (forest s))) (sum_over h).kids.once))
+sum_once n st h l = child_once n st (many h.handed (inl h.sum)) l
 
 -- ---- its terms change
 

@@ -1,10 +1,11 @@
 -- The width of terms.
-use Rattle.std.proofs.Common.{suc, ◌+◌, ◌≤◌, ◌≡◌, ◌≢◌, ◌⊎◌, inl, inr, Bool, true, false, not, if◌then◌else◌, refl, sym, ap, ◌∙◌, subst, arith}
+use Rattle.std.proofs.Common.{suc, ◌+◌, ◌≤◌, ◌≡◌, ◌≢◌, ◌⊎◌, inl, inr, Bool, true, false, if◌then◌else◌, refl, sym, ap, ◌∙◌, subst, arith}
 use Rattle.sum_reduce.proofs.Shared.{Fraction, zero_fraction, is_zero_fraction, is_one_fraction, is_number, IsNumber, IsTerm, split_product, product_tree, part_of, NoneIs, HasForm, Tree, num, add}
-use Rattle.sum_reduce.proofs.Shared.{mult, root, Trees, none, more, append, nodes, nodes_of, is_add, AllParts, AllPartsOf, no_zero, Permuted, permuted_none, permuted_more, permuted_swap}
-use Rattle.sum_reduce.proofs.Shared.{permuted_trans, number_test, IsMonic, with_coefficient, rational_before, mapped, rational_times_term, rational_times_sum, put, zero_or_not, monic_sum}
-use Rattle.sum_reduce.proofs.{Shared.{monic_no_number, monic_parts, number_of_term, IsFactor, scaled, not_one_is, EachTerm, each_term, multiple, width, widths}, Splits.{split_cases}}
+use Rattle.sum_reduce.proofs.Shared.{mult, root, Trees, none, more, append, nodes, nodes_of, is_add, AllParts, AllPartsOf, Permuted, permuted_none, permuted_more, permuted_swap, permuted_trans}
+use Rattle.sum_reduce.proofs.Shared.{number_test, IsMonic, with_coefficient, rational_before, mapped, rational_times_term, rational_times_sum, put, zero_or_not, monic_sum, monic_no_number}
+use Rattle.sum_reduce.proofs.{Shared.{monic_parts, number_of_term, IsFactor, scaled, not_one_is, EachTerm, each_term, multiple, width, widths}, Splits.{split_cases}}
 pub use Rattle.tree_room.proofs.NodeCounts.{some_node}
+use Rattle.tree_bits.proofs.ExponentBits.{nothing_is}
 
 -- ---- one term
 
@@ -94,15 +95,10 @@ coefficient_width c p h m = elim (zero_or_not c) [
   | inr z ↦ by z (is_add (with_coefficient c p)) refl
 ]
   where
-    not_from_false : {b : Bool} → b ≡ false → not b ≡ true
-    not_from_false e = ap not e
-
     zero_width : width (with_coefficient (num zero_fraction) p) ≤ nodes p
-    zero_width = ap_width (is_zero_fraction zero_fraction) refl
-      where
-        ap_width : (b : Bool) → is_zero_fraction zero_fraction ≡ b → width (if b then num zero_fraction else (if is_one_fraction zero_fraction then p else rational_before zero_fraction p)) ≤ nodes p
-        ap_width true e = omega (arith, width_number (num zero_fraction) (number_test (num zero_fraction) tt), some_node p)
-        ap_width false e = absurd (no_zero zero_fraction (not_from_false e) refl)
+    zero_width =
+        let zero = ap (λ (b : Bool). width (if b then num zero_fraction else (if is_one_fraction zero_fraction then p else rational_before zero_fraction p))) nothing_is in
+        omega (arith, zero, width_number (num zero_fraction) (number_test (num zero_fraction) tt), some_node p)
 
     by : c ≢ num zero_fraction → (b : Bool) → is_add (with_coefficient c p) ≡ b → width (with_coefficient c p) ≤ nodes p
     by z false e = let x = put c p h z m in omega (arith, width_other (with_coefficient c p) x.no_number e, ap nodes (x.part e))

@@ -2,6 +2,7 @@
 use Rattle.std.proofs.Common.{nat_lt, ℕ, ◌≤◌, ◌<◌, ◌≡◌, Bool, true, false, if◌then◌else◌, refl, sym, ap, ◌∙◌, arith}
 use Rattle.sum_reduce.proofs.Shared.{ltb-true, by_test, is_number, Tree, Trees, none, more, append, count, is_add, is_zero, nth, children_of, removed, terms_of_number, sum_tree, leads_number}
 use Rattle.sum_reduce.proofs.Shared.{written_tree}
+use Rattle.like_children.proofs.NumbersIn.{count_append}
 
 pub spread_zero : (t : Tree) (us : Trees) → is_zero t ≡ true → us ≡ append (terms_of_number t) us
 spread_zero t us h = grind arith
@@ -30,12 +31,8 @@ not_above n l = by_test (λ b. nat_lt 1 n ≡ b → b ≡ false) (nat_lt 1 n) (�
 pub leads_few : (n : ℕ) (ts : Trees) → n ≤ 1 → n ≡ count ts → nat_lt 1 n ≡ leads_number ts
 leads_few n ts l e = not_above n l ∙ sym (leads_none ts (λ k. absurd (omega (arith, l, e, k))))
 
-count_behind : (ts us : Trees) → count us ≤ count (append ts us)
-count_behind none us = omega arith
-count_behind (more t ts) us = omega (arith, count_behind ts us)
-
 pub spread_some : (ts : Trees) → leads_number ts ≡ true → 1 ≤ count (append (terms_of_number (nth 0 ts)) (removed 0 ts))
-spread_some ts h = grind (arith, count_behind)
+spread_some ts h = grind (arith, count_append)
 
 pub written_led : (ts : Trees) → leads_number ts ≡ true → sum_tree (append (terms_of_number (nth 0 ts)) (removed 0 ts)) ≡ written_tree ts
 written_led ts h = sym (ap (λ (b : Bool). if b then sum_tree (append (terms_of_number (nth 0 ts)) (removed 0 ts)) else sum_tree ts) h)

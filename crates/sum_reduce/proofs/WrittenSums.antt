@@ -1,11 +1,12 @@
 -- A Number's terms and other terms whose parts rise are a reduced sum, with the meanings, the names and the nest of its parts.
-use Rattle.std.proofs.Common.{◌≡◌, inl, inr, ◌≤◌, true, if◌then◌else◌, sym, ap, ◌∙◌, arith}
+use Rattle.std.proofs.Common.{◌≡◌, inl, inr, ◌≤◌, true, if◌then◌else◌, sym, ap, ◌∙◌, arith, [], Bool}
 use Rattle.like_children.proofs.Addends.{number_terms-terms, other_terms-terms}
 use Rattle.sum_reduce.proofs.Shared.{zero_fraction, nest, nest_of, is_number, terms_of, IsNumber, IsTerm, AreTerms, Rises, part_of, HasForm, NoneIs, RisesBy, Tree, num, add, Trees, none, more, append}
 use Rattle.sum_reduce.proofs.Shared.{names, names_of, AllParts, AllPartsOf, HasTwo, is_add, KeepsMeanings, KeepsMeanings-eq, KeepsMeanings-trans, flat_sum, zero_goes, empty_sum, single_sum, zero_test}
 use Rattle.sum_reduce.proofs.Shared.{number_words, AsNumber, as_number, AllPartsOf-append, terms_parts, terms_of_number, sum_tree, Within, within_same, within_both, within_beside, within_trans}
-use Rattle.sum_reduce.proofs.{Shared.{within_left, within_eq, names_of-append, nest-append}, Opened.{NoneIs-append}}
+use Rattle.sum_reduce.proofs.Shared.{within_left, within_eq, names_of-append, nest-append, value, surd_of}
 use Rattle.tree_bits.proofs.ExponentBits.{nothing_is}
+use Rattle.coefficients.proofs.{SumMultiples.{terms_no_sum}, Splits.{NoneIs-append}}
 
 -- a Number's terms, and then the other terms
 abbrev pub written_sum : Tree → Trees → Tree
@@ -23,14 +24,13 @@ pub record AreOthers (us : Trees) : Type 0 where
 pub zero_terms : (a : Tree) → a ≡ num zero_fraction → terms_of_number a ≡ none
 zero_terms a e = ap terms_of_number e ∙ ap (λ b. if b then none else more (num zero_fraction) none) nothing_is
 
+pub zero_value : value (num zero_fraction) ≡ []
+zero_value = ap (λ (b : Bool). if b then [] else surd_of zero_fraction) nothing_is
+
 pub term_in : (a : Tree) → IsTerm a → terms_of_number a ≡ more a none
 term_in a h = grind (arith, zero_test)
 
 -- ---- which terms make the Number
-
-no_sum_terms : (ts : Trees) → AreTerms ts → NoneIs is_add ts
-no_sum_terms none h = tt
-no_sum_terms (more t ts) h = grind (arith, no_sum_terms ts h.1)
 
 -- the terms of a Number: rising, in their form, and none of them a sum
 pub record AreNumberTerms (ts : Trees) : Type 0 where
@@ -42,7 +42,7 @@ number_terms_in a h = grind (arith, as_number, zero_terms, term_in)
 
 -- two terms or more in the form of a sum
 sum_formed : (ts us : Trees) → AreNumberTerms ts → AreOthers us → HasTwo (append ts us) → AllParts HasForm (add (append ts us))
-sum_formed ts us n o h = grind (arith, NoneIs-append, no_sum_terms, number_terms-terms, other_terms-terms, AllPartsOf-append, terms_parts)
+sum_formed ts us n o h = grind (arith, NoneIs-append, terms_no_sum, number_terms-terms, other_terms-terms, AllPartsOf-append, terms_parts)
 
 any_formed : (ts : Trees) → (HasTwo ts → AllParts HasForm (add ts)) → AllPartsOf HasForm ts → AllParts HasForm (sum_tree ts)
 any_formed ts f h = grind arith

@@ -1,4 +1,4 @@
-use Rattle.like_children.proofs.{Shared.{suc, ◌∙◌, sym, subst, arith, add-one, children_of, tree_of, forest, are_alike}, Items.{children_count, next_child, last_child, children_told}}
+use Rattle.like_children.proofs.{Shared.{suc, ◌∙◌, sym, subst, arith, add-one, children_of, tree_of, forest, are_alike, rules}, Items.{children_count, next_child, last_child, children_told}}
 use Rattle.like_children.proofs.Pairs.{key_valid, key_as, one_key, no_pair_more}
 use Rattle.like_children.proofs.neighbours.next_pair.Goals as goal
 
@@ -9,13 +9,10 @@ pub returns-in_err-next-clause-pair : goal.returns-in_err-next-clause-pair
 returns-in_err-next-clause-pair g c =
     rw c.from_residual.ensures (λ k f l. absurd (omega (arith, last_child {n = c.args.from} c.requires.stands c.requires.handed (rw (← c.id.ensures) c.child_ids-ids.ensures) c.in_err-next.ensures.steps.0, f, l)))
 
-pub key_if_any-left-requires-clause-tree : goal.key_if_any-left-requires-clause-tree
-key_if_any-left-requires-clause-tree g c = (next_child {n = c.args.from} c.requires.stands c.requires.handed (rw (← c.id.ensures) c.child_ids-ids.ensures) c.in_ok-next.ensures.steps).expression
-
-pub key_if_any-left-requires-clause-told : goal.key_if_any-left-requires-clause-told
-key_if_any-left-requires-clause-told g c =
+pub key_if_any-left-requires : goal.key_if_any-left-requires
+key_if_any-left-requires g c =
     let t = next_child {n = c.args.from} c.requires.stands c.requires.handed (rw (← c.id.ensures) c.child_ids-ids.ensures) c.in_ok-next.ensures.steps in
-    subst g.L.Likes.can_tell (sym t.tree) (c.requires.told c.args.from t.within)
+    record { stands = search rules; tree = t.expression; told = subst g.L.Likes.can_tell (sym t.tree) (c.requires.told c.args.from t.within) }
 
 pub overflow_sub-at-end : goal.overflow_sub-at-end
 overflow_sub-at-end g c =
@@ -38,13 +35,10 @@ returns-in_err-next-2-clause-pair g c =
     let i = c.loop-at.invariant in
     rw c.from_residual-in_err-next-2.ensures (λ k f l. i.apart k f (omega (arith, last_child {n = suc c.loop-at.at} c.requires.stands c.requires.handed i.ids c.in_err-next-2.ensures.steps.0, l)))
 
-pub key_if_any-right-requires-clause-tree : goal.key_if_any-right-requires-clause-tree
-key_if_any-right-requires-clause-tree g c = (next_child {n = suc c.loop-at.at} c.requires.stands c.requires.handed c.loop-at.invariant.ids c.in_ok-next-2.ensures.steps).expression
-
-pub key_if_any-right-requires-clause-told : goal.key_if_any-right-requires-clause-told
-key_if_any-right-requires-clause-told g c =
+pub key_if_any-right-requires : goal.key_if_any-right-requires
+key_if_any-right-requires g c =
     let t = next_child {n = suc c.loop-at.at} c.requires.stands c.requires.handed c.loop-at.invariant.ids c.in_ok-next-2.ensures.steps in
-    subst g.L.Likes.can_tell (sym t.tree) (c.requires.told (suc c.loop-at.at) t.within)
+    record { stands = search rules; tree = t.expression; told = subst g.L.Likes.can_tell (sym t.tree) (c.requires.told (suc c.loop-at.at) t.within) }
 
 pub have_one_key-requires-clause-first : goal.have_one_key-requires-clause-first
 have_one_key-requires-clause-first g c = key_valid g.L.Likes.has_key g.L.Likes.key_of _ (forest c.args.pool.now) _ c.loop-at.invariant.left

@@ -1,5 +1,5 @@
-use Rattle.like_children.proofs.{Shared.{ap, ◌∙◌, sym, arith, add-one, is_number, is_reduced, children_of, tree_of}, Items.{children_count, children_told, next_child, last_child}}
-use Rattle.like_children.proofs.Before.{no_number_more}
+use Rattle.like_children.proofs.{Shared.{ap, ◌∙◌, sym, arith, add-one, is_number, is_reduced, children_of, tree_of, rules}, Items.{children_count, children_told, next_child, last_child}}
+use Rattle.like_children.proofs.Folds.{no_number_more}
 use Rattle.like_children.proofs.numbers.next_number.Goals as goal
 
 pub child_ids-ids-requires-clause-within : goal.child_ids-ids-requires-clause-within
@@ -16,13 +16,10 @@ pub returns-in_err-next : goal.returns-in_err-next
 returns-in_err-next c =
     rw c.from_residual.ensures (λ k f l. c.loop-at.invariant.none k f (omega (arith, last_child c.requires.stands c.requires.handed c.loop-at.invariant.ids c.in_err-next.ensures.steps.0, l)))
 
-pub is_reduced_number-requires-clause-expression : goal.is_reduced_number-requires-clause-expression
-is_reduced_number-requires-clause-expression c = (next_child c.requires.stands c.requires.handed c.loop-at.invariant.ids c.in_ok-next.ensures.steps).expression
-
-pub is_reduced_number-requires-clause-reduced : goal.is_reduced_number-requires-clause-reduced
-is_reduced_number-requires-clause-reduced c =
+pub is_reduced_number-requires : goal.is_reduced_number-requires
+is_reduced_number-requires c =
     let t = next_child c.requires.stands c.requires.handed c.loop-at.invariant.ids c.in_ok-next.ensures.steps in
-    ap is_reduced t.tree ∙ c.requires.reduced c.loop-at.at t.within
+    record { stands = search rules; expression = t.expression; reduced = ap is_reduced t.tree ∙ c.requires.reduced c.loop-at.at t.within }
 
 pub returns-then-is_reduced_number : goal.returns-then-is_reduced_number
 returns-then-is_reduced_number c =

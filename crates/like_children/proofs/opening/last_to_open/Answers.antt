@@ -1,17 +1,14 @@
-use Rattle.like_children.proofs.{Shared.{sym, subst, arith, add-one, Tree, Opens, children_of, tree_of}, Items.{next_child, last_child}, Openings.{last_still, last_here}}
+use Rattle.like_children.proofs.{Shared.{sym, subst, arith, add-one, Tree, Opens, children_of, tree_of, rules}, Items.{next_child, last_child}, Openings.{last_still, last_here}}
 use Rattle.like_children.proofs.opening.last_to_open.Goals.{then-opens, else-opens}
 use Rattle.like_children.proofs.opening.last_to_open.Goals as goal
 
 pub returns-in_err-next : goal.returns-in_err-next
 returns-in_err-next g c = absurd (omega (arith, last_child c.requires.stands c.requires.handed c.loop-at.invariant.ids c.in_err-next.ensures.steps.0, c.loop-at-test.true, c.requires.within))
 
-pub opens-requires-clause-tree : goal.opens-requires-clause-tree
-opens-requires-clause-tree g c = (next_child c.requires.stands c.requires.handed c.loop-at.invariant.ids c.in_ok-next.ensures.steps).expression
-
-pub opens-requires-clause-told : goal.opens-requires-clause-told
-opens-requires-clause-told g c =
+pub opens-requires : goal.opens-requires
+opens-requires g c =
     let t = next_child c.requires.stands c.requires.handed c.loop-at.invariant.ids c.in_ok-next.ensures.steps in
-    subst g.O.Opens.can_tell (sym t.tree) (c.requires.told c.loop-at.at c.loop-at-test.true)
+    record { stands = search rules; tree = t.expression; told = subst g.O.Opens.can_tell (sym t.tree) (c.requires.told c.loop-at.at c.loop-at-test.true) }
 
 pub loop-at-preserved : goal.loop-at-preserved
 loop-at-preserved g c =

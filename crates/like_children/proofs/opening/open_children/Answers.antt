@@ -28,21 +28,14 @@ last_to_open-requires g c =
       told = λ n l. subst g.O.Opens.can_tell (sym (ap (nth n) e ∙ nth_before g.O.Opens.parts n c.loop-at.first ts l i.few)) (c.requires.told n (omega (arith, l, i.few)));
     }
 
-pub merge_children-requires-clause-within : goal.merge_children-requires-clause-within
-merge_children-requires-clause-within g c =
+pub merge_children-requires : goal.merge_children-requires
+merge_children-requires g c =
     let i = c.loop-at.invariant in
     let ts = children_of (tree_of c.args.parent.now c.args.pool.now) in
     let m = has_many (many c.requires.handed c.requires.many) i.opened in
     let last = subst (IsLastToOpen g.O.Opens.parts c.in-Some.at c.loop-at.first) (many_children m) c.in-Some.ensures in
-    child_within c.in-Some.at i.stands m (found g.O.Opens.parts c.in-Some.at c.loop-at.first ts i.few last).within
-
-pub merge_children-requires-clause-unshared : goal.merge_children-requires-clause-unshared
-merge_children-requires-clause-unshared g c =
-    let i = c.loop-at.invariant in
-    let ts = children_of (tree_of c.args.parent.now c.args.pool.now) in
-    let m = has_many (many c.requires.handed c.requires.many) i.opened in
-    let last = subst (IsLastToOpen g.O.Opens.parts c.in-Some.at c.loop-at.first) (many_children m) c.in-Some.ensures in
-    child_once c.in-Some.at i.stands m (found g.O.Opens.parts c.in-Some.at c.loop-at.first ts i.few last).within
+    let w = (found g.O.Opens.parts c.in-Some.at c.loop-at.first ts i.few last).within in
+    record { stands = search rules; within = child_within c.in-Some.at i.stands m w; unshared = child_once c.in-Some.at i.stands m w }
 
 pub loop-at-preserved : goal.loop-at-preserved
 loop-at-preserved g c =

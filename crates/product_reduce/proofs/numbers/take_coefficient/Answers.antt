@@ -20,58 +20,38 @@ collect_numbers-requires c =
 
 -- ---- what it answers
 
-pub returns-clause-taken : goal.returns-clause-taken
-returns-clause-taken c =
+pub returns : goal.returns
+returns c =
     let w = c.in_ok-first.ensures.ok in
     let e = seen c.requires.product w in
-    let same = ap others_in (factors_are e.product) ∙ w.begun.others in
-    if_ok_map c.collect_numbers.result c.collect_numbers.ensures.ok
-    (λ h k. taken_out c.requires.product w.left
-    (subst (λ (us : Trees). LeavesChildren c.args.product.now us (without_root c.in_ok-first.first (forest c.take_first_number.new.pool)) (forest c.collect_numbers.new.pool) h) same k))
-
-pub returns-clause-coefficient : goal.returns-clause-coefficient
-returns-clause-coefficient c =
-    let w = c.in_ok-first.ensures.ok in
-    let e = seen c.requires.product w in
-    if_ok_both c.collect_numbers.result c.collect_numbers.ensures.number c.collect_numbers.ensures.joined
-    (λ h n j. multiplied _ w.us _ _ w.begun n (subst (λ (us : Trees). AreJoined surd_times (tree_of c.in_ok-first.first c.take_first_number.new.pool) (numbers_in us) (tree_of h c.collect_numbers.new.pool)) (factors_are e.product) j))
-
-pub returns-clause-rationals : goal.returns-clause-rationals
-returns-clause-rationals c q m =
-    let w = c.in_ok-first.ensures.ok in
-    let e = seen c.requires.product w in
-    let f = w.begun.folded q m in
-    let same = ap (λ (us : Trees). fold_values mul_op (rational_of (tree_of c.in_ok-first.first c.take_first_number.new.pool)) (rationals_of us)) (sym (factors_are e.product)) in
-    total_answer _ _ c.collect_numbers.new.pool c.collect_numbers.result (f.plain ∙ same) (c.collect_numbers.ensures.rationals f.rational (ap are_rationals (factors_are e.product) ∙ f.rationals))
-
-pub returns-clause-overflow : goal.returns-clause-overflow
-returns-clause-overflow c =
-    let w = c.in_ok-first.ensures.ok in
-    let e = seen c.requires.product w in
-    refused_as c.collect_numbers.result c.collect_numbers.ensures.overflow
-    (λ o h. next_misfit _ w.us _ w.begun o
-    (subst (λ (us : Trees). (s : IsNextOf surd_times (tree_of c.in_ok-first.first c.take_first_number.new.pool) (numbers_in us)) × NamesProduct s.so_far s.next o) (factors_are e.product) h))
-
-pub returns-clause-bits : goal.returns-clause-bits
-returns-clause-bits c h l a few =
-    let w = c.in_ok-first.ensures.ok in
-    let e = seen c.requires.product w in
-    c.collect_numbers.ensures.bits
-    (subst (λ (us : Trees). (s : IsNextOf surd_times (tree_of c.in_ok-first.first c.take_first_number.new.pool) (numbers_in us)) → HasFewBits (surd_times (value s.so_far) (value s.next)))
-    (sym (factors_are e.product)) (next_fits _ w.us _ h l w.begun a few))
-
-pub returns-clause-room : goal.returns-clause-room
-returns-clause-room c gs s =
-    let w = c.in_ok-first.ensures.ok in
-    let e = seen c.requires.product w in
-    let both = w.begun.spanned gs s in
+    let own = factors_are e.product in
+    let first = tree_of c.in_ok-first.first c.take_first_number.new.pool in
+    let collect = c.collect_numbers.ensures in
     let free = begun_free c.requires.stands c.in_ok-first.ensures.stands c.in_ok-first.ensures.kept (many c.requires.product.handed (inr (ap is_mult c.requires.product.tree))) w in
-    result_lacks c.collect_numbers.result _ _ (c.collect_numbers.ensures.room gs both.0 (subst (SpansTrees gs) (sym (factors_are e.product)) both.1)) (λ f l. omega (arith, l, free))
-
-pub returns-clause-front : goal.returns-clause-front
-returns-clause-front c =
-    let w = c.in_ok-first.ensures.ok in
-    front_after_two behind_first (behind_new w.left.given.ends (front_put w.left.kids behind_first front_same)) c.in_ok-first.ensures.front c.collect_numbers.ensures.front
+    record {
+      taken = if_ok_map c.collect_numbers.result collect.ok
+          (λ h k. taken_out c.requires.product w.left (subst
+          (λ (us : Trees). LeavesChildren c.args.product.now us (without_root c.in_ok-first.first (forest c.take_first_number.new.pool)) (forest c.collect_numbers.new.pool) h)
+          (ap others_in own ∙ w.begun.others) k));
+      coefficient = if_ok_both c.collect_numbers.result collect.number collect.joined
+          (λ h n j. multiplied _ w.us _ _ w.begun n (subst (λ (us : Trees). AreJoined surd_times first (numbers_in us) (tree_of h c.collect_numbers.new.pool)) own j));
+      rationals = λ q m.
+          let f = w.begun.folded q m in
+          let same = ap (λ (us : Trees). fold_values mul_op (rational_of first) (rationals_of us)) (sym own) in
+          total_answer _ _ c.collect_numbers.new.pool c.collect_numbers.result (f.plain ∙ same) (collect.rationals f.rational (ap are_rationals own ∙ f.rationals));
+      overflow = refused_as c.collect_numbers.result collect.overflow
+          (λ o h. next_misfit _ w.us _ w.begun o (subst (λ (us : Trees). (s : IsNextOf surd_times first (numbers_in us)) × NamesProduct s.so_far s.next o) own h));
+      bits = λ h l a few. collect.bits
+          (subst (λ (us : Trees). (s : IsNextOf surd_times first (numbers_in us)) → HasFewBits (surd_times (value s.so_far) (value s.next))) (sym own) (next_fits _ w.us _ h l w.begun a few));
+      room = λ gs s.
+          let both = w.begun.spanned gs s in
+          result_lacks c.collect_numbers.result _ _ (collect.room gs both.0 (subst (SpansTrees gs) (sym own) both.1)) (λ f l. omega (arith, l, free));
+      front = front_after_two behind_first (behind_new w.left.given.ends (front_put w.left.kids behind_first front_same)) c.in_ok-first.ensures.front collect.front;
+      kept = search rules;
+      faults = search rules;
+      caused = collect.caused;
+      stands = collect.stands;
+    }
 
 -- ---- bytes that are lacking for a 1
 

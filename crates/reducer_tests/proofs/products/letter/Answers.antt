@@ -1,6 +1,6 @@
 use Rattle.std.proofs.Common.{sym, subst, refl}
 use Rattle.reducer_tests.proofs.Shared.{IsMonic, gives_as}
-use Rattle.product_reduce.proofs.Small.{symbol_monic}
+use Rattle.coefficients.proofs.Factors.{symbol_monic}
 use Rattle.reducer_tests.proofs.products.letter.Goals as goal
 
 pub returns-clause-ok : goal.returns-clause-ok

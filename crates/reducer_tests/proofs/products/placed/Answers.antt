@@ -1,6 +1,7 @@
 use Rattle.std.proofs.Common.{◌∙◌, ap, pos, negsuc, refl}
 use Rattle.reducer_tests.proofs.Shared.{is_number, is_reduced, num, symbol, power, root, gives_as}
-use Rattle.product_reduce.proofs.{Results.{if_ok_map}, Small.{number_reduced, whole_value, root_two, root_three, root_six, square_reduced, inverse_square_reduced, opaque_reduced}}
+use Rattle.product_reduce.proofs.{Results.{if_ok_map}, Small.{whole_value, root_two, root_three, root_six, square_reduced, inverse_square_reduced, opaque_reduced}}
+use Rattle.coefficients.proofs.Forms.{number_reduced}
 use Rattle.reducer_tests.proofs.products.placed.Goals as goal
 
 pub root-requires-clause-number : goal.root-requires-clause-number

@@ -1,8 +1,8 @@
 use Rattle.std.proofs.Common.{◌≡◌, ◌∙◌, ap, refl, arith}
 use Rattle.reducer_tests.proofs.Shared.{count, are_reduced, tree_of, forest, given_root, given_told, given_rest, apart, eqb-sym, factors_in}
 use Rattle.product_reduce.proofs.{Beside.{beside_given, beside_apart}, Products.{becomes_same, factors_are, product_live, product_expression, product_children}, Small.{empty_product, own_factors}}
-use Rattle.product_reduce.proofs.Small.{placed_beside, put_beside, reduced_inserted, moved_product}
-use Rattle.like_children.proofs.Places.{count_inserted}
+use Rattle.product_reduce.proofs.Small.{placed_beside, put_beside, moved_product}
+use Rattle.like_children.proofs.Places.{reduced_inserted, count_inserted}
 use Rattle.reducer_tests.proofs.products.product.Goals as goal
 
 pub loop-piece-init : goal.loop-piece-init

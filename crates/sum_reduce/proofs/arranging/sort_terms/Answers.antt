@@ -18,20 +18,14 @@ sort_children-requires-clause-keyed c =
       ap (λ (x : Trees). is_number (nth n x)) e ∙ led_behind ts c.requires.led n (omega (arith, c.lead_count-lead.ensures c.requires.led, z)) m,
     )
 
-pub returns-clause-changes : goal.returns-clause-changes
-returns-clause-changes c = (children_sorted c.requires.sum c.requires.led (c.lead_count-lead.ensures c.requires.led) c.requires.flat c.sort_children.ensures.sorts).changed.changes
-
-pub returns-clause-stage : goal.returns-clause-stage
-returns-clause-stage c =
+pub returns : goal.returns
+returns c =
     let s = children_sorted c.requires.sum c.requires.led (c.lead_count-lead.ensures c.requires.led) c.requires.flat c.sort_children.ensures.sorts in
-    subst (IsStage (terms_in c.args.sum.now (forest c.args.pool.now))) (sym s.changed.terms) (stage_permuted s.ordered.permuted c.requires.formed c.requires.some)
-
-pub returns-clause-arranged : goal.returns-clause-arranged
-returns-clause-arranged c =
-    let s = children_sorted c.requires.sum c.requires.led (c.lead_count-lead.ensures c.requires.led) c.requires.flat c.sort_children.ensures.sorts in
-    subst IsArranged (sym s.changed.terms) s.ordered.arranged
-
-pub returns-clause-alone : goal.returns-clause-alone
-returns-clause-alone c =
-    let s = children_sorted c.requires.sum c.requires.led (c.lead_count-lead.ensures c.requires.led) c.requires.flat c.sort_children.ensures.sorts in
-    λ e. s.changed.terms ∙ few_same s.ordered.permuted (omega (arith, e))
+    record {
+      changes = s.changed.changes;
+      stage = subst (IsStage (terms_in c.args.sum.now (forest c.args.pool.now))) (sym s.changed.terms) (stage_permuted s.ordered.permuted c.requires.formed c.requires.some);
+      arranged = subst IsArranged (sym s.changed.terms) s.ordered.arranged;
+      alone = λ e. s.changed.terms ∙ few_same s.ordered.permuted (omega (arith, e));
+      kept = c.sort_children.ensures.kept;
+      stands = c.sort_children.ensures.stands;
+    }

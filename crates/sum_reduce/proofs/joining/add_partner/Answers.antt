@@ -35,48 +35,37 @@ add_numbers-requires c =
           ∙ number_test (coefficient_of t) (taken t c.requires.reduced c.requires.defined c.requires.no_number).number;
     }
 
-pub returns-clause-ok : goal.returns-clause-ok
-returns-clause-ok c =
+pub returns : goal.returns
+returns c =
     let o = term_out c.args.at c.requires.sum c.requires.within (c.take_child-term.ensures.last c.requires.sum.handed.root) in
     let r = rewritten o.takes c.in_ok-coefficient.ensures.ok in
-    if_map c.add_numbers.result _ _ c.add_numbers.ensures.ok (λ h k. (both_rewritten c.requires.apart c.requires.handed r.takes k).takes)
-
-pub returns-clause-terms : goal.returns-clause-terms
-returns-clause-terms c =
-    let o = term_out c.args.at c.requires.sum c.requires.within (c.take_child-term.ensures.last c.requires.sum.handed.root) in
-    let r = rewritten o.takes c.in_ok-coefficient.ensures.ok in
-    if_map c.add_numbers.result _ _ c.add_numbers.ensures.ok (λ h k. (both_rewritten c.requires.apart c.requires.handed r.takes k).terms ∙ r.terms ∙ o.terms)
-
-pub returns-clause-number : goal.returns-clause-number
-returns-clause-number c =
-    let o = term_out c.args.at c.requires.sum c.requires.within (c.take_child-term.ensures.last c.requires.sum.handed.root) in
-    let r = rewritten o.takes c.in_ok-coefficient.ensures.ok in
+    let add = c.add_numbers.ensures in
+    let ts = terms_in c.args.sum.now (forest c.args.pool.now) in
     let same = given_told c.in_ok-coefficient.ensures.ok ∙ ap coefficient_of o.tree in
-    if_ok_both c.add_numbers.result c.add_numbers.ensures.ok c.add_numbers.ensures.measured
-    (λ h k m. let t = given_told k in record {
-      number = t.number;
-      worth = rw (other_same c.requires.apart c.requires.handed r.takes, same) at t.worth;
-      parts = rw (other_same c.requires.apart c.requires.handed r.takes, same) at m.parts;
-    })
-
-pub returns-clause-front : goal.returns-clause-front
-returns-clause-front c =
-    let o = term_out c.args.at c.requires.sum c.requires.within (c.take_child-term.ensures.last c.requires.sum.handed.root) in
-    let r = rewritten o.takes c.in_ok-coefficient.ensures.ok in
-    front_after_two (behind_later behind_first) (takes_behind r.takes) (takes_front r.takes) c.add_numbers.ensures.front
+    let before = other_same c.requires.apart c.requires.handed r.takes in
+    let kept = keeps_after _ _ _ c.take_child-term.ensures.kept c.in_ok-coefficient.ensures.kept in
+    let free = takes_free c.requires.stands c.in_ok-coefficient.ensures.stands kept r.takes in
+    record {
+      ok = if_map c.add_numbers.result _ _ add.ok (λ h k. (both_rewritten c.requires.apart c.requires.handed r.takes k).takes);
+      terms = if_map c.add_numbers.result _ _ add.ok (λ h k. (both_rewritten c.requires.apart c.requires.handed r.takes k).terms ∙ r.terms ∙ o.terms);
+      number = if_ok_both c.add_numbers.result add.ok add.measured
+          (λ h k m. let t = given_told k in record { number = t.number; worth = rw (before, same) at t.worth; parts = rw (before, same) at m.parts });
+      front = front_after_two (behind_later behind_first) (takes_behind r.takes) (takes_front r.takes) add.front;
+      kept = search rules;
+      faults = search rules;
+      caused = add.caused;
+      overflow = result_named c.add_numbers.result _ _ (numbers_named _ _ c.add_numbers.new.pool c.add_numbers.result add.rationals add.overflow) (λ x h. names_as x before same h);
+      bits = λ b. add.bits (subst HasFewBits (λ i. value (sym before i) ++ value (sym same i)) b);
+      room = λ gs s t. result_lacks c.add_numbers.result _ _
+          (add.room gs (subst (SpansTree gs) (sym before) s) (subst (SpansTree gs) (sym same) (coefficient_parts (SpansRoot gs) (λ q. tt) (λ vs. tt) (λ vs. tt) (nth c.args.at ts) t)))
+          (λ f l. omega (arith, l, free, ap size before, ap sizes (r.terms ∙ o.terms), sizes_taken c.args.at ts c.requires.within));
+      stands = add.stands;
+    }
 
 pub returns-in_err-coefficient-clause-front : goal.returns-in_err-coefficient-clause-front
 returns-in_err-coefficient-clause-front c =
     let o = term_out c.args.at c.requires.sum c.requires.within (c.take_child-term.ensures.last c.requires.sum.handed.root) in
     front_after_one (takes_behind o.takes) (takes_front o.takes) c.coefficient_alone.ensures.front
-
-pub returns-clause-overflow : goal.returns-clause-overflow
-returns-clause-overflow c =
-    let o = term_out c.args.at c.requires.sum c.requires.within (c.take_child-term.ensures.last c.requires.sum.handed.root) in
-    let r = rewritten o.takes c.in_ok-coefficient.ensures.ok in
-    let same = given_told c.in_ok-coefficient.ensures.ok ∙ ap coefficient_of o.tree in
-    result_named c.add_numbers.result _ _ (numbers_named _ _ c.add_numbers.new.pool c.add_numbers.result c.add_numbers.ensures.rationals c.add_numbers.ensures.overflow)
-    (λ x h. names_as x (other_same c.requires.apart c.requires.handed r.takes) same h)
 
 pub returns-in_err-coefficient-clause-room : goal.returns-in_err-coefficient-clause-room
 returns-in_err-coefficient-clause-room c = λ gs s t.
@@ -84,25 +73,3 @@ returns-in_err-coefficient-clause-room c = λ gs s t.
     let free = out_free c.requires.stands c.take_child-term.ensures.stands c.take_child-term.ensures.kept c.requires.within o in
     refusal_lacks c.from_residual.result c.in_err-coefficient.field-0.0 _ c.from_residual.ensures.1
     (number_lacks gs (tree_of c.args.so_far c.args.pool.now) (free_of c.args.pool.now) c.requires.so_far s (subst (λ (n : ℕ). n < 40) free c.in_err-coefficient.ensures.room))
-
-pub returns-clause-room : goal.returns-clause-room
-returns-clause-room c = λ gs s t.
-    let o = term_out c.args.at c.requires.sum c.requires.within (c.take_child-term.ensures.last c.requires.sum.handed.root) in
-    let r = rewritten o.takes c.in_ok-coefficient.ensures.ok in
-    let ts = terms_in c.args.sum.now (forest c.args.pool.now) in
-    let same = given_told c.in_ok-coefficient.ensures.ok ∙ ap coefficient_of o.tree in
-    let kept = keeps_after _ _ _ c.take_child-term.ensures.kept c.in_ok-coefficient.ensures.kept in
-    let free = takes_free c.requires.stands c.in_ok-coefficient.ensures.stands kept r.takes in
-    let before = other_same c.requires.apart c.requires.handed r.takes in
-    result_lacks c.add_numbers.result _ _
-    (c.add_numbers.ensures.room gs (subst (SpansTree gs) (sym before) s)
-    (subst (SpansTree gs) (sym same) (coefficient_parts (SpansRoot gs) (λ q. tt) (λ vs. tt) (λ vs. tt) (nth c.args.at ts) t)))
-    (λ f l. omega (arith, l, free, ap size before, ap sizes (r.terms ∙ o.terms), sizes_taken c.args.at ts c.requires.within))
-
-pub returns-clause-bits : goal.returns-clause-bits
-returns-clause-bits c = λ b.
-    let o = term_out c.args.at c.requires.sum c.requires.within (c.take_child-term.ensures.last c.requires.sum.handed.root) in
-    let r = rewritten o.takes c.in_ok-coefficient.ensures.ok in
-    let same = given_told c.in_ok-coefficient.ensures.ok ∙ ap coefficient_of o.tree in
-    let before = other_same c.requires.apart c.requires.handed r.takes in
-    c.add_numbers.ensures.bits (subst HasFewBits (λ i. value (sym before i) ++ value (sym same i)) b)

@@ -49,34 +49,29 @@ loop-pool-preserved c =
       stands = c.add_partner.ensures.stands;
     }
 
-pub returns-in-Err-clause-front : goal.returns-in-Err-clause-front
-returns-in-Err-clause-front c =
-    let i = c.loop-pool.invariant in
-    front_after_two behind_first (beside_behind c.requires.taken.1 (i.takes _ c.requires.taken.1)) i.front c.add_partner.ensures.front
-
-pub returns-in-Err-clause-overflow : goal.returns-in-Err-clause-overflow
-returns-in-Err-clause-overflow c = λ ts less j.
+pub returns-in-Err : goal.returns-in-Err
+returns-in-Err c =
     let i = c.loop-pool.invariant in
     let us = terms_in c.args.sum.now (forest c.loop-pool.pool) in
     let d = tree_of c.loop-pool.total c.loop-pool.pool in
-    fault_named c.in-Err.fault (NamesSum d (coefficient_of (nth (suc c.args.at) us))) (Overflows ts) (rw add-one at c.in-Err.ensures.overflow)
-    (partner_hinders ts d us c.args.at less (i.joining ts less j) (c.is_pair.ensures.pair c.loop-pool-test.true))
-
-pub returns-in-Err-clause-room : goal.returns-in-Err-clause-room
-returns-in-Err-clause-room c = λ ts less j gs s.
-    let i = c.loop-pool.invariant in
-    let us = terms_in c.args.sum.now (forest c.loop-pool.pool) in
-    let d = tree_of c.loop-pool.total c.loop-pool.pool in
-    let k = i.joining ts less j in
-    let w = joining_spans gs ts d (nth c.args.at us) (removed c.args.at us) less k s in
-    let next = spans_next gs us c.args.at w (c.is_pair.ensures.pair c.loop-pool-test.true) in
-    let free = taken_free c.requires.stands i.stands i.kept c.requires.taken.1 (i.takes _ c.requires.taken.1) in
-    full_as c.in-Err.fault (c.in-Err.ensures.room gs w.coefficient (rw add-one next))
-    (λ full l. omega (arith, partner_lacks gs ts d us c.args.at less (free_of c.loop-pool.pool) k i.within s l, free))
-
-pub returns-in-Err-clause-bits : goal.returns-in-Err-clause-bits
-returns-in-Err-clause-bits c = λ ts less j b.
-    let i = c.loop-pool.invariant in
-    let us = terms_in c.args.sum.now (forest c.loop-pool.pool) in
-    let d = tree_of c.loop-pool.total c.loop-pool.pool in
-    c.in-Err.ensures.bits (rw add-one (next_partner_few ts d us c.args.at less (i.joining ts less j) (c.is_pair.ensures.pair c.loop-pool-test.true) b))
+    let pair = c.is_pair.ensures.pair c.loop-pool-test.true in
+    let told = c.in-Err.ensures in
+    record {
+      ok = λ f t. tt;
+      within = tt;
+      joining = λ ts less j. tt;
+      front = front_after_two behind_first (beside_behind c.requires.taken.1 (i.takes _ c.requires.taken.1)) i.front c.add_partner.ensures.front;
+      kept = tt;
+      faults = search rules;
+      caused = told.caused;
+      overflow = λ ts less j. fault_named c.in-Err.fault (NamesSum d (coefficient_of (nth (suc c.args.at) us))) (Overflows ts) (rw add-one at told.overflow)
+          (partner_hinders ts d us c.args.at less (i.joining ts less j) pair);
+      bits = λ ts less j b. told.bits (rw add-one (next_partner_few ts d us c.args.at less (i.joining ts less j) pair b));
+      room = λ ts less j gs s.
+          let k = i.joining ts less j in
+          let w = joining_spans gs ts d (nth c.args.at us) (removed c.args.at us) less k s in
+          let free = taken_free c.requires.stands i.stands i.kept c.requires.taken.1 (i.takes _ c.requires.taken.1) in
+          full_as c.in-Err.fault (told.room gs w.coefficient (rw add-one (spans_next gs us c.args.at w pair)))
+          (λ full l. omega (arith, partner_lacks gs ts d us c.args.at less (free_of c.loop-pool.pool) k i.within s l, free));
+      stands = c.add_partner.ensures.stands;
+    }

@@ -1,9 +1,9 @@
 use Rattle.std.proofs.Common.{◌<◌, ◌≤◌, ◌+◌, sym, subst, add-one, arith, rules, ℕ}
 use Rattle.sum_reduce.proofs.Shared.{Trees, nth, Forest, forest, State, tree_of, behind_first, front_after_two, IsStage, IsJoining, Takes, widths, nodes, terms_in, passed_named, result_named}
 use Rattle.sum_reduce.proofs.{Shared.{Overflows, free_of, removed, passed_lacks, refusal_lacks, result_lacks, keeps_after, sum_count, addends_of_each}, Joins.{IsBegun, begins, next_partner}}
-use Rattle.sum_reduce.proofs.{Joins.{partner_within, joining_formed, two_joined, joining_done, joined_others, pair_here}, Results.{on_ok_map}, Sums.{takes_handed, takes_apart, takes_after}}
-use Rattle.sum_reduce.proofs.{Sums.{takes_behind, takes_front, takes_changes}, Widths.{some_node}, Hindered.{partner_hinders, part_hinders}, Rooms.{joined_counts, joining_spans, spans_next}}
-use Rattle.sum_reduce.proofs.{Rooms.{terms_lack, few_lack, partner_lacks, part_lacks}, SumBytes.{takes_free}, FewBits.{next_partner_few}, Held.{few_after}}
+use Rattle.sum_reduce.proofs.{Joins.{partner_within, joining_formed, two_joined, joining_done, joined_others, pair_here, joined_within}, Results.{on_ok_map}, Sums.{takes_handed, takes_apart}}
+use Rattle.sum_reduce.proofs.{Sums.{takes_after, takes_behind, takes_front, takes_changes}, Widths.{some_node}, Hindered.{partner_hinders, part_hinders}, Rooms.{joined_counts, joining_spans}}
+use Rattle.sum_reduce.proofs.{Rooms.{spans_next, terms_lack, few_lack, partner_lacks, part_lacks}, SumBytes.{takes_free}, FewBits.{next_partner_few}, Held.{few_after}}
 use Rattle.sum_reduce.proofs.joining.join_terms.Goals.{In_ok-coefficient, In_ok-both, In_ok-total}
 use Rattle.sum_reduce.proofs.joining.join_terms.Goals as goal
 
@@ -67,32 +67,35 @@ put_back-requires c =
 
 -- ---- the joined terms
 
-pub returns-clause-ok : goal.returns-clause-ok
-returns-clause-ok c = grind (arith, on_ok_map, takes_changes, total, both)
-
-pub returns-clause-stage : goal.returns-clause-stage
-returns-clause-stage c =
-    let s = goal.at.returns-clause-stage c in
+pub returns : goal.returns
+returns c =
+    let s = goal.at.returns c in
     let d = total s.In_ok-total (both s.In_ok-both) in
-    on_ok_map c.put_back.result c.put_back.ensures.terms (λ e. subst (IsStage (terms_in c.args.sum.now (forest c.args.pool.now))) (sym e) (joining_done _ _ _ _ _ c.args.at d.joining d.less).stage)
-
-pub returns-clause-fewer : goal.returns-clause-fewer
-returns-clause-fewer c =
-    let s = goal.at.returns-clause-fewer c in
-    let d = total s.In_ok-total (both s.In_ok-both) in
-    on_ok_map c.put_back.result c.put_back.ensures.terms
-    (λ e. subst (λ (x : Trees). widths x < widths (terms_in c.args.sum.now (forest c.args.pool.now))) (sym e) (joining_done _ _ _ _ _ c.args.at d.joining d.less).fewer)
-
-pub returns-clause-counts : goal.returns-clause-counts
-returns-clause-counts c =
-    let s = goal.at.returns-clause-counts c in
-    on_ok_map c.put_back.result c.put_back.ensures.terms (λ e. joined_counts _ _ _ _ _ _ c.args.at (total s.In_ok-total (both s.In_ok-both)).joining e)
-
-pub returns-clause-others : goal.returns-clause-others
-returns-clause-others c =
-    let s = goal.at.returns-clause-others c in
-    let d = total s.In_ok-total (both s.In_ok-both) in
-    on_ok_map c.put_back.result c.put_back.ensures.terms (joined_others c.args.at _ (terms_in c.args.sum.now (forest c.add_partners.new.pool)) _ c.in_ok-total.ensures.within d.joining.no_sum)
+    let ts = terms_in c.args.sum.now (forest c.args.pool.now) in
+    let vs = terms_in c.args.sum.now (forest c.add_partners.new.pool) in
+    let put = c.put_back.ensures in
+    let done = joining_done _ _ _ _ _ c.args.at d.joining d.less in
+    let kept = keeps_after _ _ _ (keeps_after _ _ _ c.in_ok-coefficient.ensures.kept c.in_ok-both.ensures.kept) c.in_ok-total.ensures.kept in
+    let free = takes_free c.requires.stands c.in_ok-total.ensures.stands kept d.takes in
+    record {
+      ok = on_ok_map c.put_back.result put.ok (λ x. takes_changes d.takes x);
+      stage = on_ok_map c.put_back.result put.terms (λ e. subst (IsStage ts) (sym e) done.stage);
+      fewer = on_ok_map c.put_back.result put.terms (λ e. subst (λ (x : Trees). widths x < widths ts) (sym e) done.fewer);
+      counts = on_ok_map c.put_back.result put.terms (λ e. joined_counts _ _ _ _ _ _ c.args.at d.joining e);
+      within = on_ok_map c.put_back.result put.terms (λ e. joined_within c.args.at _ vs _ c.in_ok-total.ensures.within e);
+      others = on_ok_map c.put_back.result put.terms (joined_others c.args.at _ vs _ c.in_ok-total.ensures.within d.joining.no_sum);
+      front = front_after_two behind_first (takes_behind d.takes) (takes_front d.takes) put.front;
+      kept = search rules;
+      faults = search rules;
+      caused = put.caused;
+      overflow = result_named c.put_back.result _ _ put.overflow (part_hinders d.joining d.less);
+      bits = λ b. put.bits (addends_of_each (removed c.args.at vs)) d.joining.monic (few_after d.joining.held b);
+      room = λ gs s.
+          let w = joining_spans gs ts _ (nth c.args.at vs) (removed c.args.at vs) _ d.joining s in
+          result_lacks c.put_back.result _ _ (put.room gs d.joining.number w.coefficient w.part)
+          (λ full l. omega (arith, part_lacks gs ts _ vs c.args.at _ (free_of c.add_partners.new.pool) d.joining c.in_ok-total.ensures.within s l, free));
+      stands = put.stands;
+    }
 
 -- ---- what stood first stays first
 
@@ -101,12 +104,6 @@ returns-in_err-both-clause-front c = let t = c.in_ok-coefficient.ensures.ok in f
 
 pub returns-in_err-total-clause-front : goal.returns-in_err-total-clause-front
 returns-in_err-total-clause-front c = let t = (both (goal.at.returns-in_err-total-clause-front c).In_ok-both).takes in front_after_two behind_first (takes_behind t) (takes_front t) c.add_partners.ensures.front
-
-pub returns-clause-front : goal.returns-clause-front
-returns-clause-front c =
-    let s = goal.at.returns-clause-front c in
-    let t = (total s.In_ok-total (both s.In_ok-both)).takes in
-    front_after_two behind_first (takes_behind t) (takes_front t) c.put_back.ensures.front
 
 -- ---- what is refused
 
@@ -122,12 +119,6 @@ returns-in_err-total-clause-overflow c =
     let ts = terms_in c.args.sum.now (forest c.args.pool.now) in
     passed_named c.from_residual-in_err-total.result c.in_err-total.field-0.0 (Overflows ts) (Overflows ts) c.from_residual-in_err-total.ensures.1 (c.in_err-total.ensures.overflow ts _ k.joining)
     (λ x h. h)
-
-pub returns-clause-overflow : goal.returns-clause-overflow
-returns-clause-overflow c =
-    let s = goal.at.returns-clause-overflow c in
-    let d = total s.In_ok-total (both s.In_ok-both) in
-    result_named c.put_back.result _ _ c.put_back.ensures.overflow (part_hinders d.joining d.less)
 
 pub returns-in_err-coefficient-clause-room : goal.returns-in_err-coefficient-clause-room
 returns-in_err-coefficient-clause-room c = λ gs s.
@@ -153,18 +144,6 @@ returns-in_err-total-clause-room c = λ gs s.
     passed_lacks c.from_residual-in_err-total.result c.in_err-total.field-0.0 _ _ c.from_residual-in_err-total.ensures.1 (c.in_err-total.ensures.room _ _ k.joining gs s)
     (λ full l. omega (arith, l, free))
 
-pub returns-clause-room : goal.returns-clause-room
-returns-clause-room c = λ gs s.
-    let x = goal.at.returns-clause-room c in
-    let d = total x.In_ok-total (both x.In_ok-both) in
-    let ts = terms_in c.args.sum.now (forest c.args.pool.now) in
-    let vs = terms_in c.args.sum.now (forest c.add_partners.new.pool) in
-    let w = joining_spans gs ts _ (nth c.args.at vs) (removed c.args.at vs) _ d.joining s in
-    let kept = keeps_after _ _ _ (keeps_after _ _ _ c.in_ok-coefficient.ensures.kept c.in_ok-both.ensures.kept) c.in_ok-total.ensures.kept in
-    let free = takes_free c.requires.stands c.in_ok-total.ensures.stands kept d.takes in
-    result_lacks c.put_back.result _ _ (c.put_back.ensures.room gs d.joining.number w.coefficient w.part)
-    (λ full l. omega (arith, part_lacks gs ts _ vs c.args.at _ (free_of c.add_partners.new.pool) d.joining c.in_ok-total.ensures.within s l, free))
-
 pub returns-in_err-both-clause-bits : goal.returns-in_err-both-clause-bits
 returns-in_err-both-clause-bits c = λ b.
     let k = begun (goal.at.returns-in_err-both-clause-bits c).In_ok-coefficient in
@@ -175,9 +154,3 @@ pub returns-in_err-total-clause-bits : goal.returns-in_err-total-clause-bits
 returns-in_err-total-clause-bits c = λ b.
     let k = both (goal.at.returns-in_err-total-clause-bits c).In_ok-both in
     passed_named c.from_residual-in_err-total.result c.in_err-total.field-0.0 (λ o. ⊥) (λ o. ⊥) c.from_residual-in_err-total.ensures.1 (c.in_err-total.ensures.bits _ _ k.joining b) (λ x h. h)
-
-pub returns-clause-bits : goal.returns-clause-bits
-returns-clause-bits c = λ b.
-    let s = goal.at.returns-clause-bits c in
-    let d = (total s.In_ok-total (both s.In_ok-both)).joining in
-    c.put_back.ensures.bits (addends_of_each (removed c.args.at (terms_in c.args.sum.now (forest c.add_partners.new.pool)))) d.monic (few_after d.held b)

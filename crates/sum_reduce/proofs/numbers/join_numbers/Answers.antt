@@ -34,55 +34,65 @@ add_child-requires c =
       apart = roots_apart c.in_ok-total-in-Some.ensures.stands t;
     }
 
-pub returns-in_ok-total-in-Some-clause-ok : goal.returns-in_ok-total-in-Some-clause-ok
-returns-in_ok-total-in-Some-clause-ok c =
+pub returns-in_ok-total-in-Some : goal.returns-in_ok-total-in-Some
+returns-in_ok-total-in-Some c =
     let o = term_out c.in-Some.at c.requires.sum c.in-Some.ensures.within (c.take_child-number.ensures.last c.requires.sum.handed.root) in
-    let t = (taken_on o.takes c.in_ok-total-in-Some.ensures.ok).takes in
-    let x = put_in 0 t (c.add_child.ensures.root t.sum.handed.root) in
-    x.changes
-
-pub returns-in_ok-total-in-Some-clause-joined : goal.returns-in_ok-total-in-Some-clause-joined
-returns-in_ok-total-in-Some-clause-joined c =
-    let o = term_out c.in-Some.at c.requires.sum c.in-Some.ensures.within (c.take_child-number.ensures.last c.requires.sum.handed.root) in
-    let t = (taken_on o.takes c.in_ok-total-in-Some.ensures.ok).takes in
-    let x = put_in 0 t (c.add_child.ensures.root t.sum.handed.root) in
+    let total = c.in_ok-total-in-Some.ensures in
+    let left = taken_on o.takes total.ok in
+    let x = put_in 0 left.takes (c.add_child.ensures.root left.takes.sum.handed.root) in
     let ts = terms_in c.args.sum.now (forest c.args.pool.now) in
+    let us = terms_in c.args.sum.now (forest c.take_child-number.new.pool) in
     let formed = formed_behind c.in-Some.at ts _ c.in-Some.ensures.within c.requires.formed o.terms in
-    let all = gathered _ _ (terms_in c.args.sum.now (forest c.take_child-number.new.pool)) (ap is_number o.tree ∙ c.in-Some.ensures.number) formed c.in_ok-total-in-Some.ensures.number c.in_ok-total-in-Some.ensures.joined in
-    numbered c.in-Some.at ts _ _ _ _ _ c.in-Some.ensures c.requires.formed c.requires.some o.terms o.tree all
-    (x.terms ∙ ap (more (tree_of c.in_ok-total-in-Some.total c.collect_numbers.new.pool)) (taken_on o.takes c.in_ok-total-in-Some.ensures.ok).terms)
+    let all = gathered _ _ us (ap is_number o.tree ∙ c.in-Some.ensures.number) formed total.number total.joined in
+    record {
+      ok = x.changes;
+      joined = numbered c.in-Some.at ts _ _ _ _ _ c.in-Some.ensures c.requires.formed c.requires.some o.terms o.tree all
+          (x.terms ∙ ap (more (tree_of c.in_ok-total-in-Some.total c.collect_numbers.new.pool)) left.terms);
+      rationals = λ q.
+          let r = rationals_taken c.in-Some.at ts _ _ c.in-Some.ensures q o.terms o.tree in
+          total_folded _ _ _ _ _ r.plain (total.rationals r.first r.others) (left.terms ∙ rational_others us r.others) x.terms;
+      front = changes_front x.changes;
+      kept = search rules;
+      faults = tt;
+      caused = tt;
+      overflow = tt;
+      bits = λ b. tt;
+      room = λ gs s. tt;
+      stands = c.add_child.ensures.stands;
+    }
 
-pub returns-in_ok-total-in-Some-clause-rationals : goal.returns-in_ok-total-in-Some-clause-rationals
-returns-in_ok-total-in-Some-clause-rationals c =
-    λ q.
+pub returns-in_err-total-in-Some : goal.returns-in_err-total-in-Some
+returns-in_err-total-in-Some c =
+    let ts = terms_in c.args.sum.now (forest c.args.pool.now) in
     let o = term_out c.in-Some.at c.requires.sum c.in-Some.ensures.within (c.take_child-number.ensures.last c.requires.sum.handed.root) in
-    let t = (taken_on o.takes c.in_ok-total-in-Some.ensures.ok).takes in
-    let x = put_in 0 t (c.add_child.ensures.root t.sum.handed.root) in
-    let r = rationals_taken c.in-Some.at (terms_in c.args.sum.now (forest c.args.pool.now)) _ _ c.in-Some.ensures q o.terms o.tree in
-    let left = (taken_on o.takes c.in_ok-total-in-Some.ensures.ok).terms ∙ rational_others (terms_in c.args.sum.now (forest c.take_child-number.new.pool)) r.others in
-    total_folded _ _ _ _ _ r.plain (c.in_ok-total-in-Some.ensures.rationals r.first r.others) left x.terms
-
-pub returns-in_ok-total-in-Some-clause-front : goal.returns-in_ok-total-in-Some-clause-front
-returns-in_ok-total-in-Some-clause-front c =
-    let o = term_out c.in-Some.at c.requires.sum c.in-Some.ensures.within (c.take_child-number.ensures.last c.requires.sum.handed.root) in
-    let t = (taken_on o.takes c.in_ok-total-in-Some.ensures.ok).takes in
-    let x = put_in 0 t (c.add_child.ensures.root t.sum.handed.root) in
-    changes_front x.changes
-
-pub returns-in_err-total-in-Some-clause-rationals : goal.returns-in_err-total-in-Some-clause-rationals
-returns-in_err-total-in-Some-clause-rationals c =
-    λ q.
-    let o = term_out c.in-Some.at c.requires.sum c.in-Some.ensures.within (c.take_child-number.ensures.last c.requires.sum.handed.root) in
-    let r = rationals_taken c.in-Some.at (terms_in c.args.sum.now (forest c.args.pool.now)) _ _ c.in-Some.ensures q o.terms o.tree in
-    passed_result c.from_residual.result c.in_err-total-in-Some.field-0.0
-    (AnswersFold (plain_value (add (terms_in c.args.sum.now (forest c.args.pool.now)))) (terms_in c.args.sum.now (forest c.collect_numbers.new.pool)))
-    c.from_residual.ensures.0 c.from_residual.ensures.1
-    (total_faulted _ _ c.collect_numbers.new.pool (terms_in c.args.sum.now (forest c.collect_numbers.new.pool)) _ r.plain (c.in_err-total-in-Some.ensures.rationals r.first r.others))
-
-pub returns-in_err-total-in-Some-clause-front : goal.returns-in_err-total-in-Some-clause-front
-returns-in_err-total-in-Some-clause-front c =
-    let o = term_out c.in-Some.at c.requires.sum c.in-Some.ensures.within (c.take_child-number.ensures.last c.requires.sum.handed.root) in
-    front_after_two behind_first (takes_behind o.takes) (takes_front o.takes) c.collect_numbers.ensures.front
+    let formed = formed_behind c.in-Some.at ts _ c.in-Some.ensures.within c.requires.formed o.terms in
+    let number = ap is_number o.tree ∙ c.in-Some.ensures.number in
+    let moved = taken_permuted c.in-Some.at ts c.in-Some.ensures.within in
+    let fault = c.in_err-total-in-Some.field-0.0 in
+    let told = c.in_err-total-in-Some.ensures in
+    let free = out_free c.requires.stands c.take_child-number.ensures.stands c.take_child-number.ensures.kept c.in-Some.ensures.within o in
+    record {
+      ok = search rules;
+      joined = search rules;
+      rationals = λ q.
+          let r = rationals_taken c.in-Some.at ts _ _ c.in-Some.ensures q o.terms o.tree in
+          let vs = terms_in c.args.sum.now (forest c.collect_numbers.new.pool) in
+          passed_result c.from_residual.result fault (AnswersFold (plain_value (add ts)) vs) c.from_residual.ensures.0 c.from_residual.ensures.1
+          (total_faulted _ _ c.collect_numbers.new.pool vs _ r.plain (told.rationals r.first r.others));
+      front = front_after_two behind_first (takes_behind o.takes) (takes_front o.takes) c.collect_numbers.ensures.front;
+      kept = search rules;
+      faults = search rules;
+      caused = search rules;
+      overflow = passed_named c.from_residual.result fault _ (Overflows ts) c.from_residual.ensures.1 told.overflow
+          (λ x h. overflows_after (taken_first c.in-Some.at ts c.in-Some.ensures.within) x (overflows_as (λ i. more (o.tree i) (o.terms i)) x (next_hinders _ _ number formed x h)));
+      bits = λ b. passed_named c.from_residual.result fault (λ o. ⊥) (λ o. ⊥) c.from_residual.ensures.1
+          (told.bits (next_fits _ _ number formed (subst HaveFewBits (λ i. addends_of_each (more (sym o.tree i) (sym o.terms i))) (few_after (held_permuted moved) b)))) (λ x h. h);
+      room = λ gs s.
+          let all = permuted_parts (SpansRoot gs) moved s in
+          passed_lacks c.from_residual.result fault _ _ c.from_residual.ensures.1
+          (told.room gs (subst (SpansTree gs) (sym o.tree) all.0) (subst (SpansTrees gs) (sym o.terms) all.1)) (λ full l. omega (arith, l, free));
+      stands = c.collect_numbers.ensures.stands;
+    }
 
 pub returns-in-None : goal.returns-in-None
 returns-in-None c =
@@ -99,31 +109,3 @@ returns-in-None c =
       room = λ gs s. tt;
       stands = c.requires.stands;
     }
-
-pub returns-in_err-total-in-Some-clause-overflow : goal.returns-in_err-total-in-Some-clause-overflow
-returns-in_err-total-in-Some-clause-overflow c =
-    let ts = terms_in c.args.sum.now (forest c.args.pool.now) in
-    let o = term_out c.in-Some.at c.requires.sum c.in-Some.ensures.within (c.take_child-number.ensures.last c.requires.sum.handed.root) in
-    let formed = formed_behind c.in-Some.at ts _ c.in-Some.ensures.within c.requires.formed o.terms in
-    passed_named c.from_residual.result c.in_err-total-in-Some.field-0.0 _ (Overflows ts) c.from_residual.ensures.1 c.in_err-total-in-Some.ensures.overflow
-    (λ x h. overflows_after (taken_first c.in-Some.at ts c.in-Some.ensures.within) x
-    (overflows_as (λ i. more (o.tree i) (o.terms i)) x (next_hinders _ _ (ap is_number o.tree ∙ c.in-Some.ensures.number) formed x h)))
-
-pub returns-in_err-total-in-Some-clause-room : goal.returns-in_err-total-in-Some-clause-room
-returns-in_err-total-in-Some-clause-room c = λ gs s.
-    let ts = terms_in c.args.sum.now (forest c.args.pool.now) in
-    let o = term_out c.in-Some.at c.requires.sum c.in-Some.ensures.within (c.take_child-number.ensures.last c.requires.sum.handed.root) in
-    let all = permuted_parts (SpansRoot gs) (taken_permuted c.in-Some.at ts c.in-Some.ensures.within) s in
-    let free = out_free c.requires.stands c.take_child-number.ensures.stands c.take_child-number.ensures.kept c.in-Some.ensures.within o in
-    passed_lacks c.from_residual.result c.in_err-total-in-Some.field-0.0 _ _ c.from_residual.ensures.1
-    (c.in_err-total-in-Some.ensures.room gs (subst (SpansTree gs) (sym o.tree) all.0) (subst (SpansTrees gs) (sym o.terms) all.1)) (λ full l. omega (arith, l, free))
-
-pub returns-in_err-total-in-Some-clause-bits : goal.returns-in_err-total-in-Some-clause-bits
-returns-in_err-total-in-Some-clause-bits c = λ b.
-    let ts = terms_in c.args.sum.now (forest c.args.pool.now) in
-    let o = term_out c.in-Some.at c.requires.sum c.in-Some.ensures.within (c.take_child-number.ensures.last c.requires.sum.handed.root) in
-    let first = few_after (held_permuted (taken_permuted c.in-Some.at ts c.in-Some.ensures.within)) b in
-    let formed = formed_behind c.in-Some.at ts _ c.in-Some.ensures.within c.requires.formed o.terms in
-    passed_named c.from_residual.result c.in_err-total-in-Some.field-0.0 (λ o. ⊥) (λ o. ⊥) c.from_residual.ensures.1
-    (c.in_err-total-in-Some.ensures.bits
-    (next_fits _ _ (ap is_number o.tree ∙ c.in-Some.ensures.number) formed (subst HaveFewBits (λ i. addends_of_each (more (sym o.tree i) (sym o.terms i))) first))) (λ x h. h)

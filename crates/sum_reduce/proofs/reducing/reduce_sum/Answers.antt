@@ -1,8 +1,9 @@
 use Rattle.std.proofs.Common.{◌∙◌, sym, subst, refl, ap, arith, ◌^◌, length}
 use Rattle.sum_reduce.proofs.Shared.{tree_of, forest, gives_as, given_told, IsWrittenSum, IsSumAnswer, IsCollected, terms_in, size, passed_lacks, sum_whole, counts_of_all, KeepsSumBounds}
-use Rattle.sum_reduce.proofs.{Collected.{settled_collected, settled_written}, Rationals.{rationals_answer}, Settled.{reduced_formed, undef_answer, settled_answer}, Sums.{changes_rest}}
-use Rattle.sum_reduce.proofs.{CollectedCounts.{collected_counts, written_counted}, CollectedPowers.{collected_powers}, CollectedSpans.{spans_collected, spans_written, spans_terms}, Rooms.{sum_lacks}}
-use Rattle.sum_reduce.proofs.{Held.{holds}, HeldTerms.{tree_held}, CollectedExponents.{exponents_collected, written_counts, undef_bounds}}
+use Rattle.sum_reduce.proofs.{Collected.{settled_collected, settled_written}, Rationals.{rationals_answer}, Settled.{undef_answer, settled_answer}, Sums.{changes_rest}}
+use Rattle.sum_reduce.proofs.{CollectedCounts.{collected_counts, written_counted}, CollectedSpans.{collected_powers, spans_collected, spans_written, spans_terms}, Rooms.{sum_lacks}, Held.{holds}}
+use Rattle.sum_reduce.proofs.{HeldTerms.{tree_held}, CollectedExponents.{exponents_collected, written_counts, undef_bounds}}
+use Rattle.like_children.proofs.Parts.{reduced_formed}
 use Rattle.sum_reduce.proofs.reducing.reduce_sum.Goals as goal
 use Rattle.std.proofs.lemmas.Bool.{false≢true}
 

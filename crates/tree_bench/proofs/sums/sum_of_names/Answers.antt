@@ -4,8 +4,8 @@ use Rattle.calc_terms.specs.Trees.{count}
 use Rattle.tree_handles.specs.{Handed.{tree_of}, Standing.{forest}}
 use Rattle.tree_handles.proofs.{Given.{given_root, given_told}, Roots.{root_held}}
 use Rattle.sum_reduce.specs.Sums.{terms_in}
-use Rattle.like_children.proofs.Places.{count_inserted}
-use Rattle.sum_reduce.proofs.{Sums.{put_in, roots_apart}, Tested.{empty_sum, empty_terms, placed, reduced_inserted, symbol_monic}}
+use Rattle.like_children.proofs.Places.{count_inserted, reduced_inserted}
+use Rattle.sum_reduce.proofs.{Sums.{put_in, roots_apart}, Tested.{empty_sum, empty_terms, placed, symbol_monic}}
 use Rattle.tree_bench.proofs.sums.sum_of_names.Goals as goal
 
 pub loop-number-init : goal.loop-number-init

@@ -1,6 +1,7 @@
 use Rattle.std.proofs.Common.{◌∙◌, ap, refl, sym, inl}
 use Rattle.reducer_tests.proofs.Shared.{is_reduced, number_words, put_reduces, without_root, gives_as, owned, handed_beside, handed_at, eqb-sym, if_map}
-use Rattle.sum_reduce.proofs.Tested.{loose_monic, number_reduced}
+use Rattle.sum_reduce.proofs.Tested.{loose_monic}
+use Rattle.coefficients.proofs.Forms.{number_reduced}
 use Rattle.reducer_tests.proofs.sums.building.before_sum.Goals as goal
 
 pub returns-then-is_sum-clause-ok : goal.returns-then-is_sum-clause-ok

@@ -1,6 +1,6 @@
 use Rattle.std.proofs.Common.{refl}
 use Rattle.reducer_tests.proofs.Shared.{if_map, gives_as, given_handed, given_told, given_rest}
-use Rattle.sum_reduce.proofs.Tested.{number_reduced}
+use Rattle.coefficients.proofs.Forms.{number_reduced}
 use Rattle.reducer_tests.proofs.sums.building.build.Goals as goal
 
 pub multiple-requires-clause-handed : goal.multiple-requires-clause-handed

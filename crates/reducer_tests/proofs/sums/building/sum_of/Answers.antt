@@ -1,7 +1,7 @@
 use Rattle.std.proofs.Common.{◌∙◌, ap, refl, arith, rules}
 use Rattle.reducer_tests.proofs.Shared.{count, are_reduced, tree_of, forest, given_root, given_told, given_rest, root_held, terms_in}
-use Rattle.like_children.proofs.Places.{count_inserted}
-use Rattle.sum_reduce.proofs.{Sums.{changes_same, changes_after, changes_rest, put_in, roots_apart, sum_live}, Tested.{empty_sum, empty_terms, placed, reduced_inserted, moved_sum, moved_terms}}
+use Rattle.like_children.proofs.Places.{count_inserted, reduced_inserted}
+use Rattle.sum_reduce.proofs.{Sums.{changes_same, changes_after, changes_rest, put_in, roots_apart, sum_live}, Tested.{empty_sum, empty_terms, placed, moved_sum, moved_terms}}
 use Rattle.reducer_tests.proofs.sums.building.sum_of.Goals as goal
 
 pub loop-shape-init : goal.loop-shape-init

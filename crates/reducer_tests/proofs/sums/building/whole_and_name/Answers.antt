@@ -2,7 +2,7 @@ use Rattle.std.proofs.Common.{◌∙◌, ap, refl, sym, subst, arith, rules}
 use Rattle.std.specs.Prelude.{◌≤◌}
 use Rattle.reducer_tests.proofs.Shared.{if_map, and_from, Tree, count, is_add, first_handed, pair_apart, first_told, pair_rest, are_reduced, children_of, gives_as, given_handed, given_told}
 use Rattle.reducer_tests.proofs.Shared.{given_rest}
-use Rattle.sum_reduce.proofs.Tested.{number_reduced}
+use Rattle.coefficients.proofs.Forms.{number_reduced}
 use Rattle.reducer_tests.proofs.sums.building.whole_and_name.Goals as goal
 
 pub node_over_two-requires : goal.node_over_two-requires
