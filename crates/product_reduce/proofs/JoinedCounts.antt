@@ -11,14 +11,7 @@ one_is_free = refl
 
 -- a factor counts no less than its base and its exponent
 part_counted : (t : Tree) → counted (base_of t) + counted_in (exponent_of t) ≤ counted t
-part_counted (power b e) = by (is_opaque_exponent e)
-  where
-    inner : (w n : Bool) → (w ≡ true → n ≡ true) → counted b + (if n then 0 else counted e) ≤ (if w then counted b else suc (counted b + counted e))
-    inner w n h = grind arith
-
-    by : (k : Bool) → counted (if k then power b e else b) + counted_in (if k then num_one else e) ≤ counted (power b e)
-    by true = omega (arith, one_is_free)
-    by false = inner (is_whole_num e) (is_number e) (whole_number e)
+part_counted (power b e) = grind (arith, one_is_free, whole_number e)
 part_counted t = omega (arith, one_is_free)
 
 joint_counted : (t u : Tree) → base_of t ≡ base_of u → counted (joint t u) ≤ counted t + counted u + 1

@@ -54,20 +54,8 @@ no_such_numbers u v p q x y d = absurd (let z : are_numbers (more (num p) (more 
 
 small_exponent : (n : ℕ) (a b : Tree) → are_numbers (more (exponent_of a) (more (exponent_of b) none)) ≡ false → IsSmall n (joint a b)
     → nest (add (more (exponent_of a) (more (exponent_of b) none))) < n
-small_exponent n a b d (is_within h) =
-    by (is_number (add (more (exponent_of a) (more (exponent_of b) none)))) (sum_is_no_number (exponent_of a) (exponent_of b) (exponent_words a) (exponent_words b)) h
-  where
-    by : (k : Bool) → k ≡ false → (if k then nest (base_of a) else max (nest (base_of a)) (suc (max (nest (exponent_of a)) (max (nest (exponent_of b)) 0)))) ≤ n
-        → max (nest (exponent_of a)) (max (nest (exponent_of b)) 0) < n
-    by true e h = cc
-    by false e h = omega arith
-small_exponent n a b d (is_over c p q e h) = absurd (no_such_numbers (exponent_of a) (exponent_of b) p q (first_in e) (second_in e) d)
-  where
-    first_in : {b u v c x y : Tree} → power b (add (more u (more v none))) ≡ power c (add (more x (more y none))) → u ≡ x
-    first_in e = cc
-
-    second_in : {b u v c x y : Tree} → power b (add (more u (more v none))) ≡ power c (add (more x (more y none))) → v ≡ y
-    second_in e = cc
+small_exponent n a b d (is_within h) = grind (arith, sum_is_no_number (exponent_of a) (exponent_of b) (exponent_words a) (exponent_words b))
+small_exponent n a b d (is_over c p q e h) = grind (arith, no_such_numbers (exponent_of a) (exponent_of b) p q)
 
 pub exponent_bound : (ts : Trees) (t a b : Tree) (at : ℕ) → IsJoined ts t → at < count (children_of t) → nth at (children_of t) ≡ joint a b
     → are_numbers (more (exponent_of a) (more (exponent_of b) none)) ≡ false
@@ -124,17 +112,9 @@ others_load ts t a b at r j l e =
 
 pub base_reduced : (t : Tree) → is_reduced t ≡ true → is_reduced (base_of t) ≡ true
 base_reduced undef h = h
-base_reduced (power b e) h = by (is_opaque_exponent e)
-  where
-    by : (k : Bool) → is_reduced (if k then power b e else b) ≡ true
-    by true = h
-    by false = parts_reduced b (reduced_parts (power b e) h refl).1
+base_reduced (power b e) h = grind (arith, parts_reduced, reduced_parts (power b e) h)
 base_reduced t h = h
 
 pub exponent_reduced : (t : Tree) → is_reduced t ≡ true → is_reduced (exponent_of t) ≡ true
-exponent_reduced (power b e) h = by (is_opaque_exponent e)
-  where
-    by : (k : Bool) → is_reduced (if k then num_one else e) ≡ true
-    by true = parts_reduced num_one (inl tt)
-    by false = parts_reduced e (reduced_parts (power b e) h refl).2
+exponent_reduced (power b e) h = grind (arith, parts_reduced, reduced_parts (power b e) h)
 exponent_reduced t h = parts_reduced num_one (inl tt)

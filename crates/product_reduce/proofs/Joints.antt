@@ -50,11 +50,7 @@ no_number_words : (e f : Tree) → IsExponent e → IsExponent f → IsNumber (a
 no_number_words e f x y h = grind (arith, no_number)
 
 pub sum_is_no_number : (e f : Tree) → IsExponent e → IsExponent f → is_number (add (more e (more f none))) ≡ false
-sum_is_no_number e f x y = by (is_number (add (more e (more f none)))) refl
-  where
-    by : (k : Bool) → is_number (add (more e (more f none))) ≡ k → k ≡ false
-    by true h = absurd (no_number_words e f x y (number_words (add (more e (more f none))) h))
-    by false h = refl
+sum_is_no_number e f x y = grind (arith, no_number_words e f x y, number_words (add (more e (more f none))))
 
 -- and one of two rationals is not reduced
 no_sum_form : (p q : Fraction) → IsSumForm (more (num p) (more (num q) none)) → ⊥
@@ -140,11 +136,7 @@ formed_weight (mult (more t ts)) h = by (is_number (mult (more t ts))) (is_numbe
 formed_weight t h = omega arith
 
 base_formed : (t : Tree) → AllParts HasForm t → AllParts HasForm (base_of t)
-base_formed (power b e) h = by (is_opaque_exponent e)
-  where
-    by : (k : Bool) → AllParts HasForm (if k then power b e else b)
-    by true = h
-    by false = h.1
+base_formed (power b e) h = grind arith
 base_formed t h = h
 
 pub base_weight : (t : Tree) → AllParts HasForm t → 2 ≤ weight (base_of t)
