@@ -246,10 +246,7 @@ like_counted us c p l a f h w =
 
 parts_of : (ts us : Trees) → are_counted (append ts us) ≡ true → (are_counted ts ≡ true) × (are_counted us ≡ true)
 parts_of none us h = (refl, h)
-parts_of (more t ts) us h =
-    let (a, b) = and_parts (is_counted t) (are_counted (append ts us)) h in
-    let (x, y) = parts_of ts us b in
-    (and_from _ _ a x, y)
+parts_of (more t ts) us h = grind (arith, parts_of ts us)
 
 both_counts : (ts us : Trees) → IsWithin (added (counts_of_all ts) (counts_of_all us)) (counts_of_all (append ts us))
 both_counts none us = record { up = omega arith; down = omega arith }
@@ -289,11 +286,7 @@ written_counts (more t ts) c a = by (leads_number (more t ts))
 
 pub counted_defined : (ts : Trees) → are_counted ts ≡ true → has_undef ts ≡ false
 counted_defined none h = refl
-counted_defined (more t ts) h = let (a, b) = and_parts (is_counted t) (are_counted ts) h in first t a (counted_defined ts b)
-  where
-    first : (t : Tree) → is_counted t ≡ true → has_undef ts ≡ false → has_undef (more t ts) ≡ false
-    first undef k e = absurd (false≢true k)
-    first t k e = e
+counted_defined (more t ts) h = grind (arith, counted_defined ts)
 
 -- what has an Undef term is Undef
 pub undef_bounds : (ts : Trees) (t : Tree) → has_undef ts ≡ true → t ≡ undef → KeepsSumBounds ts t

@@ -1,9 +1,8 @@
 -- Sums among the terms are opened.
-use Rattle.std.proofs.Common.{◌≤◌, ◌≡◌, Bool, true, false, not, ◌&&◌, if◌then◌else◌, refl, ap, ◌∙◌, subst, arith}
-use Rattle.sum_reduce.proofs.Shared.{and_parts, nest, nest_of, is_number, are_numbers, HasForm, IsSumForm, NoneIs, Tree, add, Trees, none, more, append, count, names, names_of, is_add, AllParts}
-use Rattle.sum_reduce.proofs.Shared.{KeepsMeanings, KeepsMeanings-refl, KeepsMeanings-sum_append, flat_sum, number_test, AllPartsOf-append, children_of, append_none, count_append, width, widths}
-use Rattle.sum_reduce.proofs.Shared.{AreFormed, is_loose, terms_of_loose, opened, Within, within_same, within_beside, within_trans, within_eq, within_both, names_of-append, nest-append}
-use Rattle.sum_reduce.proofs.Widths.{widths-append}
+use Rattle.std.proofs.Common.{◌≤◌, ◌≡◌, Bool, true, false, not, ◌&&◌, if◌then◌else◌, refl, ap, subst, arith}
+use Rattle.sum_reduce.proofs.Shared.{nest, nest_of, is_number, are_numbers, HasForm, IsSumForm, NoneIs, Tree, add, Trees, none, more, count, names, names_of, is_add, AllParts, KeepsMeanings}
+use Rattle.sum_reduce.proofs.Shared.{KeepsMeanings-refl, KeepsMeanings-sum_append, flat_sum, number_test, AllPartsOf-append, children_of, append_none, count_append, width, widths, AreFormed, is_loose}
+use Rattle.sum_reduce.proofs.{Shared.{terms_of_loose, opened, Within, within_same, within_beside, within_trans, within_eq, within_both, names_of-append, nest-append}, Widths.{widths-append}}
 use Rattle.like_children.specs.Opening.{Opens}
 use Rattle.coefficients.proofs.{Splits.{NoneIs-append}, Factors.{two_count}}
 
@@ -77,11 +76,7 @@ no_sums_tight none h = tt
 no_sums_tight (more t ts) h = (no_sum_tight t h.0, no_sums_tight ts h.1)
 
 first_tight : (t : Tree) → AllParts HasForm t → NoneIs is_loose (terms_of_loose t)
-first_tight (add us) h = by (is_number (add us)) refl
-  where
-    by : (k : Bool) → is_number (add us) ≡ k → NoneIs is_loose (if k then more (add us) none else us)
-    by true e = (ap not e, tt)
-    by false e = no_sums_tight us (sum_form us h.0 e).no_sum
+first_tight (add us) h = grind (arith, no_sums_tight us, λ (e : is_number (add us) ≡ false). (sum_form us h.0 e).no_sum)
 first_tight t h = (refl, tt)
 
 pub opened_tight : (ts : Trees) → AreFormed ts → NoneIs is_loose (opened ts)
@@ -102,6 +97,4 @@ number_tight t h = grind arith
 
 pub opened_numbers : (ts : Trees) → are_numbers ts ≡ true → opened ts ≡ ts
 opened_numbers none h = refl
-opened_numbers (more t ts) h =
-    let (a, b) = and_parts (is_number t) (are_numbers ts) h in
-    ap (λ (x : Trees). append x (opened ts)) (tight_terms t (number_tight t a)) ∙ ap (more t) (opened_numbers ts b)
+opened_numbers (more t ts) h = grind (arith, tight_terms t, number_tight t, opened_numbers ts)

@@ -1,5 +1,5 @@
 -- How many bytes the terms of a sum have while they are collected, and for how few at hand that is refused.
-use Rattle.std.proofs.Common.{◌≡◌, ℕ, suc, ◌+◌, ◌*◌, ◌^◌, ◌<◌, ◌≤◌, List, length, Bool, true, false, if◌then◌else◌, refl, ap, ◌∙◌, subst, arith}
+use Rattle.std.proofs.Common.{◌≡◌, ℕ, suc, ◌+◌, ◌*◌, ◌^◌, ◌<◌, ◌≤◌, List, length, true, refl, ap, ◌∙◌, subst, arith}
 use Rattle.sum_reduce.proofs.Shared.{first_parts, permuted_parts, count_removed, sizes_taken, and_from, is_number, NoneIs, Permuted, permuted_none, permuted_more, permuted_swap, permuted_trans}
 use Rattle.sum_reduce.proofs.Shared.{number_words, counted, counted_among, SpansRoot, SpansTree, SpansTrees, Tree, add, Trees, none, more, append, count, size, with_coefficient, put_room, IsPairAt}
 use Rattle.sum_reduce.proofs.Shared.{State, free_of, removed, number_size, IsArranged, IsLead, AreLike, Collects, IsJoining, AreFormed, is_partner, nth, inserted, counted_in_all, sum_count}
@@ -8,7 +8,7 @@ use Rattle.calc_room.specs.Needs.{sum_need}
 use Rattle.coefficients.specs.Bytes.{bytes_of_taking, IsShort}
 use Rattle.node_pool.specs.declared.full.Full.{Full}
 use Rattle.sum_reduce.specs.Rooms.{terms_room}
-use Rattle.like_children.proofs.{Counted.{counted_at_most, counted_in, put_counted}, Places.{inserted_permuted, nth_behind_removed, taken_permuted}, Permutations.{of_lists}, Parts.{formed_reduced}}
+use Rattle.like_children.proofs.{Counted.{counted_at_most, put_counted}, Places.{inserted_permuted, nth_behind_removed, taken_permuted}, Permutations.{of_lists}, Parts.{formed_reduced}}
 use Rattle.tree_room.specs.Needs.{tree_bytes, sum_room}
 use Rattle.tree_room.proofs.{Coefficients.{part_counts}, Counts.{all_appended, counts_one, number_counts_one, numbers_and_others, appended}, Handed.{sum_bytes}, Multiples.{scaled}}
 pub use Rattle.number_forms.proofs.Rooms.{few_for_sum as few_lack}
@@ -33,13 +33,8 @@ joining_counts ts c p rest less j =
 
 -- a coefficient is free
 put_counts : (c p : Tree) (rest : Trees) (ts : Trees) (less : ℕ) → IsJoining ts c p rest less → counted (with_coefficient c p) ≤ counted p
-put_counts c p rest ts less j = by (is_number (with_coefficient c p)) refl
-  where
-    by : (b : Bool) → is_number (with_coefficient c p) ≡ b → counted (with_coefficient c p) ≤ counted p
-    by true e = omega (arith, number_counts_one (with_coefficient c p) e, counts_one p)
-    by false e =
-        let same : counted_in (with_coefficient c p) ≡ counted (with_coefficient c p) = ap (λ (b : Bool). if b then 0 else counted (with_coefficient c p)) e in
-        omega (arith, same, counted_at_most (with_coefficient c p), put_counted c p (number_words c j.number) (λ e. j.monic))
+put_counts c p rest ts less j =
+    grind (arith, number_counts_one (with_coefficient c p), counts_one p, counted_at_most (with_coefficient c p), put_counted c p (number_words c j.number) (λ e. j.monic))
 
 pub joined_counts : (ts : Trees) (c p : Tree) (rest vs : Trees) (less at : ℕ) → IsJoining ts c p rest less → vs ≡ inserted at (more (with_coefficient c p) none) rest
     → counted_in_all vs ≤ counted_in_all ts
