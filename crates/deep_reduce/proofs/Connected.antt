@@ -1,13 +1,14 @@
 -- What holds of sums and products alike, and of differences and quotients.
-use Rattle.std.proofs.Common.{◌≡◌, ◌+◌, ◌*◌, ◌^◌, ◌<◌, ◌≤◌, ℕ, List, length, negsuc, true, false, refl, sym, ap, arith, ℤ, to_z, of_z}
+use Rattle.std.proofs.Common.{◌≡◌, ◌||◌, ◌+◌, ◌*◌, ◌^◌, ◌<◌, ◌≤◌, ℕ, List, length, negsuc, true, false, refl, sym, ap, arith, ℤ, to_z, of_z}
 use Rattle.std.specs.{Int.{w128}, Prelude.{nat_abs}}
 use Rattle.deep_reduce.proofs.Shared.{Connective, kind_of, neutral_of, joined_by, of_sides, turned, joined_room, turned_room, number_limit, Trees, Tree, num, none, more, children_of, count}
 use Rattle.deep_reduce.proofs.Shared.{whole_fraction, IsNodeAnswer, IsNodeOverflow, takes_kind, is_reduced, SpansTree, size_of_payload, bare, size, sizes, nth, counted, Fraction, fraction_fits}
-use Rattle.deep_reduce.proofs.Shared.{has_undef, HasNodesFor, IsCalmAtZero, is_sub, is_div, simple_room, KeepsNodeRoom, node_count, HoldsNode, AreFewBits, IsFactorHeld, holds_whole, Overflow}
-use Rattle.deep_reduce.proofs.{Shared.{one_fraction, zero_fraction}, Steps.{two, empty_sum_answer, empty_product_answer, sub_answer, sub_overflow, opposite_overflow}}
-use Rattle.deep_reduce.proofs.{Quotients.{div_answer, div_overflow, inverse_overflow}, Told.{answer_at, two_reduced}}
-use Rattle.node_bounds.proofs.{NodeBits.{difference_right, two_factors, two_terms}, NodeBytes.{AreSides, no_factors, difference_sides, quotient_sides, difference_keeps, quotient_keeps}}
-use Rattle.node_bounds.proofs.NodeBytes.{difference_fits, quotient_fits, inverse_lacks, opposite_lacks, right_inverse_lacks, right_opposite_lacks, sum_node_lacks, product_node_lacks}
+use Rattle.deep_reduce.proofs.Shared.{has_undef, HasNodesFor, IsCalmAtZero, is_sub, is_div, simple_room, KeepsNodeRoom, node_count, HoldsNode, AreFewBits, IsFactorHeld, holds_whole, Overflow, neg}
+use Rattle.deep_reduce.proofs.{Shared.{power, minus_one_fraction, tree_bytes, reduced_words, pow_pos, one_fraction, zero_fraction}, Steps.{two, empty_sum_answer, empty_product_answer, sub_answer}}
+use Rattle.deep_reduce.proofs.{Steps.{sub_overflow, opposite_overflow}, Quotients.{div_answer, div_overflow, inverse_overflow}, Told.{answer_at, two_reduced}}
+use Rattle.node_bounds.proofs.{NodeBits.{difference_right, two_factors, two_terms}, NodeBytes.{AreSides, no_factors, node_sides, inverse_calm, inverse_spans, difference_fits, quotient_fits}}
+use Rattle.node_bounds.proofs.{NodeBytes.{right_inverse_lacks, right_opposite_lacks}, NodeRooms.{inverse_count}}
+use Rattle.tree_room.proofs.Handed.{product_bytes, sum_bytes}
 use Rattle.deep_reduce.specs.declared.connective.Connective.TheVariants as connective
 
 -- ---- sums and products
@@ -44,8 +45,8 @@ takes_two connective.Product = refl
 -- the node finds no bytes
 pub joined_lacks : (k : Connective) (gs : List ℕ) (a b : Tree) (free : ℕ) → is_reduced a ≡ true → is_reduced b ≡ true → SpansTree gs (joined_by k (two a b)) → free < size_of_payload (bare (kind_of k))
     → free + sizes (two a b) < joined_room k (two a b) (2 ^ length gs)
-joined_lacks connective.Sum gs a b free x y s l = sum_node_lacks gs (two a b) free (two_reduced a b x y) s.1 l
-joined_lacks connective.Product gs a b free x y s l = product_node_lacks gs (two a b) free (two_reduced a b x y) s.1 l
+joined_lacks connective.Sum gs a b free x y s l = omega (arith, l, sum_bytes gs (two a b) (two_reduced a b x y) s.1, pow_pos (length gs))
+joined_lacks connective.Product gs a b free x y s l = omega (arith, l, product_bytes gs (two a b) (two_reduced a b x y) s.1, pow_pos (length gs))
 
 -- ---- sides
 
@@ -55,8 +56,8 @@ sides_children connective.Product t e = ap children_of e
 
 -- -1 or the node finds no bytes
 pub turning_lacks : (k : Connective) (gs : List ℕ) (b : Tree) (free : ℕ) → is_reduced b ≡ true → SpansTree gs b → free < 48 → free + size b < turned_room k (counted b) (2 ^ length gs)
-turning_lacks connective.Sum gs b free r s l = opposite_lacks gs b free r s l
-turning_lacks connective.Product gs b free r s l = inverse_lacks gs b free r s l
+turning_lacks connective.Sum gs b free r s l = omega (arith, l, tree_bytes gs b (reduced_words b r) s, pow_pos (length gs))
+turning_lacks connective.Product gs b free r s l = omega (arith, l, tree_bytes gs b (reduced_words b r) s, pow_pos (length gs))
 
 module _ (a b : Tree) (fit : (q : Fraction) → b ≡ num q → fraction_fits q ≡ true) where
   pub turned_overflow : (k : Connective) (o : Overflow) → IsNodeOverflow (turned k b) o → has_undef (two a b) ≡ false → IsNodeOverflow (of_sides k a b) o
@@ -77,8 +78,8 @@ module _ (a b : Tree) (fit : (q : Fraction) → b ≡ num q → fraction_fits q 
 module _ (gs : List ℕ) (ns : List (List ℕ)) (n : ℕ) where
   pub sides_ready : (k : Connective) (t : Tree) → t ≡ of_sides k (nth 0 (children_of t)) (nth 1 (children_of t)) → HasNodesFor n t → IsCalmAtZero ns t → SpansTree gs t
       → AreSides gs ns n (nth 0 (children_of t)) (nth 1 (children_of t))
-  sides_ready connective.Sum t e h c s = difference_sides gs ns n t (ap is_sub e) h c s
-  sides_ready connective.Product t e h c s = quotient_sides gs ns n t (ap is_div e) h c s
+  sides_ready connective.Sum t e h c s = node_sides gs ns n t (ap (λ (u : Tree). is_sub u || is_div u) e) h c s
+  sides_ready connective.Product t e h c s = node_sides gs ns n t (ap (λ (u : Tree). is_sub u || is_div u) e) h c s
 
   -- what the right is turned into finds no bytes beside the left
   pub turned_lacks : (k : Connective) (a b : Tree) (bytes : ℕ) → AreSides gs ns n a b → is_reduced a ≡ true → bytes < turned_room k (counted b) (2 ^ length gs)
@@ -94,11 +95,19 @@ module _ (gs : List ℕ) (ns : List (List ℕ)) (n : ℕ) where
 
   pub turned_ready : (k : Connective) (a b c : Tree) → AreSides gs ns n a b → KeepsNodeRoom (node_count (turned k b)) (turned k b) c → AreReady k a c
   turned_ready connective.Sum a b c x h =
-      let y = difference_keeps gs ns n a b c x h in
-      record { calm = y.calm; spanned = y.spanned; fits = difference_fits gs a b n x.nodes c y.counts }
+      let right : IsCalmAtZero ns (neg b) = record { once = x.once; calm = (tt, x.right_calm) } in
+      record {
+        calm = record { once = x.once; calm = (tt, (x.left_calm, ((h.calm ns right).calm, tt))) };
+        spanned = (tt, (x.left_spanned, (h.spanned gs ns right (tt, x.right_spanned), tt)));
+        fits = difference_fits gs a b n x.nodes c (h.counts ns right);
+      }
   turned_ready connective.Product a b c x h =
-      let y = quotient_keeps gs ns n a b c x h in
-      record { calm = y.calm; spanned = y.spanned; fits = quotient_fits gs a b n x.nodes c y.counts }
+      let right : IsCalmAtZero ns (power b (num minus_one_fraction)) = inverse_calm b (record { once = x.once; calm = x.right_calm }) in
+      record {
+        calm = record { once = x.once; calm = (tt, (x.left_calm, ((h.calm ns right).calm, tt))) };
+        spanned = (tt, (x.left_spanned, (h.spanned gs ns right (inverse_spans gs b x.right_spanned), tt)));
+        fits = quotient_fits gs a b n x.nodes c (omega (arith, h.counts ns right, inverse_count b));
+      }
 
 -- ---- bits of sides
 

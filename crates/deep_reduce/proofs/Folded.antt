@@ -1,22 +1,18 @@
 -- What nodes over rationals reduce to, where their values fit.
 use Rattle.std.proofs.{Common.{◌≡◌, ◌≢◌, ◌<◌, ◌↔◌, Bool, Option, Some, None, Result, ◌+◌, ◌≤◌, ◌++◌, ℕ, ℤ, negsuc, true, false, not, refl, sym, ap, ◌∙◌, subst, arith}, lemmas.Nat.{mul-le}}
 use Rattle.std.specs.{Prelude.{IfOk, IfSome, IsErr, Ok, Err}, Result.{result_ok}}
-use Rattle.calc_terms.specs.declared.kind.Kind.TheVariants as kind
 use Rattle.rational128.proofs.{LowestTerms.{ratio_parts}, Products.{parts_fit}}
-use Rattle.calc_terms.specs.declared.rat.Rat.{Rat}
+use Rattle.calc_terms.specs.{declared.rat.Rat.{Rat}, Fits.{Operation, operation_fits, result_of, sum_fits}, FractionLaws.{one_times, times_comm}, Fractions.{plus, times}}
 use Rattle.deep_reduce.proofs.Shared.{Fraction, HasNodesFor, simple_room, Overflow, ratio_of, children_of, root_kind, count, nth, value_of, Tree, num, add, mult, power, neg, sub, div, Trees, none}
 use Rattle.deep_reduce.proofs.Shared.{more, value, Surd, negative, inverse, minus_one_fraction, one_fraction, zero_fraction, whole_fraction, is_zero_fraction, fraction_fits, add_op, mul_op}
-use Rattle.deep_reduce.proofs.Shared.{calculated, exactly, plain_value, powered, PlainValue, IsPlainAnswer, IsNodeAnswer, Reduces, keeps, number_reduced, lacks_power, HoldsNode, HoldsPower}
-use Rattle.deep_reduce.proofs.Shared.{AreFactorsHeld, is_half_num, whole_no_half, whole_is, holds_whole, holds_half, holds_kept, IsFactorHeld, raised_high, raised_low, whole_numerator}
-use Rattle.deep_reduce.proofs.Shared.{whole_denominator, is_number}
-use Rattle.calc_algebra.proofs.MeaningRewrites as rewrites
+use Rattle.deep_reduce.proofs.Shared.{calculated, exactly, plain_value, powered, PlainValue, IsPlainAnswer, IsNodeAnswer, lacks_power, HoldsNode, HoldsPower, AreFactorsHeld, is_half_num}
+use Rattle.deep_reduce.proofs.Shared.{whole_no_half, whole_is, holds_whole, holds_half, holds_kept, IsFactorHeld, raised_high, raised_low, whole_numerator, whole_denominator, is_number}
+use Rattle.deep_reduce.proofs.{Shared.{false_from_ne_true}, Quotients.{div_answer}, Steps.{two, worth_answer, neg_answer, product_value, sub_answer}}
 use Rattle.calc_algebra.proofs.NumberRewrites.{sum_of_numbers, product_of_rationals, negative_power_of_rational}
 use Rattle.calc_algebra.specs.Surds.{surd_times}
 use Rattle.calc_terms.proofs.FractionFacts.{no_zero}
 use Rattle.calc_measures.proofs.Inverses.{inverse_value, times_minus_one}
-use Rattle.calc_terms.specs.{Fits.{Operation, operation_fits, result_of, sum_fits}, FractionLaws.{one_times, times_comm}, Fractions.{plus, times}}
-use Rattle.deep_reduce.proofs.{Quotients.{div_answer}, Steps.{two, no_names, neg_answer, product_value, sub_answer}}
-use Rattle.node_bounds.proofs.{Clashes.{contrary, rational_number}, HeldFactors.{factor_wider}, NodeRooms.{number_room}}
+use Rattle.node_bounds.proofs.{Clashes.{contrary, rational_number}, HeldFactors.{factor_wider}}
 use Rattle.number_forms.proofs.{Shared.{IsHeld, held_times, no_larger}, RationalBits.{product_parts, sum_parts}, RationalCalls.{plain_answer, rational_over, rational_product, rational_sum, num_same}}
 use Rattle.number_forms.specs.Answers.{IsNumberOver}
 use Rattle.power_reduce.proofs.HeldPowers.{number_power_held, rational_power_held}
@@ -25,6 +21,8 @@ use Rattle.product_reduce.specs.Bits.{factor_held}
 use Rattle.sum_reduce.proofs.Held.{both_held}
 use Rattle.tree_bits.proofs.Numbers.{held_wider}
 pub use Rattle.calc_measures.proofs.Inverses.{zero_num as other_than_zero}
+use Rattle.calc_terms.specs.declared.kind.Kind.TheVariants as kind
+use Rattle.calc_algebra.proofs.MeaningRewrites as rewrites
 
 this_fits : (q : Fraction) → fraction_fits q ≡ true → (x : Fraction) → num q ≡ num x → fraction_fits x ≡ true
 this_fits q f x k = subst (λ (y : Fraction). fraction_fits y ≡ true) (num_same k) f
@@ -41,9 +39,6 @@ product_over p q =
 over_held : (v : Surd) (q : Fraction) (h l : ℕ) → IsNumberOver v (num q) → IsHeld v h l → IsFactorHeld (num q) h l
 over_held v q h l o k = number_as_factor (num q) h l (rational_number q) ((no_larger (num q) v o.number o.worth o.parts).held h l k)
 
-reduces_to : (t : Tree) (q : Fraction) → rewrites.KeepsMeanings t (num q) → Reduces t (num q)
-reduces_to t q h = record { reduced = number_reduced q; no_new_name = no_names t (num q) refl; meanings = keeps h }
-
 -- ---- sums and products
 
 sum_held : (p q : Fraction) (h l : ℕ) → HoldsNode (add (two (num p) (num q))) h l → IsHeld (value (num p) ++ value (num q)) h l
@@ -59,28 +54,16 @@ computed_sum : (p q : Fraction) → plain_value (add (two (num p) (num q))) ≡ 
 computed_sum p q = grind arith
 
 pub sum_answered : (p q r : Fraction) → sum_fits p q ≡ true → r ≡ plus p q → IsNodeAnswer (add (two (num p) (num q))) (num r)
-sum_answered p q r f e = subst (λ (x : Fraction). IsNodeAnswer (add (two (num p) (num q))) (num x)) (sym e) (record {
-  reduces = reduces_to _ _ (sum_of_numbers (num p) (num q) (num (plus p q)) tt tt tt (sum_over p q).worth);
-  undefined = λ h. cc;
-  number = λ h n. rational_number (plus p q);
-  rational = λ h. subst (λ (v : PlainValue). IsPlainAnswer v (num (plus p q))) (sym (computed_sum p q)) (plain_answer add_op p q (num (plus p q)) (λ x. cc) refl);
-  room = number_room (add (two (num p) (num q))) (plus p q);
-  root_room = λ h. cc;
-  held = λ d h l k. over_held (value (num p) ++ value (num q)) (plus p q) h l (sum_over p q) (sum_held p q h l k);
-  leaf = λ h. cc;
-})
+sum_answered p q r f e = subst (λ (x : Fraction). IsNodeAnswer (add (two (num p) (num q))) (num x)) (sym e)
+    (worth_answer _ _ (sum_of_numbers (num p) (num q) (num (plus p q)) tt tt tt (sum_over p q).worth) refl refl refl
+    (λ h. subst (λ (v : PlainValue). IsPlainAnswer v (num (plus p q))) (sym (computed_sum p q)) (plain_answer add_op p q (num (plus p q)) (λ x. cc) refl))
+    (λ h l k. over_held (value (num p) ++ value (num q)) (plus p q) h l (sum_over p q) (sum_held p q h l k)))
 
 pub product_answered : (p q r : Fraction) → fraction_fits (times p q) ≡ true → r ≡ times p q → IsNodeAnswer (mult (two (num p) (num q))) (num r)
-product_answered p q r f e = subst (λ (x : Fraction). IsNodeAnswer (mult (two (num p) (num q))) (num x)) (sym e) (record {
-  reduces = reduces_to _ _ (product_of_rationals p q);
-  undefined = λ h. cc;
-  number = λ h n. rational_number (times p q);
-  rational = λ h. subst (λ (v : PlainValue). IsPlainAnswer v (num (times p q))) (sym (product_value p q)) (plain_answer mul_op p q (num (times p q)) (λ x. cc) refl);
-  room = number_room (mult (two (num p) (num q))) (times p q);
-  root_room = λ h. cc;
-  held = λ d h l k. over_held (surd_times (value (num p)) (value (num q))) (times p q) h l (product_over p q) (product_held p q h l k);
-  leaf = λ h. cc;
-})
+product_answered p q r f e = subst (λ (x : Fraction). IsNodeAnswer (mult (two (num p) (num q))) (num x)) (sym e)
+    (worth_answer _ _ (product_of_rationals p q) refl refl refl
+    (λ h. subst (λ (v : PlainValue). IsPlainAnswer v (num (times p q))) (sym (product_value p q)) (plain_answer mul_op p q (num (times p q)) (λ x. cc) refl))
+    (λ h l k. over_held (surd_times (value (num p)) (value (num q))) (times p q) h l (product_over p q) (product_held p q h l k)))
 
 -- ---- opposites and differences
 
@@ -126,16 +109,9 @@ module _ (q i : Fraction) (z : is_zero_fraction q ≡ false) (f : fraction_fits 
   inverse_held h l (holds_kept n g) = absurd cc
 
   inverse_answered : IsNodeAnswer (power (num q) (num minus_one_fraction)) (num i)
-  inverse_answered = record {
-    reduces = reduces_to inverse_node i meanings;
-    undefined = λ h. absurd (lacks_none h);
-    number = λ h n. rational_number i;
-    rational = λ h. subst (λ (v : PlainValue). IsPlainAnswer v (num i)) (sym (inverse_value q z f)) (ap num e);
-    room = number_room inverse_node i;
-    root_room = λ h. contrary h no_half_exponent;
-    held = λ d h l k. inverse_held h l k;
-    leaf = λ h. cc;
-  }
+  inverse_answered =
+      worth_answer inverse_node i meanings (false_from_ne_true (lacks_power (num q) (num minus_one_fraction)) lacks_none) no_half_exponent refl
+      (λ h. subst (λ (v : PlainValue). IsPlainAnswer v (num i)) (sym (inverse_value q z f)) (ap num e)) inverse_held
 
   pub quotient_answered : (p r : Fraction) → fraction_fits (times p i) ≡ true → r ≡ times p i → IsNodeAnswer (div (num p) (num q)) (num r)
   quotient_answered p r s t = div_answer (num p) (num q) (num i) (this_fits q f) inverse_answered (num r) (product_answered p i r s t)

@@ -1,11 +1,11 @@
 -- Factors of reduced trees before and after a joining: their loads and nests.
-use Rattle.std.proofs.Common.{◌≡◌, ℕ, zero, suc, ◌+◌, ◌≤◌, true, false, refl, ◌∙◌, arith, inl, inr, subst}
-use Rattle.deep_reduce.proofs.Shared.{and_parts, nest_of, weight, load_of_factor, load_of_factors, is_number, are_numbers, base_of, are_reduced, Tree, mult, Trees, none, more, append, is_mult}
-use Rattle.deep_reduce.proofs.Shared.{number_test, number_words, factors_of, nest_of_joint, opened, others_in, is_partner, IsPairAt, joined_pair, not-true, one_base, Contains-append_left}
-use Rattle.deep_reduce.proofs.Shared.{Contains-append_right, Contains-append_cases, names, names_of, Rewrites, KeepsMeanings-product_more, keeps, kept, Rewrites-refl, joint, joined, partners_of_pair}
-use Rattle.deep_reduce.proofs.{Heavy.{heavy_base}, Joints.{transparent_exponent, joint_load, joint_nest, joint_below}}
+use Rattle.std.proofs.Common.{◌≡◌, ℕ, zero, suc, ◌+◌, ◌≤◌, true, refl, ◌∙◌, arith, inl, inr, subst}
+use Rattle.deep_reduce.proofs.Shared.{and_parts, nest_of, load_of_factors, is_number, are_numbers, are_reduced, Tree, mult, Trees, none, more, append, number_test, number_words, factors_of}
+use Rattle.deep_reduce.proofs.Shared.{nest_of_joint, opened, others_in, is_partner, IsPairAt, joined_pair, not-true, one_base, Contains-append_left, Contains-append_right, Contains-append_cases}
+use Rattle.deep_reduce.proofs.{Shared.{names, names_of, Rewrites, KeepsMeanings-product_more, keeps, kept, Rewrites-refl, joint, joined, partners_of_pair}, Heavy.{heavy_base}}
+use Rattle.deep_reduce.proofs.Joints.{transparent_exponent, joint_load, joint_nest, joint_below}
 use Rattle.calc_algebra.proofs.Names.{no_new_name}
-use Rattle.product_reduce.proofs.{Joined.{joined_keeps}, NoNewNames.{names_joined}}
+use Rattle.product_reduce.proofs.{Joined.{joined_keeps}, NoNewNames.{names_joined}, Joints.{flat_load}}
 
 -- ---- factors opened, without their Numbers
 
@@ -18,9 +18,6 @@ numbers_opened none h = refl
 numbers_opened (more t ts) h = let (p, q) = and_parts _ _ h in number_opened t (opened ts) p ∙ numbers_opened ts q
 
 -- ---- a joining
-
-factor_load_is : (t : Tree) → is_number t ≡ false → is_mult t ≡ false → load_of_factor t ≡ weight (base_of t)
-factor_load_is t h k = grind arith
 
 -- each tree with a sum as its exponent nests no more than n once that sum is reduced
 abbrev pub JointsBelow : ℕ → Trees → Type 0
@@ -41,7 +38,7 @@ below_more n m (more t ts) l h = (omega (arith, h.0), below_more n m ts l h.1)
 
 -- two neighbours joined
 pub pair_loaded : (n : ℕ) (ts : Trees) → are_reduced ts ≡ true → IsPairAt n ts → IsLessLoaded ts (joined_pair n (suc n) ts)
-pair_loaded zero (more t (more u ts)) r p = grind (arith, and_parts, not-true, one_base, heavy_base, transparent_exponent, joint_load, joint_nest, factor_load_is, all_below)
+pair_loaded zero (more t (more u ts)) r p = grind (arith, and_parts, not-true, one_base, heavy_base, transparent_exponent, joint_load, joint_nest, flat_load, all_below)
 pair_loaded (suc n) (more t ts) r p =
     let l = pair_loaded n ts (and_parts _ _ r).1 (record { within = omega (arith, p.within); pair = p.pair }) in
     record { load = omega (arith, l.load); nests = (omega (arith, joint_below t), below_more _ _ (joined_pair n (suc n) ts) (omega arith) l.nests) }

@@ -6,7 +6,7 @@ use Rattle.deep_reduce.proofs.Shared.{refusal_as, base_in, exponent_in, parts_of
 use Rattle.deep_reduce.proofs.{Shared.{AreCalm, zeros, product_count, sum_count, sum_room, product_room, whole_number, scaled, sizes_append, cases_Bool}, Rows.{IsNext}}
 use Rattle.node_bounds.proofs.{Clashes.{clash}, JointRooms.{joined_calm, joined_spans, summed_calm, summed_spans}, Calm.{all_nth, calm_exponent, calm_no_half, calm_product, calm_power}}
 use Rattle.node_bounds.proofs.{JointBytes.{IsJoining, joining, exponents_lack as sum_lacks, power_lacks as joint_power_lacks, split_bytes}, PowerBytes.{argument_needs, inner_needs, exponents_lack}}
-use Rattle.node_bounds.proofs.{PowerBytes.{part_lacks, product_lacks, split_at, all_first}, Rewritten.{parts_calm, parts_single, powers_raised, exponents_calm, exponents_span, raised_calm}}
+use Rattle.node_bounds.proofs.{PowerBytes.{part_lacks, product_lacks, split_at, last_parts}, Rewritten.{parts_calm, parts_single, powers_raised, exponents_calm, exponents_span, raised_calm}}
 use Rattle.node_bounds.proofs.Rewritten.{by_product, by_power}
 use Rattle.product_reduce.proofs.Stepped.{mult_words as product_words}
 
@@ -186,11 +186,11 @@ ready_part gs ns b e t x done rest reduced m w c s p a =
     by_product (λ (y u : Tree). IsCalmAtZero ns (power y e) → SpansTree gs (power y e) → children_of u ≡ append done (more x rest) → IsReadyPart gs ns y x (append reduced rest)) b e t m w
     (λ fs r n c s p.
     let q = split_at (parts_of fs) e done x rest p in
-    let calm = all_first (HasCalmExponent (zeros ns)) q.first (more q.part q.last) (subst (AreCalm (zeros ns)) q.split (parts_calm (zeros ns) fs c.calm.1.1)) in
-    let spanned = all_first (SpansRoot gs) q.first (more q.part q.last) (subst (SpansTrees gs) q.split (parts_span gs fs s.1.1)) in
+    let calm = last_parts (HasCalmExponent (zeros ns)) q.first (more q.part q.last) (subst (AreCalm (zeros ns)) q.split (parts_calm (zeros ns) fs c.calm.1.1)) in
+    let spanned = last_parts (SpansRoot gs) q.first (more q.part q.last) (subst (SpansTrees gs) q.split (parts_span gs fs s.1.1)) in
     subst (λ (y : Tree). IsReadyPart gs ns (mult fs) y (append reduced rest)) (sym q.is) (subst (λ (y : Trees). IsReadyPart gs ns (mult fs) (power q.part e) (append reduced y)) (sym q.rest-is) (record {
-      calm = calm_power (record { once = c.once; calm = calm.1.0 }) (calm_exponent c) (whole_number (zeros ns) e w.whole);
-      spanned = (tt, spanned.1.0, s.2);
+      calm = calm_power (record { once = c.once; calm = calm.0 }) (calm_exponent c) (whole_number (zeros ns) e w.whole);
+      spanned = (tt, spanned.0, s.2);
       whole = w.whole;
       lacks = λ bytes l. part_lacks gs ns fs e r n w.whole c s.1.1 q.first q.part q.last reduced bytes q.split (subst (λ (y : Trees). AreReducedPowers y reduced) q.before-is a) l;
     }))) c s p

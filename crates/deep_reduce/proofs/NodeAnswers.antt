@@ -3,7 +3,7 @@ use Rattle.std.proofs.Common.{◌≡◌, true, false, refl, sym, subst}
 use Rattle.deep_reduce.proofs.Shared.{IsBad, IsEasy, Tree, undef, Trees, none, more, is_undef, IsPart, IsPartOf, itself, in_add, in_mult, in_base, in_exponent, in_root, in_neg, in_left, in_right}
 use Rattle.deep_reduce.proofs.{Shared.{in_dividend, in_divisor, first, later, has_undef, IsNodeAnswer, IsReducedFrom, reduces_after, children_of, or_left, or_right}, EasyNodes.{answered_easy}}
 use Rattle.deep_reduce.proofs.NodeRewrites.{AreReducedFrom, IsOver, over_sum, over_product, over_power, over_root, over_neg, over_sub, over_div, over_rewrites}
-use Rattle.deep_reduce.proofs.{PlainNodes.{answered_plain, undef_has_no_value}, TreeBits.{node_held, node_leaf}, TreeRooms.{node_within}}
+use Rattle.deep_reduce.proofs.{PlainNodes.{answered_plain, undef_has_no_value}, Steps.{left_undefined, right_undefined}, TreeBits.{node_held, node_leaf}, TreeRooms.{node_within}}
 use Rattle.node_bounds.proofs.Clashes.{undef_test}
 
 -- ---- an Easy and Bad part in a child
@@ -18,12 +18,6 @@ module _ (p : Tree) (e : IsEasy p) (b : IsBad p) where
   undef_among (more t ts) (more u us) h (first k) = or_left (is_undef u) (has_undef us) (undef_answer t u h.0 k)
   undef_among (more t ts) (more u us) h (later k) = or_right (is_undef u) (has_undef us) (undef_among ts us h.1 k)
 
-  first_undef : (c d : Tree) → is_undef c ≡ true → has_undef (more c (more d none)) ≡ true
-  first_undef c d h = or_left (is_undef c) (has_undef (more d none)) h
-
-  second_undef : (c d : Tree) → is_undef d ≡ true → has_undef (more c (more d none)) ≡ true
-  second_undef c d h = or_right (is_undef c) (has_undef (more d none)) (or_left (is_undef d) false h)
-
   only_undef : (c : Tree) → is_undef c ≡ true → has_undef (more c none) ≡ true
   only_undef c h = or_left (is_undef c) false h
 
@@ -35,14 +29,14 @@ module _ (p : Tree) (e : IsEasy p) (b : IsBad p) where
   bad_answer t u r h itself a w = w refl
   bad_answer t u r (over_sum ts us h) (in_add k) a w = in_child t u r (undef_among ts us h k) a
   bad_answer t u r (over_product ts us h) (in_mult k) a w = in_child t u r (undef_among ts us h k) a
-  bad_answer t u r (over_power x c g y h l) (in_base k) a w = in_child t u r (first_undef c y (undef_answer x c h k)) a
-  bad_answer t u r (over_power x c g y h l) (in_exponent k) a w = in_child t u r (second_undef c y (undef_answer g y l k)) a
+  bad_answer t u r (over_power x c g y h l) (in_base k) a w = in_child t u r (left_undefined c y (undef_answer x c h k)) a
+  bad_answer t u r (over_power x c g y h l) (in_exponent k) a w = in_child t u r (right_undefined c y (undef_answer g y l k)) a
   bad_answer t u r (over_root x c h) (in_root k) a w = in_child t u r (only_undef c (undef_answer x c h k)) a
   bad_answer t u r (over_neg x c h) (in_neg k) a w = in_child t u r (only_undef c (undef_answer x c h k)) a
-  bad_answer t u r (over_sub x c y d h l) (in_left k) a w = in_child t u r (first_undef c d (undef_answer x c h k)) a
-  bad_answer t u r (over_sub x c y d h l) (in_right k) a w = in_child t u r (second_undef c d (undef_answer y d l k)) a
-  bad_answer t u r (over_div x c y d h l) (in_dividend k) a w = in_child t u r (first_undef c d (undef_answer x c h k)) a
-  bad_answer t u r (over_div x c y d h l) (in_divisor k) a w = in_child t u r (second_undef c d (undef_answer y d l k)) a
+  bad_answer t u r (over_sub x c y d h l) (in_left k) a w = in_child t u r (left_undefined c d (undef_answer x c h k)) a
+  bad_answer t u r (over_sub x c y d h l) (in_right k) a w = in_child t u r (right_undefined c d (undef_answer y d l k)) a
+  bad_answer t u r (over_div x c y d h l) (in_dividend k) a w = in_child t u r (left_undefined c d (undef_answer x c h k)) a
+  bad_answer t u r (over_div x c y d h l) (in_divisor k) a w = in_child t u r (right_undefined c d (undef_answer y d l k)) a
 
 pub node_answered : (t u r : Tree) → IsOver t u → IsNodeAnswer u r → IsReducedFrom t r
 node_answered t u r h a =

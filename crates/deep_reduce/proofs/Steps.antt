@@ -8,13 +8,13 @@ use Rattle.deep_reduce.proofs.Shared.{Rewrites-refl, reduces, reduces_after, IsP
 use Rattle.deep_reduce.proofs.Shared.{or_left, or_right, or_parts, number_reduced, symbol_reduced, undef_reduced, as_num, undef_inside, rationals_defined, KeepsNodeRoom, node_count, KeepsRootRoom}
 use Rattle.deep_reduce.proofs.{Shared.{HoldsNode, has_number, is_half_num, exponent_in, IsFactorHeld, is_leaf, KeepsSumBounds}, EasyNodes.{number_defined}, NodeRewrites.{both}}
 use Rattle.deep_reduce.proofs.PlainNodes.{undef_has_no_value}
-use Rattle.node_bounds.proofs.{Clashes.{undef_words, undef_test, rational_number}, HeldFactors.{tree_factor}, HeldRoots.{root_answer_held}, NodeBits.{zero_held, one_held, opposite_factors, two_terms}}
-use Rattle.node_bounds.proofs.{NodeBits.{second_side, answer_defined, power_answer_held}, NodeRooms.{product_node_room, power_node_room, undef_room, same_room, number_room, sum_room, root_node_room}}
-use Rattle.node_bounds.proofs.{NodeRooms.{opposite_room, difference_room}, PowerRooms.{undef_root_room}}
+use Rattle.node_bounds.proofs.{Clashes.{contrary, undef_words, undef_test, rational_number}, HeldFactors.{tree_factor}, HeldRoots.{root_answer_held}, NodeBits.{zero_held, one_held, opposite_factors}}
+use Rattle.node_bounds.proofs.{NodeBits.{two_terms, second_side, answer_defined, power_answer_held}, NodeRooms.{node_room, undef_room, same_room, number_room, sum_room, root_node_room, opposite_room}}
+use Rattle.node_bounds.proofs.{NodeRooms.{difference_room}, PowerRooms.{undef_root_room}}
 use Rattle.calc_algebra.proofs.UndefRewrites.{undef_part}
 use Rattle.calc_measures.proofs.Inverses.{opposite_value}
-use Rattle.calc_algebra.proofs.MeaningRewrites as rewrites
 pub use Rattle.power_reduce.proofs.Answered.{no_names}
+use Rattle.calc_algebra.proofs.MeaningRewrites as rewrites
 
 abbrev pub two : Tree → Tree → Trees
 two a b = more a (more b none)
@@ -77,26 +77,31 @@ pub sum_answer : (ts : Trees) (r : Tree) → IsSumAnswer ts r → KeepsSumBounds
 sum_answer ts r a b p = record { reduces = a.reduces; undefined = λ h. undef_words r (a.undefined ∙ h); number = λ h n. a.number h; rational = p; room = sum_room ts r b.room; root_room = λ h. cc; held = λ d h l x. tree_factor r a.reduces.reduced d (b.held h l (sym a.undefined ∙ d) x); leaf = λ h. cc }
 
 pub product_answer : (ts : Trees) (r : Tree) → IsReducedProduct ts r → (are_rationals ts ≡ true → IsPlainAnswer (plain_value (mult ts)) r) → IsNodeAnswer (mult ts) r
-product_answer ts r a p = record { reduces = a.reduces; undefined = a.undefined; number = λ h n. a.number h; rational = p; room = product_node_room ts r a.room; root_room = λ h. cc; held = a.held; leaf = λ h. cc }
+product_answer ts r a p = record { reduces = a.reduces; undefined = a.undefined; number = λ h n. a.number h; rational = p; room = node_room (mult ts) r (λ gs s. s) a.room; root_room = λ h. cc; held = a.held; leaf = λ h. cc }
 
 pub power_answer : (b e r : Tree) → IsReducedPower b e r → (are_rationals (two b e) ≡ true → IsPlainAnswer (plain_value (power b e)) r) → IsNodeAnswer (power b e) r
-power_answer b e r a p = record { reduces = a.reduces; undefined = a.undefined; number = a.number; rational = p; room = power_node_room b e r a.room; root_room = a.root_room; held = power_answer_held b e r a; leaf = λ h. cc }
+power_answer b e r a p = record { reduces = a.reduces; undefined = a.undefined; number = a.number; rational = p; room = node_room (power b e) r (λ gs s. s) a.room; root_room = a.root_room; held = power_answer_held b e r a; leaf = λ h. cc }
 
 pub root_answer : (a r : Tree) → is_reduced a ≡ true → IsRootAnswer a r → ((gs : List ℕ) → SpansTree gs (root a) → SpansTree gs r)
     → IfRational a (λ q. int_is_negative q.num ≡ false → IsNoLargerThanRoot q (value r)) → IsNodeAnswer (root a) r
 root_answer a r x h s m = record { reduces = h.reduces; undefined = λ e. undef_words r (h.undefined ∙ e); number = h.number; rational = λ e. tt; room = root_node_room a r h s; root_room = λ k. cc; held = λ d i l k. root_answer_held a r x h m k.1 d k.0; leaf = λ k. cc }
 
+-- a node that is worth a rational
+pub worth_answer : (t : Tree) (q : Fraction) → rewrites.KeepsMeanings t (num q) → has_no_value t ≡ false → is_half_num (exponent_in t) ≡ false → is_leaf t ≡ false
+    → (are_rationals (children_of t) ≡ true → IsPlainAnswer (plain_value t) (num q)) → ((h l : ℕ) → HoldsNode t h l → IsFactorHeld (num q) h l) → IsNodeAnswer t (num q)
+worth_answer t q m d n l p k = record {
+  reduces = record { reduced = number_reduced q; no_new_name = no_names t (num q) refl; meanings = keeps m };
+  undefined = λ h. contrary h d;
+  number = λ h x. rational_number q;
+  rational = p;
+  room = number_room t q;
+  root_room = λ h. contrary h n;
+  held = λ x. k;
+  leaf = λ h. contrary h l;
+}
+
 pub empty_sum_answer : (r : Tree) → r ≡ num zero_fraction → IsNodeAnswer (add none) r
-empty_sum_answer r e = subst (IsNodeAnswer (add none)) (sym e) (record {
-  reduces = record { reduced = number_reduced zero_fraction; no_new_name = no_names (add none) (num zero_fraction) refl; meanings = keeps rewrites.empty_sum };
-  undefined = λ h. cc;
-  number = λ h n. rational_number zero_fraction;
-  rational = λ h. tt;
-  room = number_room (add none) zero_fraction;
-  root_room = λ h. cc;
-  held = λ d h l k. zero_held h l;
-  leaf = λ h. cc;
-})
+empty_sum_answer r e = subst (IsNodeAnswer (add none)) (sym e) (worth_answer (add none) zero_fraction rewrites.empty_sum refl refl refl (λ h. tt) (λ h l k. zero_held h l))
 
 pub empty_product_answer : (r : Tree) → r ≡ num one_fraction → IsNodeAnswer (mult none) r
 empty_product_answer r h = grind (arith, number_reduced, no_names, keeps, rational_number, number_room, one_held)

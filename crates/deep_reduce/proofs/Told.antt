@@ -1,11 +1,11 @@
 -- What calls on a node of a kind tell, in the words of any node.
 use Rattle.std.proofs.Common.{◌≡◌, ◌≢◌, ℕ, List, negsuc, true, false, ◌&&◌, refl, sym, ap, ◌∙◌, subst, arith, inl, inr, Result}
 use Rattle.deep_reduce.proofs.Shared.{false_from_ne_true, lowest, minus_one_fraction, ratio_of, value_of, PlainValue, nothing, plain_value, is_half_num, is_reduced, is_whole_num, are_reduced, Tree}
-use Rattle.deep_reduce.proofs.Shared.{num, symbol, undef, add, mult, power, root, neg, sub, div, Trees, none, more, is_add, is_mult, is_root, is_sub, is_div, is_num, root_kind, are_rationals}
-use Rattle.deep_reduce.proofs.Shared.{has_undef, value, int_is_negative, IsNoLargerThanRoot, IsReducedProduct, IsReducedPower, SpansTree, IsNodeAnswer, IsNodeOverflow, is_neg, base_in, exponent_in}
-use Rattle.deep_reduce.proofs.Shared.{no_plain_value, whole_no_half, whole_is, NamesProduct, argument_of, IfRational, IsRootAnswer, Overflow, IsPlainAnswer, IsPlainOverflow, IsSumAnswer, nth}
-use Rattle.deep_reduce.proofs.{Shared.{children_of, and_from, and_parts, cases_Bool, NumberFault, IfOverflow, KeepsSumBounds}, Steps.{two, sum_answer, product_answer, power_answer, root_answer}}
-use Rattle.deep_reduce.proofs.Steps.{number_answer, symbol_answer, undef_answer}
+use Rattle.deep_reduce.proofs.Shared.{num, symbol, undef, add, mult, power, root, neg, sub, div, Trees, none, more, is_add, is_mult, is_root, is_num, root_kind, are_rationals, has_undef, value}
+use Rattle.deep_reduce.proofs.Shared.{int_is_negative, IsNoLargerThanRoot, IsReducedProduct, IsReducedPower, SpansTree, IsNodeAnswer, IsNodeOverflow, is_neg, base_in, exponent_in, no_plain_value}
+use Rattle.deep_reduce.proofs.Shared.{whole_no_half, whole_is, NamesProduct, argument_of, IfRational, IsRootAnswer, Overflow, IsPlainAnswer, IsPlainOverflow, IsSumAnswer, nth, children_of, and_from}
+use Rattle.deep_reduce.proofs.{Shared.{and_parts, cases_Bool, NumberFault, IfOverflow, KeepsSumBounds}, Steps.{two, sum_answer, product_answer, power_answer, root_answer, number_answer}}
+use Rattle.deep_reduce.proofs.Steps.{symbol_answer, undef_answer}
 use Rattle.node_bounds.proofs.Clashes.{contrary}
 use Rattle.calc_terms.specs.{declared.rat.Rat.{Rat}, Ratio.{Ratio, whole}}
 use Rattle.calc_terms.specs.declared.kind.Kind.TheVariants as kind
@@ -21,21 +21,15 @@ root_kind_is t h = grind arith
 pub neg_kind : (t : Tree) → kind.Neg ≡ root_kind t → is_neg t ≡ true
 neg_kind t h = grind arith
 
-pub sub_kind : (t : Tree) → kind.Sub ≡ root_kind t → is_sub t ≡ true
-sub_kind t h = grind arith
-
-pub div_kind : (t : Tree) → kind.Div ≡ root_kind t → is_div t ≡ true
-div_kind t h = grind arith
-
 -- ---- the node by its children
 
 pub neg_is : (t : Tree) → is_neg t ≡ true → t ≡ neg (nth 0 (children_of t))
 neg_is t h = grind arith
 
-pub sub_is : (t : Tree) → is_sub t ≡ true → t ≡ sub (nth 0 (children_of t)) (nth 1 (children_of t))
+pub sub_is : (t : Tree) → kind.Sub ≡ root_kind t → t ≡ sub (nth 0 (children_of t)) (nth 1 (children_of t))
 sub_is t h = grind arith
 
-pub div_is : (t : Tree) → is_div t ≡ true → t ≡ div (nth 0 (children_of t)) (nth 1 (children_of t))
+pub div_is : (t : Tree) → kind.Div ≡ root_kind t → t ≡ div (nth 0 (children_of t)) (nth 1 (children_of t))
 div_is t h = grind arith
 
 pub neg_children : (t : Tree) → is_neg t ≡ true → children_of t ≡ more (nth 0 (children_of t)) none
@@ -138,11 +132,8 @@ two_reduced a b h k = and_from (is_reduced a) (is_reduced b && true) h (and_from
 pub only_reduced : (ts : Trees) (a : Tree) → ts ≡ more a none → are_reduced ts ≡ true → is_reduced a ≡ true
 only_reduced ts a e h = (and_parts (is_reduced a) true (ap are_reduced (sym e) ∙ h)).0
 
-pub right_reduced : (ts : Trees) (a b : Tree) → ts ≡ two a b → are_reduced ts ≡ true → is_reduced b ≡ true
-right_reduced ts a b e h = (sides_reduced a b (ap are_reduced (sym e) ∙ h)).1
-
-pub left_reduced : (ts : Trees) (a b : Tree) → ts ≡ two a b → are_reduced ts ≡ true → is_reduced a ≡ true
-left_reduced ts a b e h = (sides_reduced a b (ap are_reduced (sym e) ∙ h)).0
+pub both_reduced : (ts : Trees) (a b : Tree) → ts ≡ two a b → are_reduced ts ≡ true → (is_reduced a ≡ true) × (is_reduced b ≡ true)
+both_reduced ts a b e h = sides_reduced a b (ap are_reduced (sym e) ∙ h)
 
 -- an overflow is of a node without Undef children
 pub node_fits : (t : Tree) (r : Result ℕ NumberFault) → IfOverflow r (IsNodeOverflow t) → (has_undef (children_of t) ≡ false → IfOverflow r (λ o. ⊥)) → IfOverflow r (λ o. ⊥)

@@ -4,3 +4,4 @@ pub mod Nodes
 pub mod Reductions
 pub mod Pairs
 pub mod Connectives
+pub mod Pools

@@ -1,5 +1,5 @@
 //! Opposites, differences and quotients, as sums, products and powers.
-ghost use Rattle.std.specs.Prelude.{ℕ, List, length, ◌≡◌, ◌+◌, ◌^◌, true, false, IfOk, IfErr, OnOk, [], ◌∷◌};
+ghost use Rattle.std.specs.Prelude.{ℕ, List, length, ◌≡◌, ◌+◌, ◌^◌, true, false, IfOk, IfErr, [], ◌∷◌};
 ghost use Rattle.calc_algebra.specs.Reduced.{is_reduced, are_reduced};
 ghost use Rattle.calc_room.specs.Counts.{counted};
 ghost use Rattle.calc_room.specs.Spans.{SpansTree};
@@ -14,11 +14,11 @@ ghost use Rattle.node_bounds.specs.Rooms.{IsCalmAtZero};
 ghost use Rattle.node_pool.specs.State.{free_of};
 ghost use Rattle.tree_handles.specs.Lacking.{LacksBelow};
 ghost use Rattle.tree_room.specs.Needs.{simple_room};
-ghost use Rattle.tree_handles.specs.Causes.{IsCaused};
 ghost use Rattle.tree_handles.specs.Handed.{tree_of, IsHanded, Ends, Gives, KeepsFront};
 ghost use Rattle.tree_handles.specs.Expressions.{children_of, nth};
-ghost use Rattle.tree_handles.specs.Faults.{Faults, IfOverflow};
+ghost use Rattle.tree_handles.specs.Faults.{IfOverflow};
 ghost use Rattle.tree_handles.specs.Roots.{root_tree, without_root};
+ghost use Rattle.deep_reduce.specs.Pools.{LeavesPool};
 ghost use Rattle.tree_handles.specs.Standing.{Stands, forest, KeepsRefusals};
 
 use crate::connective::Connective;
@@ -40,13 +40,10 @@ pub(crate) fn negate(pool: &mut Pool, opposite: Handle) -> Result<Handle, Number
     ensures ok { IfOk result (λ h. Gives (without_root opposite (forest pool.old)) (forest pool.new) h (IsNodeAnswer (tree_of opposite pool.old))) }
     ensures overflow { IfOverflow result (IsNodeOverflow (tree_of opposite pool.old)) }
     ensures front { KeepsFront (opposite ∷ []) (forest pool.old) (forest pool.new) }
-    ensures kept { OnOk result (KeepsRefusals pool.old pool.new) }
-    ensures faults { IfErr result (Faults pool.old pool.new) }
-    ensures caused { IfErr result (IsCaused pool.new) }
     ensures room { (gs : List ℕ) (ns : List (List ℕ)) (n : ℕ) → HasNodesFor n (tree_of opposite pool.old) → IsCalmAtZero ns (tree_of opposite pool.old) → SpansTree gs (tree_of opposite pool.old)
         → IfErr result (LacksBelow (simple_room n (2 ^ length gs)) (free_of pool.old + size (tree_of opposite pool.old))) }
     ensures bits { (h l : ℕ) → (has_undef (children_of (tree_of opposite pool.old)) ≡ false → HoldsNode (tree_of opposite pool.old) h l) → AreFewBits h l → IfOverflow result (λ o. ⊥) }
-    ensures stands { Stands pool.new }
+    ensures leaves { LeavesPool result pool.old pool.new }
 {
     let argument = take_child(pool, &opposite, 0);
     release(pool, opposite);
@@ -68,13 +65,10 @@ pub(crate) fn reduce_sides(
     ensures ok { IfOk result (λ h. Gives (without_root node (forest pool.old)) (forest pool.new) h (IsNodeAnswer (tree_of node pool.old))) }
     ensures overflow { IfOverflow result (IsNodeOverflow (tree_of node pool.old)) }
     ensures front { KeepsFront (node ∷ []) (forest pool.old) (forest pool.new) }
-    ensures kept { OnOk result (KeepsRefusals pool.old pool.new) }
-    ensures faults { IfErr result (Faults pool.old pool.new) }
-    ensures caused { IfErr result (IsCaused pool.new) }
     ensures room { let t = tree_of node pool.old in (gs : List ℕ) (ns : List (List ℕ)) (n : ℕ) → HasNodesFor n t → IsCalmAtZero ns t → SpansTree gs t
         → IfErr result (LacksBelow (simple_room n (2 ^ length gs)) (free_of pool.old + size t)) }
     ensures bits { (h l : ℕ) → (has_undef (children_of (tree_of node pool.old)) ≡ false → HoldsNode (tree_of node pool.old) h l) → AreFewBits h l → IfOverflow result (λ o. ⊥) }
-    ensures stands { Stands pool.new }
+    ensures leaves { LeavesPool result pool.old pool.new }
 {
     if has_undefined_child(pool, node.id()) {
         return Ok(undefined(pool, node));
@@ -102,15 +96,12 @@ fn join_sides(
         IfOk result (λ h. Gives (without_root right (without_root left (forest pool.old))) (forest pool.new) h (IsNodeAnswer t)) }
     ensures overflow { IfOverflow result (IsNodeOverflow (joined_by connective (more (tree_of left pool.old) (more (tree_of right pool.old) none)))) }
     ensures front { KeepsFront (left ∷ right ∷ []) (forest pool.old) (forest pool.new) }
-    ensures kept { OnOk result (KeepsRefusals pool.old pool.new) }
-    ensures faults { IfErr result (Faults pool.old pool.new) }
-    ensures caused { IfErr result (IsCaused pool.new) }
     ensures room { let ts = more (tree_of left pool.old) (more (tree_of right pool.old) none) in
         (gs : List ℕ) (ns : List (List ℕ)) → IsCalmAtZero ns (joined_by connective ts) → SpansTree gs (joined_by connective ts)
         → IfErr result (LacksBelow (joined_room connective ts (2 ^ length gs)) (free_of pool.old + sizes ts)) }
     ensures bits { let t = joined_by connective (more (tree_of left pool.old) (more (tree_of right pool.old) none)) in
         (h l : ℕ) → (has_undef (children_of t) ≡ false → HoldsNode t h l) → AreFewBits h l → IfOverflow result (λ o. ⊥) }
-    ensures stands { Stands pool.new }
+    ensures leaves { LeavesPool result pool.old pool.new }
 {
     let both = node_over_two(pool, connective.kind(), left, right)?;
     reduce_joined(pool, connective, both)
@@ -125,14 +116,11 @@ fn turn(pool: &mut Pool, connective: Connective, side: Handle) -> Result<Handle,
     ensures ok { IfOk result (λ h. Gives (without_root side (forest pool.old)) (forest pool.new) h (IsNodeAnswer (turned connective (tree_of side pool.old)))) }
     ensures overflow { IfOverflow result (IsNodeOverflow (turned connective (tree_of side pool.old))) }
     ensures front { KeepsFront (side ∷ []) (forest pool.old) (forest pool.new) }
-    ensures kept { OnOk result (KeepsRefusals pool.old pool.new) }
-    ensures faults { IfErr result (Faults pool.old pool.new) }
-    ensures caused { IfErr result (IsCaused pool.new) }
     ensures room { let t = tree_of side pool.old in (gs : List ℕ) (ns : List (List ℕ)) → IsCalmAtZero ns t → SpansTree gs t
         → IfErr result (LacksBelow (turned_room connective (counted t) (2 ^ length gs)) (free_of pool.old + size t)) }
     ensures bits { let t = turned connective (tree_of side pool.old) in
         (h l : ℕ) → (has_undef (children_of t) ≡ false → HoldsNode t h l) → AreFewBits h l → IfOverflow result (λ o. ⊥) }
-    ensures stands { Stands pool.new }
+    ensures leaves { LeavesPool result pool.old pool.new }
 {
     let minus_one = number(pool, Rat::whole(-1))?;
     match connective {

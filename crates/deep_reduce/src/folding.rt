@@ -16,6 +16,7 @@ use tree_handles::{Handle, child_id, children, kind, rational};
 /// The rational that a node over one or two rationals reduces to, where its value fits. It is no part of its caller, of
 /// which each level of a tree has one on the machine's stack.
 #[inline(never)]
+#[tactic(auto, using(tree_handles::proofs::Seen::expression, tree_handles::proofs::Seen::live))]
 pub(crate) fn folded(pool: &Pool, tree: &Handle) -> Option<Rat>
     requires stands { Stands pool.now }
     requires handed { IsHanded tree.now (forest pool.now) }
@@ -49,6 +50,7 @@ pub(crate) fn folded(pool: &Pool, tree: &Handle) -> Option<Rat>
 }
 
 /// The rational that a quotient of two reduces to, where it fits.
+#[tactic(auto, using(calc_measures::proofs::Inverses::zero_num, rational128::proofs::LowestTerms::ratio_parts))]
 fn quotient(dividend: Rat, divisor: Rat) -> Option<Rat>
     ensures { IfSome result (λ r. IsNodeAnswer (div (num (value_of dividend)) (num (value_of divisor))) (num (value_of r))) }
 {

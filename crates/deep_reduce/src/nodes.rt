@@ -1,5 +1,5 @@
 //! One node whose children are reduced.
-ghost use Rattle.std.specs.Prelude.{ℕ, List, length, ◌≡◌, ◌<◌, ◌+◌, ◌^◌, nat_abs, true, false, IfOk, IfErr, OnOk, [], ◌∷◌};
+ghost use Rattle.std.specs.Prelude.{ℕ, List, length, ◌≡◌, ◌<◌, ◌+◌, ◌^◌, nat_abs, true, false, IfOk, IfErr, [], ◌∷◌};
 ghost use Rattle.calc_terms.specs.Limits.{number_limit};
 ghost use Rattle.calc_terms.specs.Fractions.{whole_fraction};
 ghost use Rattle.calc_terms.specs.Rat.{value_of};
@@ -15,14 +15,14 @@ ghost use Rattle.node_pool.specs.State.{free_of};
 ghost use Rattle.tree_handles.specs.Lacking.{LacksBelow};
 ghost use Rattle.power_reduce.specs.PowerAnswers.{base_in, exponent_in};
 ghost use Rattle.tree_room.specs.Needs.{simple_room};
-ghost use Rattle.tree_handles.specs.Causes.{IsCaused};
 ghost use Rattle.calc_algebra.specs.Reduced.{are_reduced, is_half_num};
 ghost use Rattle.tree_handles.specs.Handed.{tree_of, IsHanded, Ends, Gives, KeepsFront};
 ghost use Rattle.tree_handles.specs.Expressions.{IsExpression, plain, children_of};
-ghost use Rattle.tree_handles.specs.Faults.{Faults, IfOverflow};
+ghost use Rattle.tree_handles.specs.Faults.{IfOverflow};
 ghost use Rattle.tree_handles.specs.Inside.{tree_at};
 ghost use Rattle.tree_handles.specs.Roots.{root_tree, without_root};
-ghost use Rattle.tree_handles.specs.Standing.{Stands, forest, KeepsRefusals};
+ghost use Rattle.deep_reduce.specs.Pools.{LeavesPool};
+ghost use Rattle.tree_handles.specs.Standing.{Stands, forest};
 
 use crate::connective::Connective;
 use crate::differences::{negate, reduce_sides};
@@ -44,9 +44,6 @@ pub(crate) fn reduce_node(pool: &mut Pool, tree: Handle) -> Result<Handle, Numbe
     ensures ok { IfOk result (λ h. Gives (without_root tree (forest pool.old)) (forest pool.new) h (IsNodeAnswer (tree_of tree pool.old))) }
     ensures overflow { IfOverflow result (IsNodeOverflow (tree_of tree pool.old)) }
     ensures front { KeepsFront (tree ∷ []) (forest pool.old) (forest pool.new) }
-    ensures kept { OnOk result (KeepsRefusals pool.old pool.new) }
-    ensures faults { IfErr result (Faults pool.old pool.new) }
-    ensures caused { IfErr result (IsCaused pool.new) }
 
     // In a tree of enough nodes bytes are lacking only where fewer are at hand than that needs; and so for half of an odd number as
     // the exponent, where the radicands span the root of the base.
@@ -58,7 +55,7 @@ pub(crate) fn reduce_node(pool: &mut Pool, tree: Handle) -> Result<Handle, Numbe
     // Where few bits hold the node, nothing overflows.
     ensures bits { (h l : ℕ) → (has_undef (children_of (tree_of tree pool.old)) ≡ false → HoldsNode (tree_of tree pool.old) h l) → AreFewBits h l → IfOverflow result (λ o. ⊥) }
 
-    ensures stands { Stands pool.new }
+    ensures leaves { LeavesPool result pool.old pool.new }
 {
     if let Some(value) = folded(pool, &tree) {
         return put(pool, tree, value);
@@ -89,13 +86,10 @@ pub(crate) fn reduce_joined(
     ensures ok { IfOk result (λ h. Gives (without_root node (forest pool.old)) (forest pool.new) h (IsNodeAnswer (tree_of node pool.old))) }
     ensures overflow { IfOverflow result (IsNodeOverflow (tree_of node pool.old)) }
     ensures front { KeepsFront (node ∷ []) (forest pool.old) (forest pool.new) }
-    ensures kept { OnOk result (KeepsRefusals pool.old pool.new) }
-    ensures faults { IfErr result (Faults pool.old pool.new) }
-    ensures caused { IfErr result (IsCaused pool.new) }
     ensures room { let t = tree_of node pool.old in (gs : List ℕ) (ns : List (List ℕ)) → IsCalmAtZero ns t → SpansTree gs t
         → IfErr result (LacksBelow (joined_room connective (children_of t) (2 ^ length gs)) (free_of pool.old + size t)) }
     ensures bits { (h l : ℕ) → (has_undef (children_of (tree_of node pool.old)) ≡ false → HoldsNode (tree_of node pool.old) h l) → AreFewBits h l → IfOverflow result (λ o. ⊥) }
-    ensures stands { Stands pool.new }
+    ensures leaves { LeavesPool result pool.old pool.new }
 {
     if children(pool, node.id()) == 0 {
         return whole(pool, node, connective.neutral());
@@ -113,11 +107,8 @@ fn put(pool: &mut Pool, tree: Handle, value: Rat) -> Result<Handle, NumberFault>
     ensures ok { IfOk result (λ h. Gives (without_root tree (forest pool.old)) (forest pool.new) h (λ t. t ≡ num (value_of value))) }
     ensures overflow { IfOverflow result (λ o. ⊥) }
     ensures front { KeepsFront (tree ∷ []) (forest pool.old) (forest pool.new) }
-    ensures kept { OnOk result (KeepsRefusals pool.old pool.new) }
-    ensures faults { IfErr result (Faults pool.old pool.new) }
-    ensures caused { IfErr result (IsCaused pool.new) }
     ensures room { IfErr result (LacksBelow 40 (free_of pool.old + size (tree_of tree pool.old))) }
-    ensures stands { Stands pool.new }
+    ensures leaves { LeavesPool result pool.old pool.new }
 {
     release(pool, tree);
     Ok(number(pool, value)?)
@@ -131,11 +122,8 @@ fn whole(pool: &mut Pool, tree: Handle, n: i128) -> Result<Handle, NumberFault>
     ensures ok { IfOk result (λ h. Gives (without_root tree (forest pool.old)) (forest pool.new) h (λ t. t ≡ num (whole_fraction n))) }
     ensures overflow { IfOverflow result (λ o. ⊥) }
     ensures front { KeepsFront (tree ∷ []) (forest pool.old) (forest pool.new) }
-    ensures kept { OnOk result (KeepsRefusals pool.old pool.new) }
-    ensures faults { IfErr result (Faults pool.old pool.new) }
-    ensures caused { IfErr result (IsCaused pool.new) }
     ensures room { IfErr result (LacksBelow 40 (free_of pool.old + size (tree_of tree pool.old))) }
-    ensures stands { Stands pool.new }
+    ensures leaves { LeavesPool result pool.old pool.new }
 {
     put(pool, tree, Rat::whole(n))
 }

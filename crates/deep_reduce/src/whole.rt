@@ -28,6 +28,7 @@ ghost use Rattle.tree_handles.specs.Handed.{tree_of, IsHanded, Gives, KeepsFront
 ghost use Rattle.tree_handles.specs.Expressions.{children_of};
 ghost use Rattle.tree_handles.specs.Faults.{Faults, OfOverflow};
 ghost use Rattle.tree_handles.specs.Roots.{without_root};
+ghost use Rattle.deep_reduce.specs.Pools.{LeavesPool};
 ghost use Rattle.tree_handles.specs.Standing.{Stands, forest, KeepsRefusals};
 
 use crate::exponents::sum_exponent;
@@ -96,13 +97,10 @@ fn join_pairs(pool: &mut Pool, product: Handle, first: u16) -> Result<Handle, Nu
     ensures ok { IfOk result (λ h. Gives (without_root product (forest pool.old)) (forest pool.new) h
         (IsLess (children_of (tree_of product pool.old)))) }
     ensures front { KeepsFront (product ∷ []) (forest pool.old) (forest pool.new) }
-    ensures kept { OnOk result (KeepsRefusals pool.old pool.new) }
-    ensures faults { IfErr result (Faults pool.old pool.new) }
-    ensures caused { IfErr result (IsCaused pool.new) }
     ensures room { (gs : List ℕ) (ns : List (List ℕ)) → IsCalmAtZero ns (tree_of product pool.old) → SpansTree gs (tree_of product pool.old)
         → IfErr result (LacksBelow (product_room (product_count (children_of (tree_of product pool.old))) (2 ^ length gs)) (free_of pool.old + size (tree_of product pool.old))) }
     ensures bits { (h l : ℕ) → AreFactorsHeld (children_of (tree_of product pool.old)) h l → AreFewBits h l → IfErr result (OfOverflow (λ o. ⊥)) }
-    ensures stands { Stands pool.new }
+    ensures leaves { LeavesPool result pool.old pool.new }
 {
     let mut joined = join_two(pool, product, first)?;
     let mut next = next_pair(pool, &joined, first);
@@ -129,13 +127,10 @@ fn join_two(pool: &mut Pool, product: Handle, at: u16) -> Result<Handle, NumberF
         (IsLess (children_of (tree_of product pool.old)))) }
     ensures within { IfOk result (λ h. at < count (children_of (tree_of h pool.new))) }
     ensures front { KeepsFront (product ∷ []) (forest pool.old) (forest pool.new) }
-    ensures kept { OnOk result (KeepsRefusals pool.old pool.new) }
-    ensures faults { IfErr result (Faults pool.old pool.new) }
-    ensures caused { IfErr result (IsCaused pool.new) }
     ensures room { (gs : List ℕ) (ns : List (List ℕ)) → IsCalmAtZero ns (tree_of product pool.old) → SpansTree gs (tree_of product pool.old)
         → IfErr result (LacksBelow (product_room (product_count (children_of (tree_of product pool.old))) (2 ^ length gs)) (free_of pool.old + size (tree_of product pool.old))) }
     ensures bits { (h l : ℕ) → AreFactorsHeld (children_of (tree_of product pool.old)) h l → AreFewBits h l → IfErr result (OfOverflow (λ o. ⊥)) }
-    ensures stands { Stands pool.new }
+    ensures leaves { LeavesPool result pool.old pool.new }
 {
     let joined = join_neighbours(pool, product, at)?;
     reduce_joint(pool, joined, at)
@@ -151,13 +146,10 @@ fn reduce_joint(pool: &mut Pool, product: Handle, at: u16) -> Result<Handle, Num
     ensures ok { IfOk result (λ h. Gives (without_root product (forest pool.old)) (forest pool.new) h
         (IsSettled at (children_of (tree_of product pool.old)))) }
     ensures front { KeepsFront (product ∷ []) (forest pool.old) (forest pool.new) }
-    ensures kept { OnOk result (KeepsRefusals pool.old pool.new) }
-    ensures faults { IfErr result (Faults pool.old pool.new) }
-    ensures caused { IfErr result (IsCaused pool.new) }
     ensures room { (gs : List ℕ) (ns : List (List ℕ)) (ts : Trees) → IsJoinedFrom at ts (children_of (tree_of product pool.old)) → IsCalmAtZero ns (mult ts) → SpansTree gs (mult ts)
         → IfErr result (LacksBelow (product_room (product_count ts) (2 ^ length gs)) (free_of pool.old + size (tree_of product pool.old))) }
     ensures bits { (h l : ℕ) (ts : Trees) → IsJoinedFrom at ts (children_of (tree_of product pool.old)) → AreFactorsHeld ts h l → AreFewBits h l → IfErr result (OfOverflow (λ o. ⊥)) }
-    ensures stands { Stands pool.new }
+    ensures leaves { LeavesPool result pool.old pool.new }
 {
     let (hole, joint) = open_child(pool, &product, at);
     let power = sum_exponent(pool, joint)?;
@@ -224,14 +216,11 @@ fn reduce_rewritten(pool: &mut Pool, tree: Handle) -> Result<Handle, NumberFault
     ensures ok { IfOk result (λ h. Gives (without_root tree (forest pool.old)) (forest pool.new) h
         (Finishes (tree_of tree pool.old))) }
     ensures front { KeepsFront (tree ∷ []) (forest pool.old) (forest pool.new) }
-    ensures kept { OnOk result (KeepsRefusals pool.old pool.new) }
-    ensures faults { IfErr result (Faults pool.old pool.new) }
-    ensures caused { IfErr result (IsCaused pool.new) }
     ensures room { (gs : List ℕ) (ns : List (List ℕ)) (b e : Tree) → IsRewritten b e (tree_of tree pool.old) → IsCalmAtZero ns (power_tree b e) → SpansTree gs (power_tree b e)
         → IfErr result (LacksBelow (whole_power_room b (2 ^ length gs)) (free_of pool.old + size (tree_of tree pool.old))) }
     ensures bits { (b e : Tree) (n : ℤ) (h l : ℕ) → IsRewritten b e (tree_of tree pool.old) → e ≡ num (whole_fraction n) → IsFactorHeld b h l → HasFewBitsRaised n h l
         → IfErr result (OfOverflow (λ o. ⊥)) }
-    ensures stands { Stands pool.new }
+    ensures leaves { LeavesPool result pool.old pool.new }
 {
     match kind(pool, tree.id()) {
         Kind::Mult => {
@@ -256,14 +245,11 @@ fn reduce_powers(pool: &mut Pool, product: Handle) -> Result<Handle, NumberFault
     ensures ok { IfOk result (λ h. Gives (without_root product (forest pool.old)) (forest pool.new) h
         (IsProductOfPowers (children_of (tree_of product pool.old)))) }
     ensures front { KeepsFront (product ∷ []) (forest pool.old) (forest pool.new) }
-    ensures kept { OnOk result (KeepsRefusals pool.old pool.new) }
-    ensures faults { IfErr result (Faults pool.old pool.new) }
-    ensures caused { IfErr result (IsCaused pool.new) }
     ensures room { (gs : List ℕ) (ns : List (List ℕ)) (b e : Tree) → IsRewritten b e (tree_of product pool.old) → IsCalmAtZero ns (power_tree b e) → SpansTree gs (power_tree b e)
         → IfErr result (LacksBelow (whole_power_room b (2 ^ length gs)) (free_of pool.old + size (tree_of product pool.old))) }
     ensures bits { (b e : Tree) (n : ℤ) (h l : ℕ) → IsRewritten b e (tree_of product pool.old) → e ≡ num (whole_fraction n) → IsFactorHeld b h l → HasFewBitsRaised n h l
         → IfErr result (OfOverflow (λ o. ⊥)) }
-    ensures stands { Stands pool.new }
+    ensures leaves { LeavesPool result pool.old pool.new }
 {
     let powers = children(pool, product.id());
     for at in 0..powers {
@@ -285,14 +271,11 @@ fn reduce_exponent(pool: &mut Pool, power: Handle) -> Result<Handle, NumberFault
     ensures ok { IfOk result (λ h. Gives (without_root power (forest pool.old)) (forest pool.new) h
         (IsLifted (tree_of power pool.old))) }
     ensures front { KeepsFront (power ∷ []) (forest pool.old) (forest pool.new) }
-    ensures kept { OnOk result (KeepsRefusals pool.old pool.new) }
-    ensures faults { IfErr result (Faults pool.old pool.new) }
-    ensures caused { IfErr result (IsCaused pool.new) }
     ensures room { (gs : List ℕ) (ns : List (List ℕ)) (b e : Tree) → IsRewritten b e (tree_of power pool.old) → IsCalmAtZero ns (power_tree b e) → SpansTree gs (power_tree b e)
         → IfErr result (LacksBelow (whole_power_room b (2 ^ length gs)) (free_of pool.old + size (tree_of power pool.old))) }
     ensures bits { (b e : Tree) (n : ℤ) (h l : ℕ) → IsRewritten b e (tree_of power pool.old) → e ≡ num (whole_fraction n) → IsFactorHeld b h l → HasFewBitsRaised n h l
         → IfErr result (OfOverflow (λ o. ⊥)) }
-    ensures stands { Stands pool.new }
+    ensures leaves { LeavesPool result pool.old pool.new }
 {
     let exponent = child_id(pool, power.id(), 1);
     match kind(pool, exponent) {

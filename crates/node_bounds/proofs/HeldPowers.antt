@@ -1,6 +1,6 @@
 -- Powers are held by the bits of their bases, also those that are rewritten.
 use Rattle.std.proofs.Common.{neg_ℤ, ◌≡◌, ℕ, zero, suc, ◌+◌, ◌*◌, ◌≤◌, inr, ℤ, pos, negsuc, true, false, not, Some, refl, sym, ap, ◌∙◌, subst, arith, ◌/◌}
-use Rattle.node_bounds.proofs.Shared.{mul-le, Fraction, whole_fraction, whole_numerator, Tree, num, mult, power, root, Trees, none, more, is_mult, is_undef, has_undef, is_number, is_reduced, num_one}
+use Rattle.node_bounds.proofs.Shared.{mul-le, Fraction, whole_fraction, whole_numerator, Tree, num, mult, power, root, Trees, none, more, is_mult, is_undef, has_undef, is_number, is_reduced}
 use Rattle.node_bounds.proofs.Shared.{IsReducedProduct, IsReducedPower, IsCountedWithin, IsRewritten, AreReducedPowers, IsLifted, IsProductOfPowers, IsHeldAsPowerOf, base_in, exponent_in, half}
 use Rattle.node_bounds.proofs.Shared.{parts_of, raised, rewritten_whole, as_whole, whole_no_half, chosen, IsFactorHeld, AreFactorsHeld, none_held, Counts, counts, multiple, counts_of, is_counted}
 use Rattle.node_bounds.proofs.Shared.{power_high, power_low, IsPartHeld, factor_held, IsBaseHeld, tree_held, IsFactorPower, raised_high, raised_low, single_part, tree_as_base, one_counts, children_of}
@@ -27,15 +27,12 @@ half_bits (negsuc n) h l = by (suc n / 2) (omega arith)
 pub root_argument : (a : Tree) {h l : ℕ} → is_number (root a) ≡ false → IsFactorHeld (root a) h l → IsFactorHeld a h l
 root_argument a {h} {l} n k = by (single_part (root a) n refl k)
   where
-    one : counts_of num_one ≡ counts 1 0
-    one = one_counts
-
     of_base : {i j : ℕ} → IsBaseHeld (root a) i j → i ≤ h → j ≤ l → IsFactorHeld a h l
     of_base {i} {j} (root_held o m t) x y = factor_wider a x y (base_factor a (tree_as_base a i j o t))
     of_base (tree_held o m t) x y = clash (sym (ap not n) ∙ m)
 
     by : IsPartHeld (more (root a) none) h l → IsFactorHeld a h l
-    by (factor_held i j p q x b r y z) = of_base b (omega (arith, y, ap (λ (c : Counts). power_high c i j) one)) (omega (arith, z, ap (λ (c : Counts). power_low c i j) one))
+    by (factor_held i j p q x b r y z) = of_base b (omega (arith, y, ap (λ (c : Counts). power_high c i j) one_counts)) (omega (arith, z, ap (λ (c : Counts). power_low c i j) one_counts))
 
 root_way : (a r : Tree) (n : ℤ) → is_number (root a) ≡ false → IsHeldAsPowerOf (half n) a r → IsHeldAsPowerOf n (root a) r
 root_way a r n m k d h l f = let x = half_bits n h l in factor_wider r x.0 x.1 (k d h l (root_argument a m f))

@@ -1,11 +1,11 @@
 -- Roots, and powers with half of an odd number as the exponent, are held by the bits of their bases.
-use Rattle.std.proofs.Common.{◌≡◌, ℕ, zero, suc, ◌≤◌, ℤ, Bool, true, false, ◌&&◌, ◌==◌, Result, Err, refl, sym, ap, ◌∙◌, subst, arith, inl, inr, IfOk}
+use Rattle.std.proofs.Common.{◌≡◌, ℕ, zero, suc, ◌≤◌, ℤ, Bool, true, false, ◌&&◌, ◌==◌, Err, refl, sym, ap, ◌∙◌, subst, arith, inl, inr}
 use Rattle.node_bounds.proofs.Shared.{and_parts, eqb-true, whole_fraction, int_is_negative, Tree, num, undef, root, is_num, is_undef, is_number, value, is_reduced, is_half_num, number_words, IsHeld}
 use Rattle.node_bounds.proofs.Shared.{reduced_parts, AreFewBits, IsHeldAsRootPower, numerator, IsHeldAsPowerOf, has_number_power, IsPowerAnswer, IsPowerMisfit, whole_no_half, whole_is, IsFactorHeld}
 use Rattle.node_bounds.proofs.Shared.{value_held, number_as_factor, IfRational, IsRootAnswer, has_no_root, HasWideRoot, IsOverflow, Overflow, OfOverflow, NumberFault, IsNoLargerThanRoot}
 use Rattle.node_bounds.proofs.{Shared.{factor_is_held, root_is_held, cases_Bool}, Clashes.{clash, rational_number, undef_has_none}, HeldFactors.{tree_high, factor_tree}}
-use Rattle.calc_bits.specs.Bounds as few
 use Rattle.radical_forms.proofs.HeldRationals.{rational_without}
+use Rattle.calc_bits.specs.Bounds as few
 
 -- ---- roots
 
@@ -81,6 +81,3 @@ pub root_fits : (a : Tree) (f : NumberFault) {h l : ℕ} → (few.HasFewBits (va
     ℕ} (Err f) → HasWideRoot a) → IsFactorHeld a h l → AreFewBits h l → OfOverflow (λ o. ⊥) f
 root_fits (num q) f {h} {l} fits wide a few = fits (record { high = h; low = l; held = value_held (num q) h l (rational_number q) a; few = few })
 root_fits b f fits wide a few = grind arith
-
-pub if_two : {E : Type 0} (r : Result ℕ E) (P Q R : ℕ → Type 0) → IfOk r P → IfOk r Q → ((h : ℕ) → P h → Q h → R h) → IfOk r R
-if_two r P Q R h k a = grind arith

@@ -1,19 +1,17 @@
 -- How many bytes suffice where two factors of a product are joined and their joint is reduced.
 use Rattle.std.proofs.Common.{◌≡◌, ℕ, zero, suc, ◌+◌, ◌*◌, ◌^◌, ◌≤◌, ◌<◌, List, length, inl, inr, Bool, true, false, not, ◌&&◌, if◌then◌else◌, refl, sym, ap, subst, arith, ◌-◌, max}
-use Rattle.node_bounds.proofs.Shared.{and_parts, eqb-true, pow_pos, is_number, is_reduced, are_reduced, is_whole_num, base_of, number_words, reduced_words, counted, counted_among, SpansRoot}
-use Rattle.node_bounds.proofs.Shared.{SpansTree, SpansTrees, number_bytes, tree_bytes, counted_number, counted_other, Tree, num, mult, power, Trees, none, more, count, is_mult, size, sizes}
-use Rattle.node_bounds.proofs.Shared.{reduced_parts, IsJoinedFrom, whole_power_room, removed, exponent_of, joint, is_single, nth, exponent_count, numbers_among, product_count, sum_count, sum_room}
-use Rattle.node_bounds.proofs.Shared.{product_room, power_room, product_power_room, counts_one, product_bytes, scaled, exponents_added, not-true, reduced_nth, neighbours_joint, joint_there}
-use Rattle.node_bounds.proofs.{Shared.{base_is_reduced}, Calm.{all_nth, all_removed, all_base}, JointCounts.{joint_count, pair_joined_count, sizes_removed, numbers_one}, JointRooms.{joined_spans}}
-use Rattle.calc_room.proofs.NumberSpans.{value_spanned}
+use Rattle.node_bounds.proofs.Shared.{and_parts, eqb-true, pow_pos, is_number, is_reduced, are_reduced, is_whole_num, base_of, reduced_words, counted, counted_among, SpansRoot, SpansTrees, tree_bytes}
+use Rattle.node_bounds.proofs.Shared.{counted_number, counted_other, Tree, num, mult, power, Trees, none, more, count, is_mult, size, sizes, reduced_parts, IsJoinedFrom, whole_power_room, removed}
+use Rattle.node_bounds.proofs.Shared.{exponent_of, joint, is_single, nth, exponent_count, numbers_among, product_count, sum_count, sum_room, product_room, power_room, product_power_room, counts_one}
+use Rattle.node_bounds.proofs.{Shared.{product_bytes, scaled, exponents_added, not-true, reduced_nth, neighbours_joint, joint_there, base_is_reduced}, Calm.{all_nth, all_removed, all_base}}
+use Rattle.node_bounds.proofs.{JointCounts.{joint_count, pair_joined_count, numbers_one}, JointRooms.{joined_spans}}
+use Rattle.number_forms.proofs.Rooms.{number_size}
+use Rattle.like_children.proofs.Kids.{sizes_taken}
 use Rattle.tree_room.proofs.Counts.{no_number as numbers_other}
 
 -- ---- the other factors
 
 module _ (gs : List ℕ) where
-  one_number : (t : Tree) → is_number t ≡ true → SpansTree gs t → size t + 48 ≤ 96 * 2 ^ length gs
-  one_number t h s = number_bytes gs t (number_words t h) (value_spanned gs t (number_words t h) s)
-
   factors_bytes : (ts : Trees) → are_reduced ts ≡ true → SpansTrees gs ts → sizes ts + 48 * numbers_among ts ≤ 204 * counted_among ts * 2 ^ length gs + 96 * numbers_among ts * 2 ^ length gs
   factors_bytes none h s = omega arith
   factors_bytes (more t ts) h (s, ss) = by (is_number t) refl (factors_bytes ts parts.1 ss)
@@ -23,7 +21,7 @@ module _ (gs : List ℕ) where
 
       by : (z : Bool) → is_number t ≡ z → sizes ts + 48 * numbers_among ts ≤ 204 * counted_among ts * 2 ^ length gs + 96 * numbers_among ts * 2 ^ length gs
           → sizes (more t ts) + 48 * numbers_among (more t ts) ≤ 204 * counted_among (more t ts) * 2 ^ length gs + 96 * numbers_among (more t ts) * 2 ^ length gs
-      by true e rest = rw (counted_number t ts e, numbers_one t ts e) (omega (arith, one_number t e s, rest))
+      by true e rest = rw (counted_number t ts e, numbers_one t ts e) (omega (arith, number_size gs t e s, rest))
       by false e rest = rw (counted_other t ts e, numbers_other t ts e) (omega (arith, tree_bytes gs t (reduced_words t parts.0) s, rest))
 
   -- with the node of their product
@@ -150,7 +148,7 @@ module _ (gs : List ℕ) (at : ℕ) (ts us : Trees) (k : IsJoinedFrom at ts us) 
 
   -- the bytes of the product are those of the joint and of the others
   pub split_bytes : size (mult us) ≡ size (nth at us) + size (mult others)
-  split_bytes = omega (arith, sizes_removed at us j.within)
+  split_bytes = omega (arith, sizes_taken at us j.within)
 
 -- where two factors cannot be joined
 pub joint_lacks : (gs : List ℕ) (ts : Trees) (free : ℕ) → are_reduced ts ≡ true → SpansTrees gs ts → free < 96 → free + size (mult ts) < product_room (product_count ts) (2 ^ length gs)

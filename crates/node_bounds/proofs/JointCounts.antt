@@ -1,8 +1,7 @@
 -- What counts in a product while two of its factors are joined and their joint is reduced, and how many bytes stand beside it.
-use Rattle.std.proofs.Common.{◌≡◌, ℕ, zero, suc, ◌+◌, ◌*◌, ◌≤◌, ◌<◌, Bool, true, if◌then◌else◌, refl, ap, arith}
-use Rattle.node_bounds.proofs.Shared.{and_parts, is_number, base_of, counted, counted_among, counted_number, counted_other, Tree, add, power, Trees, none, more, count, size, sizes, set_tree, removed}
-use Rattle.node_bounds.proofs.Shared.{exponent_of, is_partner, joint, IsPairAt, joined_pair, nth, exponent_count, numbers_among, product_count, counts_one, power_counts, not-true, one_base}
-use Rattle.node_bounds.proofs.Calm.{one_whole}
+use Rattle.std.proofs.Common.{◌≡◌, ℕ, zero, suc, ◌+◌, ◌*◌, ◌≤◌, ◌<◌, Bool, true, if◌then◌else◌, ap, arith}
+use Rattle.node_bounds.proofs.Shared.{and_parts, is_number, base_of, counted, counted_among, counted_number, counted_other, Tree, add, power, Trees, none, more, count, set_tree, removed, exponent_of}
+use Rattle.node_bounds.proofs.{Shared.{is_partner, joint, IsPairAt, joined_pair, nth, exponent_count, numbers_among, product_count, counts_one, power_counts, not-true, one_base}, Calm.{one_whole}}
 use Rattle.tree_room.proofs.Counts.{no_number as numbers_other}
 
 -- ---- among factors
@@ -54,10 +53,3 @@ replaced_counts (suc n) r (more t ts) l = let (a, b, c) = replaced_counts n r ts
 
 pub replaced_count_is : (n : ℕ) (r : Tree) (us : Trees) → n < count us → CountsReplaced n r us
 replaced_count_is n r us l = let (a, b, c) = replaced_counts n r us l in record { product = omega (arith, a, b, c, counts_one r); others = b }
-
--- ---- bytes
-
-pub sizes_removed : (n : ℕ) (ts : Trees) → n < count ts → sizes ts ≡ size (nth n ts) + sizes (removed n ts)
-sizes_removed n none l = absurd (omega arith)
-sizes_removed zero (more t ts) l = refl
-sizes_removed (suc n) (more t ts) l = omega (arith, sizes_removed n ts (omega arith))

@@ -6,10 +6,9 @@ use Rattle.node_bounds.proofs.Shared.{minus_one_fraction, whole_fraction, zero_t
 use Rattle.node_bounds.proofs.Shared.{lacks_power, AreFewBits, HoldsPower, HoldsDifference, HoldsNode, numerator, has_number_power, HasFewBitsRaised, HasWideRoot, IsOverflow, IfRational}
 use Rattle.node_bounds.proofs.Shared.{IsNoLargerThanRoot, int_is_negative, is_zero_or_one, rewritten, as_whole, IsFactorHeld, AreFactorsHeld, none_held, number_as_factor, no_factors_held, IsSumHeld}
 use Rattle.node_bounds.proofs.{Shared.{addends_of_each, trees_together, minus_one_held, nothing_held, IfOverflow, OfOverflow, NumberFault, or_parts, cases_Bool}, Clashes.{clash, rational_number}}
-use Rattle.node_bounds.proofs.{HeldFactors.{factor_wider, factor_tree}, HeldParts.{fine}, HeldRoots.{root_fits}}
+use Rattle.node_bounds.proofs.{HeldFactors.{factor_wider, factor_tree}, HeldParts.{fine}, HeldRoots.{root_fits}, Rewritten.{whole_rewriting}}
 use Rattle.product_reduce.specs.Bits.{factor_held}
 use Rattle.calc_bits.specs.Bounds as few
-use Rattle.node_bounds.proofs.Rewritten.{whole_rewriting}
 
 -- ---- rationals
 

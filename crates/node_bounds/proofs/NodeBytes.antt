@@ -1,11 +1,10 @@
 -- How many bytes suffice for the node of a tree over reduced children.
-use Rattle.std.proofs.Common.{◌≡◌, ℕ, negsuc, ◌+◌, ◌*◌, ◌^◌, ◌≤◌, ◌<◌, List, length, true, Result, arith, IfErr}
-use Rattle.node_bounds.proofs.Shared.{pow_pos, IsAssignment, is_reduced, are_reduced, is_half_num, reduced_words, counted, SpansTree, SpansTrees, num_bytes, tree_bytes, minus_one_fraction, Tree, num}
-use Rattle.node_bounds.proofs.Shared.{add, mult, power, neg, Trees, none, more, count, is_add, is_mult, is_root, is_num, is_sub, is_div, root_kind, size, sizes, Kind, HasNodesFor, KeepsNodeRoom}
-use Rattle.node_bounds.proofs.Shared.{SpansNode, factors_room, IsCalmAtZero, whole_power_room, power_count, base_in, exponent_in, whole_is, IsFull, argument_of, LacksBelow, nth, children_of}
-use Rattle.node_bounds.proofs.Shared.{NumberFault, IsCalm, zeros, product_count, sum_count, sum_room, product_room, power_room, product_power_room, simple_room, whole_number, counts_one}
-use Rattle.node_bounds.proofs.{Shared.{product_at_most, sum_bytes, product_bytes, scaled, numbers_and_others}, Clashes.{rational_number}, Calm.{calm_power}, JointCounts.{numbers_one}}
-use Rattle.node_bounds.proofs.{NodeRooms.{inverse_count}, PowerBytes.{needs_most}}
+use Rattle.std.proofs.Common.{◌≡◌, ◌||◌, ℕ, negsuc, ◌+◌, ◌*◌, ◌^◌, ◌≤◌, ◌<◌, List, length, true, Result, arith, IfErr}
+use Rattle.node_bounds.proofs.Shared.{pow_pos, IsAssignment, is_reduced, is_half_num, reduced_words, counted, SpansTree, num_bytes, tree_bytes, minus_one_fraction, Tree, num, mult, power, neg, Trees}
+use Rattle.node_bounds.proofs.Shared.{none, more, count, is_add, is_mult, is_root, is_num, is_sub, is_div, root_kind, size, Kind, HasNodesFor, SpansNode, factors_room, IsCalmAtZero, whole_power_room}
+use Rattle.node_bounds.proofs.Shared.{base_in, exponent_in, whole_is, IsFull, argument_of, LacksBelow, nth, children_of, NumberFault, IsCalm, zeros, product_count, sum_count, sum_room, product_room}
+use Rattle.node_bounds.proofs.{Shared.{power_room, product_power_room, simple_room, whole_number, counts_one, product_at_most, scaled, numbers_and_others}, Clashes.{rational_number}}
+use Rattle.node_bounds.proofs.{Calm.{calm_power}, JointCounts.{numbers_one}, PowerBytes.{needs_most}}
 use Rattle.calc_terms.specs.declared.kind.Kind.TheVariants as kind
 
 -- ---- sums and products
@@ -48,13 +47,6 @@ node_spans gs t h k a = grind arith
 
 -- ---- opposites
 
-one_tree : (gs : List ℕ) (a : Tree) → is_reduced a ≡ true → SpansTree gs a → size a ≤ 204 * counted a * 2 ^ length gs
-one_tree gs a r s = tree_bytes gs a (reduced_words a r) s
-
--- -1 or the node finds no bytes
-pub opposite_lacks : (gs : List ℕ) (a : Tree) (free : ℕ) → is_reduced a ≡ true → SpansTree gs a → free < 48 → free + size a < product_room (2 + counted a) (2 ^ length gs)
-opposite_lacks gs a free r s l = omega (arith, l, one_tree gs a r s, pow_pos (length gs))
-
 opposite_count : (a : Tree) → product_count (more (num minus_one_fraction) (more a none)) ≤ 2 + counted a
 opposite_count a = omega (arith, numbers_and_others (more (num minus_one_fraction) (more a none)), numbers_one (num minus_one_fraction) (more a none) (rational_number minus_one_fraction))
 
@@ -79,9 +71,6 @@ negated_fits t n m h k = grind (arith, scaled, counts_one)
 
 -- ---- inverses
 
-pub inverse_lacks : (gs : List ℕ) (b : Tree) (free : ℕ) → is_reduced b ≡ true → SpansTree gs b → free < 48 → free + size b < product_power_room (counted b) (2 ^ length gs)
-inverse_lacks gs b free r s l = omega (arith, l, one_tree gs b r s, pow_pos (length gs))
-
 pub inverse_calm : {ns : List (List ℕ)} (b : Tree) → IsCalmAtZero ns b → IsCalmAtZero ns (power b (num minus_one_fraction))
 inverse_calm {ns} b c = calm_power c (record { once = c.once; calm = tt }) (whole_number (zeros ns) (num minus_one_fraction) (whole_is (negsuc 0)))
 
@@ -99,66 +88,26 @@ pub record AreSides (gs : List ℕ) (ns : List (List ℕ)) (n : ℕ) (a b : Tree
   pub right_spanned : SpansTree gs b
   pub nodes : 1 + counted a + counted b ≤ n
 
-pub difference_sides : (gs : List ℕ) (ns : List (List ℕ)) (n : ℕ) (t : Tree) → is_sub t ≡ true → HasNodesFor n t → IsCalmAtZero ns t → SpansTree gs t
+pub node_sides : (gs : List ℕ) (ns : List (List ℕ)) (n : ℕ) (t : Tree) → (is_sub t || is_div t) ≡ true → HasNodesFor n t → IsCalmAtZero ns t → SpansTree gs t
     → AreSides gs ns n (nth 0 (children_of t)) (nth 1 (children_of t))
-difference_sides gs ns n t h k a b = grind arith
-
-pub quotient_sides : (gs : List ℕ) (ns : List (List ℕ)) (n : ℕ) (t : Tree) → is_div t ≡ true → HasNodesFor n t → IsCalmAtZero ns t → SpansTree gs t
-    → AreSides gs ns n (nth 0 (children_of t)) (nth 1 (children_of t))
-quotient_sides gs ns n t h k a b = grind arith
-
--- the left side with what is made of the right
-pub record AreJoined (gs : List ℕ) (ns : List (List ℕ)) (most : ℕ) (c t : Tree) : Type 0 where
-  pub calm : IsCalmAtZero ns t
-  pub spanned : SpansTree gs t
-  pub counts : counted c ≤ most
-
-pub difference_keeps : (gs : List ℕ) (ns : List (List ℕ)) (n : ℕ) (a b c : Tree) → AreSides gs ns n a b → KeepsNodeRoom (counted b) (neg b) c
-    → AreJoined gs ns (counted b) c (add (more a (more c none)))
-difference_keeps gs ns n a b c x k =
-    let right : IsCalmAtZero ns (neg b) = record { once = x.once; calm = (tt, x.right_calm) } in
-    record {
-      calm = record { once = x.once; calm = (tt, (x.left_calm, ((k.calm ns right).calm, tt))) };
-      spanned = (tt, (x.left_spanned, (k.spanned gs ns right (tt, x.right_spanned), tt)));
-      counts = k.counts ns right;
-    }
-
-pub quotient_keeps : (gs : List ℕ) (ns : List (List ℕ)) (n : ℕ) (a b c : Tree) → AreSides gs ns n a b → KeepsNodeRoom (power_count b (num minus_one_fraction)) (power b (num minus_one_fraction)) c
-    → AreJoined gs ns (1 + counted b) c (mult (more a (more c none)))
-quotient_keeps gs ns n a b c x k =
-    let right : IsCalmAtZero ns (power b (num minus_one_fraction)) = inverse_calm b (record { once = x.once; calm = x.right_calm }) in
-    record {
-      calm = record { once = x.once; calm = (tt, (x.left_calm, ((k.calm ns right).calm, tt))) };
-      spanned = (tt, (x.left_spanned, (k.spanned gs ns right (inverse_spans gs b x.right_spanned), tt)));
-      counts = omega (arith, k.counts ns right, inverse_count b);
-    }
-
--- the node finds no bytes
-pub sum_node_lacks : (gs : List ℕ) (ts : Trees) (free : ℕ) → are_reduced ts ≡ true → SpansTrees gs ts → free < 8 → free + sizes ts < sum_room (sum_count ts) (2 ^ length gs)
-sum_node_lacks gs ts free r s l = omega (arith, l, sum_bytes gs ts r s, pow_pos (length gs))
-
-pub product_node_lacks : (gs : List ℕ) (ts : Trees) (free : ℕ) → are_reduced ts ≡ true → SpansTrees gs ts → free < 8 → free + sizes ts < product_room (product_count ts) (2 ^ length gs)
-product_node_lacks gs ts free r s l = omega (arith, l, product_bytes gs ts r s, pow_pos (length gs))
+node_sides gs ns n t h k a b = grind arith
 
 module _ (gs : List ℕ) (a b : Tree) (n : ℕ) (l : 1 + counted a + counted b ≤ n) where
   left_bytes : is_reduced a ≡ true → SpansTree gs a → size a ≤ 204 * counted a * 2 ^ length gs
-  left_bytes r s = one_tree gs a r s
+  left_bytes r s = tree_bytes gs a (reduced_words a r) s
 
   all_nodes : (1 + counted a + counted b) * 2 ^ length gs ≤ n * 2 ^ length gs
   all_nodes = scaled (1 + counted a + counted b) n (2 ^ length gs) l
 
-  some_left : 1 * 2 ^ length gs ≤ counted a * 2 ^ length gs
-  some_left = scaled 1 (counted a) (2 ^ length gs) (counts_one a)
-
-  some_right : 1 * 2 ^ length gs ≤ counted b * 2 ^ length gs
-  some_right = scaled 1 (counted b) (2 ^ length gs) (counts_one b)
+  some : (t : Tree) → 1 * 2 ^ length gs ≤ counted t * 2 ^ length gs
+  some t = scaled 1 (counted t) (2 ^ length gs) (counts_one t)
 
   -- beside the left side, the opposite of the right or its inverse
   pub right_opposite_lacks : (bytes : ℕ) → is_reduced a ≡ true → SpansTree gs a → bytes < product_room (2 + counted b) (2 ^ length gs) → bytes + size a < simple_room n (2 ^ length gs)
-  right_opposite_lacks bytes r s k = omega (arith, k, left_bytes r s, all_nodes, some_left, some_right)
+  right_opposite_lacks bytes r s k = omega (arith, k, left_bytes r s, all_nodes, some a, some b)
 
   pub right_inverse_lacks : (bytes : ℕ) → is_reduced a ≡ true → SpansTree gs a → bytes < product_power_room (counted b) (2 ^ length gs) → bytes + size a < simple_room n (2 ^ length gs)
-  right_inverse_lacks bytes r s k = omega (arith, k, left_bytes r s, all_nodes, some_left, some_right)
+  right_inverse_lacks bytes r s k = omega (arith, k, left_bytes r s, all_nodes, some a, some b)
 
   -- then both sides, the right of which counts no more, or 1 more
   pub difference_fits : (c : Tree) → counted c ≤ counted b → sum_room (sum_count (more a (more c none))) (2 ^ length gs) ≤ simple_room n (2 ^ length gs)
@@ -167,4 +116,4 @@ module _ (gs : List ℕ) (a b : Tree) (n : ℕ) (l : 1 + counted a + counted b �
   pub quotient_fits : (c : Tree) → counted c ≤ 1 + counted b → product_room (product_count (more a (more c none))) (2 ^ length gs) ≤ simple_room n (2 ^ length gs)
   quotient_fits c h =
       let few : product_count (more a (more c none)) ≤ 3 + counted a + counted b = omega (arith, product_at_most (more a (more c none)), h) in
-      omega (arith, scaled (product_count (more a (more c none))) (3 + counted a + counted b) (2 ^ length gs) few, all_nodes, some_left, some_right)
+      omega (arith, scaled (product_count (more a (more c none))) (3 + counted a + counted b) (2 ^ length gs) few, all_nodes, some a, some b)

@@ -31,11 +31,9 @@ sum_room ts r k = record {
 pub root_node_room : (a r : Tree) → IsRootAnswer a r → ((gs : List ℕ) → SpansTree gs (root a) → SpansTree gs r) → KeepsNodeRoom (counted (root a)) (root a) r
 root_node_room a r h k = grind (arith, root_answer_counts, root_answer_calm, root_room)
 
-pub product_node_room : (ts : Trees) (r : Tree) → KeepsRoom (counted (mult ts)) (mult ts) r → KeepsNodeRoom (counted (mult ts)) (mult ts) r
-product_node_room ts r k = record { counts = k.counts; calm = k.calm; spanned = k.spanned }
-
-pub power_node_room : (b e r : Tree) → KeepsRoom (power_count b e) (power b e) r → KeepsNodeRoom (power_count b e) (power b e) r
-power_node_room b e r k = record { counts = k.counts; calm = k.calm; spanned = k.spanned }
+-- of a node that is no root
+pub node_room : {c : ℕ} (t r : Tree) → ((gs : List ℕ) → SpansNode gs t → SpansTree gs t) → KeepsRoom c t r → KeepsNodeRoom c t r
+node_room t r h k = record { counts = k.counts; calm = k.calm; spanned = λ gs ns c s. k.spanned gs ns c (h gs s) }
 
 -- ---- opposites, differences and quotients
 

@@ -1,5 +1,5 @@
 -- How many bytes suffice for the calls on a whole power that is rewritten.
-use Rattle.std.proofs.Common.{◌≡◌, ℕ, ◌+◌, ◌*◌, ◌^◌, ◌≤◌, ◌<◌, List, length, Bool, true, false, not, ◌&&◌, if◌then◌else◌, refl, sym, ap, ◌∙◌, subst, arith, inl, inr}
+use Rattle.std.proofs.Common.{◌≡◌, ℕ, ◌+◌, ◌*◌, ◌^◌, ◌≤◌, ◌<◌, List, length, Bool, true, false, not, ◌&&◌, if◌then◌else◌, refl, sym, ap, subst, arith, inl, inr}
 use Rattle.node_bounds.proofs.Shared.{and_parts, pow_pos, is_number, is_reduced, are_reduced, is_num_one, is_whole_num, split_product, HasForm, reduced_words, counted, counted_among, SpansRoot}
 use Rattle.node_bounds.proofs.Shared.{SpansTree, SpansTrees, tree_bytes, counted_number, counted_other, Tree, mult, power, root, Trees, none, more, append, is_mult, size, sizes, AllPartsOf}
 use Rattle.node_bounds.proofs.Shared.{reduced_parts, parts_reduced, IsCalmAtZero, whole_power_room, AreReducedPowers, removed, parts_of, raised, parts_counted, HasFactors, product_factors, parts_span}
@@ -9,6 +9,7 @@ use Rattle.node_bounds.proofs.{Shared.{and_cases, not-false}, Clashes.{contrary}
 use Rattle.node_bounds.proofs.Rewritten.{parts_single, powers_raised, root_counts}
 use Rattle.tree_room.proofs.{Coefficients.{split_counts}, Counts.{numbers_appended as numbers_append, no_number as numbers_other}}
 use Rattle.coefficients.proofs.Rooms.{no_numbers}
+pub use Rattle.like_children.proofs.Parts.{first_parts, last_parts}
 
 -- ---- what a whole power of each base needs
 
@@ -108,17 +109,9 @@ split_at (more g gs) e (more u before) t rest h =
       rest-is = s.rest-is;
     }
 
-pub all_first : (P : Tree → Type 0) (ts us : Trees) → AllPartsOf P (append ts us) → AllPartsOf P ts × AllPartsOf P us
-all_first P none us h = (tt, h)
-all_first P (more t ts) us h = let r = all_first P ts us h.1 in ((h.0, r.0), r.1)
-
 single_first : (ts us : Trees) → AreSingle (append ts us) → AreSingle ts × AreSingle us
 single_first none us h = (tt, h)
 single_first (more t ts) us h = let r = single_first ts us h.1 in ((h.0, r.0), r.1)
-
-reduced_first : (ts us : Trees) → are_reduced (append ts us) ≡ true → (are_reduced ts ≡ true) × (are_reduced us ≡ true)
-reduced_first none us h = (refl, h)
-reduced_first (more t ts) us h = let (a, b) = and_parts (is_reduced t) (are_reduced (append ts us)) h in let r = reduced_first ts us b in (rw (a, r.0) refl, r.1)
 
 single_product : (t : Tree) → (is_mult t && not (is_number t)) ≡ false → is_number t ≡ false → is_mult t ≡ false
 single_product t h n = elim (and_cases (is_mult t) (not (is_number t)) h) [ inl m ↦ m | inr k ↦ contrary (not-false (is_number t) k) n ]
@@ -154,23 +147,23 @@ formed_reduced none h = refl
 formed_reduced (more t ts) h = rw (parts_reduced t h.0, formed_reduced ts h.1) refl
 
 module _ (gs : List ℕ) (ns : List (List ℕ)) (fs : Trees) (e : Tree) (h : is_reduced (mult fs) ≡ true) (n : is_number (mult fs) ≡ false) (w : is_whole_num e ≡ true) (c : IsCalmAtZero ns (power (mult fs) e)) (spans : SpansTrees gs fs) where
-  pr : are_reduced (parts_of fs) ≡ true
-  pr = let p = (product_parts fs h n).are in ap are_reduced p.are ∙ formed_reduced (product_parts fs h n).parts p.formed
+  parts_formed : AllPartsOf HasForm (parts_of fs)
+  parts_formed = let p = (product_parts fs h n).are in subst (AllPartsOf HasForm) (sym p.are) p.formed
 
   others_bytes : (first : Trees) (part : Tree) (last reduced : Trees) → parts_of fs ≡ append first (more part last) → AreReducedPowers (raised first e) reduced
       → sizes (append reduced (raised last e)) ≤ 204 * (counted_in_all first + counted_in_all last) * 2 ^ length gs
   others_bytes first part last reduced p a =
-      let calm = all_first (HasCalmExponent (zeros ns)) first (more part last) (subst (AreCalm (zeros ns)) p (parts_calm (zeros ns) fs c.calm.1.1)) in
+      let calm = first_parts (HasCalmExponent (zeros ns)) first (more part last) (subst (AreCalm (zeros ns)) p (parts_calm (zeros ns) fs c.calm.1.1)) in
       let single = single_first first (more part last) (subst AreSingle p (parts_single fs h n)) in
-      let spanned = all_first (SpansRoot gs) first (more part last) (subst (SpansTrees gs) p (parts_span gs fs spans)) in
-      let red = reduced_first first (more part last) (sym (ap are_reduced p) ∙ pr) in
-      let r = powers_raised ns first e reduced w (calm_exponent c) calm.0 single.0 a in
+      let spanned = subst (SpansTrees gs) p (parts_span gs fs spans) in
+      let formed = last_parts HasForm first (more part last) (subst (AllPartsOf HasForm) p parts_formed) in
+      let r = powers_raised ns first e reduced w (calm_exponent c) calm single.0 a in
       let some = scaled (counted_in_all reduced) (counted_in_all first) (2 ^ length gs) r.counts in
       omega (
         arith,
         sizes_append reduced (raised last e),
-        answers_bytes gs reduced (answers_reduced (raised first e) reduced a) (r.spanned gs spanned.0),
-        raised_bytes gs last e (and_parts (is_reduced part) (are_reduced last) red.1).1 spanned.1.1 single.1.1 w,
+        answers_bytes gs reduced (answers_reduced (raised first e) reduced a) (r.spanned gs (first_parts (SpansRoot gs) first (more part last) spanned)),
+        raised_bytes gs last e (formed_reduced last formed.1) (last_parts (SpansRoot gs) first (more part last) spanned).1 single.1.1 w,
         some,
       )
 

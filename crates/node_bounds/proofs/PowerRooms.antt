@@ -45,12 +45,6 @@ finished_room b e t r a = record {
 pub undef_root_room : (b t : Tree) → t ≡ undef → KeepsRootRoom b t
 undef_root_room b t e = subst (KeepsRootRoom b) (sym e) (record { counts = omega arith; calm = λ ns c. record { once = c.once; calm = tt }; spanned = λ gs s. tt })
 
--- the reduced root itself
-pub record IsRootRoom (b r : Tree) : Type 0 where
-  pub counts : counted r ≤ 1 + counted b
-  pub calm : (ns : List (List ℕ)) → IsCalmAtZero ns b → IsCalmAtZero ns r
-  pub spanned : (gs : List ℕ) → SpansRootOf gs b → SpansTree gs r
-
 pub kept_counts : (b : Tree) → counted (root b) ≤ 1 + counted b
 kept_counts b = grind arith
 
@@ -66,17 +60,18 @@ rooted_spans : (gs : List ℕ) (b r : Tree) → is_num b ≡ true → has_no_roo
 rooted_spans gs (num q) r n k a s h = number_spans gs q r k a s h
 rooted_spans gs b r n k a s h = cc
 
-pub root_room : (b r : Tree) → IsRootAnswer b r → ((gs : List ℕ) → SpansTree gs (root b) → SpansTree gs r) → IsRootRoom b r
+-- the reduced root itself
+pub root_room : (b r : Tree) → IsRootAnswer b r → ((gs : List ℕ) → SpansTree gs (root b) → SpansTree gs r) → KeepsRootRoom b r
 root_room b r a s = by (has_no_root b) (is_num b) refl refl
   where
-    by : (x n : Bool) → has_no_root b ≡ x → is_num b ≡ n → IsRootRoom b r
-    by true n d m = subst (IsRootRoom b) (sym (undef_words r (a.undefined ∙ d))) (record { counts = omega arith; calm = λ ns c. record { once = c.once; calm = tt }; spanned = λ gs h. tt })
+    by : (x n : Bool) → has_no_root b ≡ x → is_num b ≡ n → KeepsRootRoom b r
+    by true n d m = undef_root_room b r (undef_words r (a.undefined ∙ d))
     by false true d m = record {
       counts = omega (arith, number_counts_one r (a.number m d));
       calm = λ ns c. number_is_calm ns b r (a.number m d) c;
       spanned = λ gs h. rooted_spans gs b r m d a (s gs) h;
     }
-    by false false d m = subst (IsRootRoom b) (sym (a.kept m d)) (record {
+    by false false d m = subst (KeepsRootRoom b) (sym (a.kept m d)) (record {
       counts = kept_counts b;
       calm = λ ns c. record { once = c.once; calm = (tt, c.calm) };
       spanned = λ gs h. kept_spans gs b m h;

@@ -18,6 +18,7 @@ ghost use Rattle.tree_bits.specs.HeldTrees.{IsTreeHeld};
 ghost use Rattle.tree_room.specs.Needs.{product_power_room, product_room, simple_room};
 
 /// What holds a reduced tree holds it as a factor, and the other way round.
+#[tactic(auto, using(crate::proofs::HeldFactors::tree_factor, crate::proofs::HeldFactors::factor_tree))]
 pub fn what_holds_trees_holds_factors()
     ensures factors { (t : Tree) (h l : ℕ) → is_reduced t ≡ true → is_undef t ≡ false → IsTreeHeld t h l → IsFactorHeld t h l }
     ensures trees { (t : Tree) (h l : ℕ) → IsFactorHeld t h l → IsTreeHeld t h l }
@@ -36,6 +37,7 @@ pub fn what_holds_nodes()
 
 /// What is answered for an opposite, a difference or a quotient counts little, and is calm and spanned, where so is what its sides
 /// become; a sum is answered as the sum of its terms is.
+#[tactic(auto, using(crate::proofs::NodeRooms::sum_room, crate::proofs::NodeRooms::opposite_room, crate::proofs::NodeRooms::difference_room, crate::proofs::NodeRooms::quotient_room))]
 pub fn answers_for_nodes_count_little()
     ensures sums { (ts : Trees) (r : Tree) → KeepsSumRoom ts r → KeepsNodeRoom (counted (add ts)) (add ts) r }
     ensures opposites { (a r : Tree) → let t = mult (more (num minus_one_fraction) (more a none)) in KeepsNodeRoom (counted t) t r
@@ -48,6 +50,7 @@ pub fn answers_for_nodes_count_little()
 {}
 
 /// Beside its left side a difference has room for the opposite of the right, and a quotient for the inverse.
+#[tactic(auto, using(crate::proofs::NodeBytes::right_opposite_lacks, crate::proofs::NodeBytes::right_inverse_lacks))]
 pub fn second_sides_have_room()
     ensures opposites { (gs : List ℕ) (a b : Tree) (n bytes : ℕ) → 1 + counted a + counted b ≤ n → is_reduced a ≡ true → SpansTree gs a
         → bytes < product_room (2 + counted b) (2 ^ length gs) → bytes + size a < simple_room n (2 ^ length gs) }

@@ -1,6 +1,6 @@
 use Rattle.std.proofs.Common.{rules, length, ◌≡◌, false, ◌<◌, ◌+◌, ◌^◌, sym, ap, ◌∙◌, subst, arith}
-use Rattle.deep_reduce.proofs.Shared.{is_reduced, Tree, neg, count, size, has_undef, counted, SpansTree, IsCalmAtZero, HoldsNode, free_of, replaced_free, product_room, keeps_after, tree_of}
-use Rattle.deep_reduce.proofs.Shared.{behind_first, behind_new, front_same, front_end, front_without, front_after_one, given_handed, given_told, given_rest, nth, children_of, parent_handed}
+use Rattle.deep_reduce.proofs.Shared.{is_reduced, Tree, neg, size, has_undef, counted, SpansTree, IsCalmAtZero, HoldsNode, free_of, replaced_free, product_room, keeps_after, tree_of, behind_first}
+use Rattle.deep_reduce.proofs.Shared.{behind_new, front_same, front_end, front_without, front_after_one, given_handed, given_told, given_rest, nth, children_of, count, parent_handed}
 use Rattle.deep_reduce.proofs.{Lacking.{result_lacks}, Parents.{alone_out, parent_children}, Results.{answer_as, overflow_as}, Told.{answer_at, overflow_at, neg_is, neg_children, only_reduced}}
 use Rattle.node_bounds.proofs.NodeBytes.{negated_calm, negated_spans, negated_fits}
 use Rattle.deep_reduce.proofs.differences.negate.Goals as goal
@@ -36,8 +36,5 @@ returns c =
           result_lacks c.turn.result (c.turn.ensures.room gs ns (subst (IsCalmAtZero ns) (sym told) (negated_calm t is k)) (subst (SpansTree gs) (sym told) (negated_spans gs t is s)))
           (λ l. omega (arith, subst (λ (x : Tree). free_of c.release.new.pool + size x < product_room (2 + counted x) (2 ^ length gs)) told l, moved, ap size told, negated_fits t n (2 ^ length gs) is h));
       bits = λ h l k few. c.turn.ensures.bits h l (subst (λ (x : Tree). has_undef (children_of x) ≡ false → HoldsNode x h l) (is ∙ ap neg (sym told)) k) few;
-      kept = search rules;
-      faults = search rules;
-      caused = search rules;
-      stands = search rules;
+      leaves = search rules;
     }

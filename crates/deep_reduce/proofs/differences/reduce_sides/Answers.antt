@@ -1,9 +1,9 @@
 use Rattle.std.proofs.Common.{◌≡◌, rules, length, true, false, ◌<◌, ◌+◌, ◌^◌, refl, sym, ap, ◌∙◌, subst, arith}
 use Rattle.deep_reduce.proofs.Shared.{fraction_fits, Fraction, HoldsNode, is_reduced, Tree, size, sizes, num, has_undef, tree_of, gives_as, given_handed, given_root, given_told, nth, children_of}
-use Rattle.deep_reduce.proofs.Shared.{counted, SpansTree, expression, seen, IsNodeAnswer, IsCalmAtZero, stands_last, free_of, replaced_free, passed_on, turned, joined_by, joined_room, turned_room}
+use Rattle.deep_reduce.proofs.Shared.{counted, SpansTree, seen, IsNodeAnswer, IsCalmAtZero, stands_last, free_of, replaced_free, passed_on, turned, joined_by, joined_room, turned_room, expression}
 use Rattle.deep_reduce.proofs.Connected.{HoldsTurned, children_joined, sides_answer, sides_children, sides_held, sides_overflow, sides_ready, turned_lacks, turned_overflow, turned_ready}
-use Rattle.deep_reduce.proofs.{Results.{answer_as, overflow_as, overflow_on}, Sides.{left_beside, rewritten_front, paired_front, sides_free}, Steps.{two, undefined_answer}}
-use Rattle.deep_reduce.proofs.{Told.{answer_at, overflow_at, right_reduced, left_reduced}, Lacking.{lacks_as, result_lacks}, differences.reduce_sides.Goals.{After-take_sides-left}}
+use Rattle.deep_reduce.proofs.{Results.{answer_as, overflow_as, overflow_on}, Sides.{left_beside, rewritten_front, paired_front, sides_free}, Steps.{two, undefined_answer}, Told.{answer_at}}
+use Rattle.deep_reduce.proofs.{Told.{overflow_at, both_reduced}, Lacking.{lacks_as, result_lacks}, differences.reduce_sides.Goals.{After-take_sides-left}}
 use Rattle.node_bounds.proofs.NodeBits.{holds_as, second_side}
 use Rattle.reduce_walk.proofs.HeldRationals.{root_fits}
 use Rattle.deep_reduce.proofs.differences.reduce_sides.Goals as goal
@@ -37,7 +37,7 @@ turn-requires c =
     record {
       stands = search rules;
       handed = given_handed right;
-      reduced = ap is_reduced (given_told right) ∙ right_reduced (children_of t) _ _ (sides_children c.args.connective t c.requires.sides) c.requires.reduced;
+      reduced = ap is_reduced (given_told right) ∙ (both_reduced (children_of t) _ _ (sides_children c.args.connective t c.requires.sides) c.requires.reduced).1;
     }
 
 pub returns-in_err-made : goal.returns-in_err-made
@@ -56,13 +56,10 @@ returns-in_err-made c =
           overflow_on c.turn.result c.from_residual.result _ _ _ c.in_err-made.was c.turn.ensures.overflow c.from_residual.ensures.0 c.from_residual.ensures.1
           (λ o h. overflow_at o (sym c.requires.sides) (turned_overflow a b (fit taken) k o (overflow_at o (ap (turned k) told) h) (ap has_undef (sym children) ∙ defined taken)));
       front = rewritten_front s c.turn.ensures.front;
-      kept = search rules;
-      faults = search rules;
-      caused = search rules;
       room = λ gs ns n h calm z.
           let x = sides_ready gs ns n k t c.requires.sides h calm z in
           let free = sides_free c.requires.stands c.take_sides-left.ensures.stands c.take_sides-left.ensures.kept c.requires.handed s in
-          let left = left_reduced (children_of t) _ _ children c.requires.reduced in
+          let left = (both_reduced (children_of t) _ _ children c.requires.reduced).0 in
           passed_on c.from_residual.result c.in_err-made.field-0.0 _ c.from_residual.ensures.0 c.from_residual.ensures.1
           (lacks_as c.in_err-made.field-0.0 (c.in_err-made.ensures.room gs ns (subst (IsCalmAtZero ns) (sym told) (record { once = x.once; calm = x.right_calm })) (subst (SpansTree gs) (sym told) x.right_spanned))
           (λ l. omega (arith, turned_lacks gs ns n k a b _ x left (subst (λ (y : Tree). free_of c.take_sides-left.new.pool + size y < turned_room k (counted y) (2 ^ length gs)) told l), free)));
@@ -70,7 +67,7 @@ returns-in_err-made c =
           let x : HoldsTurned k a b h l = sides_held k a b h l (holds_as h l c.requires.sides (held (defined taken))) in
           overflow_on c.turn.result c.from_residual.result _ _ _ c.in_err-made.was
           (c.turn.ensures.bits x.high x.low (λ d. holds_as x.high x.low (ap (turned k) (sym told)) x.right) (x.few few)) c.from_residual.ensures.0 c.from_residual.ensures.1 (λ o h. h);
-      stands = search rules;
+      leaves = search rules;
     }
 
 pub join_sides-requires : goal.join_sides-requires
@@ -79,11 +76,11 @@ join_sides-requires c =
     let m = c.in_ok-made.ensures.ok in
     let side = left_beside c.take_sides-left.ensures.sides m in
     record {
-      stands = c.in_ok-made.ensures.stands;
+      stands = c.in_ok-made.ensures.leaves.stands;
       handed = given_handed m;
       last = stands_last m;
       left = side.handed;
-      left_reduced = ap is_reduced side.tree ∙ left_reduced (children_of t) _ _ (sides_children c.args.connective t c.requires.sides) c.requires.reduced;
+      left_reduced = ap is_reduced side.tree ∙ (both_reduced (children_of t) _ _ (sides_children c.args.connective t c.requires.sides) c.requires.reduced).0;
       right_reduced = (given_told m).reduces.reduced;
     }
 
@@ -109,15 +106,12 @@ returns c =
       room = λ gs ns n h calm z.
           let y = turned_ready gs ns n k a b made (sides_ready gs ns n k t c.requires.sides h calm z) known.room in
           let free = sides_free c.requires.stands c.take_sides-left.ensures.stands c.take_sides-left.ensures.kept c.requires.handed s in
-          let moved = replaced_free c.take_sides-left.ensures.stands c.in_ok-made.ensures.stands c.in_ok-made.ensures.kept (given_handed s.right-given) m in
+          let moved = replaced_free c.take_sides-left.ensures.stands c.in_ok-made.ensures.leaves.stands c.in_ok-made.ensures.leaves.kept (given_handed s.right-given) m in
           result_lacks c.join_sides.result (c.join_sides.ensures.room gs ns (subst (IsCalmAtZero ns) (sym tree) y.calm) (subst (SpansTree gs) (sym tree) y.spanned))
           (λ l. omega (arith, subst (λ (u : Tree). free_of c.turn.new.pool + sizes (two u made) < joined_room k (two u made) (2 ^ length gs)) side.tree l, free, moved, ap size (given_told s.right-given), y.fits));
       bits = λ h l held few.
           let x : HoldsTurned k a b h l = sides_held k a b h l (holds_as h l c.requires.sides (held (defined taken))) in
           c.join_sides.ensures.bits h l (subst (λ (u : Tree). has_undef (children_of u) ≡ false → HoldsNode u h l) (sym tree)
           (λ d. let e = ap has_undef (sym (children_joined k (two a made))) ∙ d in x.joined made e (known.held (second_side a made e) x.high x.low x.right))) few;
-      kept = search rules;
-      faults = search rules;
-      caused = search rules;
-      stands = search rules;
+      leaves = search rules;
     }

@@ -3,17 +3,16 @@ use Rattle.deep_reduce.proofs.Shared.{Connective, turned, turned_room, SpansTree
 use Rattle.deep_reduce.proofs.Shared.{given_free, whole_is, minus_one_fraction, plain_value, is_reduced, is_whole_num, are_reduced, Tree, num, mult, neg, power, size, base_in, exponent_in}
 use Rattle.deep_reduce.proofs.Shared.{are_rationals, children_of, tree_of, behind_first, behind_new, front_same, front_end, front_after_two, gives_as, given_handed, given_told, given_other}
 use Rattle.deep_reduce.proofs.Shared.{given_rest, given_without, given_apart, without_root, number_reduced, Fraction, fraction_fits, Gives, forest, passed_on, rational, ratio_of, value_of}
-use Rattle.deep_reduce.proofs.{Shared.{refused_below}, Connected.{turning_lacks}, Lacking.{result_lacks}}
+use Rattle.deep_reduce.proofs.{Shared.{refused_below}, Connected.{turning_lacks}, Lacking.{result_lacks}, Results.{answered, answer_as, overflow_as, overflowed_defined}, Sides.{IsPaired}}
+use Rattle.deep_reduce.proofs.{Sides.{apart_second, beside_new, new_first, new_second, reduced_front}, Steps.{neg_answer, neg_overflow}, Told.{answer_at, overflow_at, minus_one_value, power_told}}
+use Rattle.deep_reduce.proofs.{Told.{power_words, power_sides, two_reduced, inverse_no_half}, differences.turn.Goals.{In_ok-minus_one, In_ok-product-in-Sum}}
 use Rattle.node_bounds.proofs.{HeldFits.{product_fits}, NodeBits.{as_overflow, holds_as, only_undef, opposite_factors, power_node_fits, second_side}, NodeBytes.{opposite_calm, opposite_spans}}
 use Rattle.node_bounds.proofs.{NodeBytes.{opposite_fits, inverse_calm, inverse_spans}, PowerBytes.{needs_most}}
 use Rattle.reduce_walk.proofs.HeldRationals.{root_fits}
 use Rattle.calc_room.proofs.NumberBytes.{num_bytes}
 use Rattle.coefficients.proofs.Free.{number_refused}
 use Rattle.tree_handles.specs.declared.fault.NumberFault.TheVariants as fault
-use Rattle.deep_reduce.proofs.{Results.{answered, answer_as, overflow_as, overflowed_defined}, Sides.{IsPaired, apart_second, beside_new, new_first, new_second, reduced_front}}
-use Rattle.deep_reduce.proofs.{Steps.{neg_answer, neg_overflow}, Told.{answer_at, overflow_at, minus_one_value, power_told, power_words, power_sides, two_reduced, inverse_no_half}}
 use Rattle.calc_terms.specs.declared.kind.Kind.TheVariants as kind
-use Rattle.deep_reduce.proofs.differences.turn.Goals.{In_ok-minus_one, In_ok-product-in-Sum}
 use Rattle.deep_reduce.proofs.differences.turn.Goals as goal
 
 -- the new number, and the node over it and the side
@@ -52,9 +51,6 @@ returns-in_ok-product-in-Sum c =
       front =
           reduced_front (front_after_two (behind_new g.ends front_same) behind_first (front_end g.ends front_same) c.node_over_two.ensures.front)
           c.in_ok-product-in-Sum.ensures.ok (ap (without_root c.args.side) (given_rest g)) c.reduce_joined.ensures.front;
-      kept = search rules;
-      faults = search rules;
-      caused = search rules;
       room = λ gs ns k s.
           let free = given_free c.requires.stands c.in_ok-minus_one.ensures.stands c.in_ok-minus_one.ensures.kept g in
           let both = both_replaced_free c.in_ok-minus_one.ensures.stands c.in_ok-product-in-Sum.ensures.stands c.in_ok-product-in-Sum.ensures.kept (given_apart g c.requires.handed) (given_handed g) (given_other g c.requires.handed) c.in_ok-product-in-Sum.ensures.ok in
@@ -67,7 +63,7 @@ returns-in_ok-product-in-Sum c =
       bits = λ h l k few.
           c.reduce_joined.ensures.bits h l (λ d. subst (λ (x : Tree). HoldsNode x h l) (sym p.tree)
           (opposite_factors a (holds_as h l (sym is) (k (ap (λ (x : Tree). has_undef (children_of x)) (sym is) ∙ only_undef a (second_side (num minus_one_fraction) a (sym (ap (λ (x : Tree). has_undef (children_of x)) p.tree) ∙ d))))))) few;
-      stands = search rules;
+      leaves = search rules;
     }
 
 -- ---- the inverse
@@ -104,9 +100,6 @@ returns-in_ok-power-in-Product c =
       front =
           reduced_front (front_after_two behind_first (behind_new g.ends front_same) (front_end g.ends front_same) c.node_over_two-in-Product.ensures.front)
           c.in_ok-power-in-Product.ensures.ok (given_without g c.requires.handed) c.reduce_power.ensures.front;
-      kept = search rules;
-      faults = search rules;
-      caused = search rules;
       room = λ gs ns k s.
           let free = given_free c.requires.stands c.in_ok-minus_one.ensures.stands c.in_ok-minus_one.ensures.kept g in
           let both = both_replaced_free c.in_ok-minus_one.ensures.stands c.in_ok-power-in-Product.ensures.stands c.in_ok-power-in-Product.ensures.kept (apart_second g c.requires.handed) (given_other g c.requires.handed) (given_handed g) c.in_ok-power-in-Product.ensures.ok in
@@ -121,7 +114,7 @@ returns-in_ok-power-in-Product c =
           (λ d. power_node_fits (base_in w) (exponent_in w) c.reduce_power.result h l
           (holds_as h l words (held d)) few c.reduce_power.ensures.bits c.reduce_power.ensures.root_bits c.reduce_power.ensures.others)
           c.reduce_power.ensures.defined);
-      stands = search rules;
+      leaves = search rules;
     }
 
 -- ---- bytes at hand

@@ -1,11 +1,8 @@
 use Rattle.std.proofs.Common.{rules, ap, sym, ◌∙◌, refl, arith, subst}
 use Rattle.deep_reduce.proofs.Shared.{Tree, count, is_add, power, SpansTree, passed_on, forest, free_of, base_in, exponent_in, are_reduced, IsSumHeld, addends_of_each, tree_of, IsSumAnswer}
 use Rattle.deep_reduce.proofs.Shared.{ChangesTree, changes_as, changes_last, changes_last_front, children_of, given_handed, given_told, hole_stays, KeepsSumBounds}
-use Rattle.deep_reduce.proofs.{Lacking.{exponent_lacks, exponent_spans}, Children.{exponent_told, exponent_set, two_sides}, exponents.sum_exponent.Goals.{After-fill}}
+use Rattle.deep_reduce.proofs.{Lacking.{exponent_lacks, exponent_spans}, Children.{exponent_told, exponent_set}, exponents.sum_exponent.Goals.{After-fill}}
 use Rattle.deep_reduce.proofs.exponents.sum_exponent.Goals as goal
-
-pub open_child-hole-requires : goal.open_child-hole-requires
-open_child-hole-requires c = record { stands = search rules; handed = c.requires.handed; within = omega (arith, two_sides c.requires.power) }
 
 pub reduce_sum-requires : goal.reduce_sum-requires
 reduce_sum-requires c =
@@ -25,9 +22,6 @@ returns-in_err-sum c =
     record {
       ok = search rules;
       front = c.open_child-hole.ensures.front _ _ c.reduce_sum.ensures.front;
-      kept = search rules;
-      faults = search rules;
-      caused = search rules;
       room = λ gs s. passed_on c.from_residual.result c.in_err-sum.field-0.0 _ c.from_residual.ensures.0 c.from_residual.ensures.1
           (exponent_lacks gs (tree_of c.args.power c.args.pool.now) x (free_of c.open_child-hole.new.pool)
           (free_of c.args.pool.now) c.in_err-sum.field-0.0 c.requires.power told c.open_child-hole.ensures.free
@@ -35,7 +29,7 @@ returns-in_err-sum c =
       bits = λ h l s few.
           passed_on c.from_residual.result c.in_err-sum.field-0.0 _ c.from_residual.ensures.0 c.from_residual.ensures.1
           (c.in_err-sum.ensures.bits h l (subst (λ (t : Tree). IsSumHeld (addends_of_each (children_of t)) h l) (sym told) s) few);
-      stands = search rules;
+      leaves = search rules;
     }
 
 pub fill-requires : goal.fill-requires

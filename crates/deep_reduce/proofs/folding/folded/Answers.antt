@@ -1,36 +1,14 @@
 use Rattle.std.proofs.Common.{◌≡◌, ap, sym, ◌∙◌, subst}
-use Rattle.deep_reduce.proofs.Shared.{IsExpression, IsNodeAnswer, Trees, Tree, add_op, mul_op, num, root_kind, children_of, expression, kind_of_root, seen, plain, tree_at, tree_of, forest, value_of}
-use Rattle.deep_reduce.proofs.{Steps.{two}, Folded.{calculated_is, difference_answered, difference_over, opposite_answered, opposite_over, product_answered, product_over_these, quotient_over}}
-use Rattle.deep_reduce.proofs.Folded.{rational_fits, some_answered, some_told, sum_answered, sum_over_these}
+use Rattle.deep_reduce.proofs.{Shared.{IsNodeAnswer, Trees, Tree, add_op, mul_op, num, root_kind, children_of, kind_of_root, seen, plain, tree_at, tree_of, forest, value_of}, Steps.{two}}
+use Rattle.deep_reduce.proofs.Folded.{calculated_is, difference_answered, difference_over, opposite_answered, opposite_over, product_answered, product_over_these, quotient_over, rational_fits}
+use Rattle.deep_reduce.proofs.{Folded.{some_answered, some_told, sum_answered, sum_over_these}, folding.folded.Goals.{After-kind}}
 use Rattle.deep_reduce.proofs.folding.folded.Goals as goal
-use Rattle.deep_reduce.proofs.folding.folded.Goals.{After-kind}
 
 kind-is : (c : After-kind) → c.kind.result ≡ root_kind (tree_of c.args.tree.now c.args.pool.now)
 kind-is c = kind_of_root c.id-id.ensures c.requires.stands c.requires.handed c.kind.ensures.plain
 
-stands : (c : After-kind) → IsExpression c.id-id.result (forest c.args.pool.now)
-stands c = expression c.id-id.ensures c.requires.stands c.requires.handed
-
 children-are : (c : After-kind) (ts : Trees) → children_of (plain (tree_at c.id-id.result (forest c.args.pool.now))) ≡ ts → children_of (tree_of c.args.tree.now c.args.pool.now) ≡ ts
 children-are c ts e = ap children_of (sym (seen c.id-id.ensures c.requires.stands c.requires.handed)) ∙ e
-
-pub kind-requires-clause-live : goal.kind-requires-clause-live
-kind-requires-clause-live c = (expression c.id-id.ensures c.requires.stands c.requires.handed).live
-
-pub both-requires-clause-expression : goal.both-requires-clause-expression
-both-requires-clause-expression c = stands (goal.at.both-requires-clause-expression c).After-kind
-
-pub both-requires-in-Mult-clause-expression : goal.both-requires-in-Mult-clause-expression
-both-requires-in-Mult-clause-expression c = stands (goal.at.both-requires-in-Mult-clause-expression c).After-kind
-
-pub both-requires-in-Sub-clause-expression : goal.both-requires-in-Sub-clause-expression
-both-requires-in-Sub-clause-expression c = stands (goal.at.both-requires-in-Sub-clause-expression c).After-kind
-
-pub both-requires-in-Div-clause-expression : goal.both-requires-in-Div-clause-expression
-both-requires-in-Div-clause-expression c = stands (goal.at.both-requires-in-Div-clause-expression c).After-kind
-
-pub only-requires-clause-expression : goal.only-requires-clause-expression
-only-requires-clause-expression c = stands (goal.at.only-requires-clause-expression c).After-kind
 
 pub returns-in_ok-left-in-Add : goal.returns-in_ok-left-in-Add
 returns-in_ok-left-in-Add c =

@@ -1,10 +1,6 @@
 use Rattle.std.proofs.Common.{◌≡◌, false, sym, ◌∙◌}
-use Rattle.deep_reduce.proofs.{Shared.{mul_op, is_zero_fraction, value_of}, Folded.{calculated_is, other_than_zero, quotient_answered, rational_fits, some_told}}
-use Rattle.rational128.proofs.LowestTerms.{ratio_parts}
+use Rattle.deep_reduce.proofs.{Shared.{mul_op, is_zero_fraction, value_of}, Folded.{calculated_is, quotient_answered, rational_fits, some_told}}
 use Rattle.deep_reduce.proofs.folding.quotient.Goals as goal
-
-pub invert-inverse-requires : goal.invert-inverse-requires
-invert-inverse-requires c = λ e. other_than_zero (value_of c.args.divisor) (sym c.is_zero.ensures ∙ c.if-is_zero.false) ((ratio_parts c.args.divisor).num ∙ e)
 
 pub returns : goal.returns
 returns c =

@@ -1,12 +1,9 @@
-use Rattle.std.proofs.Common.{◌≡◌, false, rules, refl, sym, ap, ◌∙◌, subst, arith}
+use Rattle.std.proofs.Common.{◌≡◌, false, rules, refl, sym, ap, ◌∙◌, subst}
 use Rattle.deep_reduce.proofs.Shared.{value, int_is_negative, IsFactorHeld, IsNoLargerThanRoot, SpansTree, forest, free_of, passed_on, is_reduced, Tree, is_root, power, exponent_in, argument_of}
 use Rattle.deep_reduce.proofs.{Shared.{IfRational, IsRootAnswer, tree_of, ChangesTree, changes_as, changes_last, changes_last_front, given_handed, given_told, hole_stays}, HalfPowers.{root_lacks}}
-use Rattle.deep_reduce.proofs.{Children.{base_told, base_set, two_sides}, halves.reduce_base.Goals.{After-fill}}
+use Rattle.deep_reduce.proofs.{Children.{base_told, base_set}, halves.reduce_base.Goals.{After-fill}}
 use Rattle.node_bounds.proofs.HeldRoots.{root_fits}
 use Rattle.deep_reduce.proofs.halves.reduce_base.Goals as goal
-
-pub open_child-hole-requires : goal.open_child-hole-requires
-open_child-hole-requires c = record { stands = search rules; handed = c.requires.handed; within = omega (arith, two_sides c.requires.power) }
 
 pub reduce_root-requires : goal.reduce_root-requires
 reduce_root-requires c =
@@ -24,15 +21,12 @@ returns-in_err-reduced c =
     record {
       ok = search rules;
       front = c.open_child-hole.ensures.front _ _ c.reduce_root.ensures.front;
-      kept = search rules;
-      faults = search rules;
-      caused = search rules;
       room = passed_on c.from_residual.result c.in_err-reduced.field-0.0 _ c.from_residual.ensures.0 c.from_residual.ensures.1
           (root_lacks (tree_of c.args.power c.args.pool.now) (free_of c.open_child-hole.new.pool)
           (free_of c.args.pool.now) c.in_err-reduced.field-0.0 c.in_err-reduced.ensures.full_below_96_bytes c.open_child-hole.ensures.free);
       bits = λ h l k few. passed_on c.from_residual.result c.in_err-reduced.field-0.0 _ c.from_residual.ensures.0 c.from_residual.ensures.1
           (root_fits _ c.in_err-reduced.field-0.0 c.in_err-reduced.ensures.bits c.in_err-reduced.ensures.overflows.0 (subst (λ (x : Tree). IsFactorHeld (argument_of x) h l) (sym told) k) few);
-      stands = search rules;
+      leaves = search rules;
     }
 
 pub fill-requires : goal.fill-requires

@@ -3,7 +3,8 @@ use Rattle.deep_reduce.proofs.Shared.{Gives, Rewrites, Tree, numerator, gives_it
 use Rattle.deep_reduce.proofs.{Shared.{without_root, keeps_after, base_in, exponent_in, tree_of, gives_as, given_handed, given_told}, Arms.{is_done, is_again, any_fault, any_refusal, misfit_fault}}
 use Rattle.deep_reduce.proofs.{Arms.{half_defined}, Children.{gives_next, front_next}, HalfPowers.{IsHalfStep, half_step, half_ready, half_last, last_exponent, rooted_held, half_after}}
 use Rattle.deep_reduce.proofs.{HalfPowers.{step_finds_none, base_finds_none, last_step, last_finds_none}, Lacking.{lacks_as}, Opened.{power_finished}, halves.reduce_half_power.Goals.{In-Again}}
-use Rattle.node_bounds.proofs.HeldRoots.{half_no_whole, half_fits, if_two}
+use Rattle.node_bounds.proofs.HeldRoots.{half_no_whole, half_fits}
+use Rattle.product_reduce.proofs.Results.{if_ok_both}
 use Rattle.deep_reduce.proofs.halves.reduce_half_power.Goals as goal
 
 pub returns-in-Done-clause-ok : goal.returns-in-Done-clause-ok
@@ -27,27 +28,23 @@ reduce_base-requires c =
     let r = half_ready c.requires.base (step after) in
     record { stands = search rules; handed = given_handed (again after); power = r.words; root = r.root; reduced = r.reduced }
 
-pub returns-in_err-rooted-in-Again-clause-defined : goal.returns-in_err-rooted-in-Again-clause-defined
-returns-in_err-rooted-in-Again-clause-defined c =
-    let defined = (step (goal.at.returns-in_err-rooted-in-Again-clause-defined c).In-Again).defined in
-    passed_on c.from_residual-in_err-rooted-in-Again.result c.in_err-rooted-in-Again.field-0.0 _ c.from_residual-in_err-rooted-in-Again.ensures.0 c.from_residual-in_err-rooted-in-Again.ensures.1
-    (any_fault c.in_err-rooted-in-Again.field-0.0 _ (half_defined (tree_of c.args.power c.args.pool.now) c.requires.power c.requires.half defined))
-
-pub returns-in_err-rooted-in-Again-clause-front : goal.returns-in_err-rooted-in-Again-clause-front
-returns-in_err-rooted-in-Again-clause-front c = front_next (again (goal.at.returns-in_err-rooted-in-Again-clause-front c).In-Again) c.power_step.ensures.front c.reduce_base.ensures.front
-
-pub returns-in_err-rooted-in-Again-clause-room : goal.returns-in_err-rooted-in-Again-clause-room
-returns-in_err-rooted-in-Again-clause-room c = λ gs s.
-    let after = (goal.at.returns-in_err-rooted-in-Again-clause-room c).In-Again in
-    let moved = replaced_free c.requires.stands c.in_ok-answer.ensures.stands c.in_ok-answer.ensures.kept c.requires.handed (again after) in
-    passed_on c.from_residual-in_err-rooted-in-Again.result c.in_err-rooted-in-Again.field-0.0 _ c.from_residual-in_err-rooted-in-Again.ensures.0 c.from_residual-in_err-rooted-in-Again.ensures.1
-    (base_finds_none gs (free_of c.power_step.new.pool) _ c.in_err-rooted-in-Again.field-0.0 c.requires.base s (step after) moved c.in_err-rooted-in-Again.ensures.room)
-
-pub returns-in_err-rooted-in-Again-clause-bits : goal.returns-in_err-rooted-in-Again-clause-bits
-returns-in_err-rooted-in-Again-clause-bits c = λ h l z a few more.
-    let is = (step (goal.at.returns-in_err-rooted-in-Again-clause-bits c).In-Again).is in
-    passed_on c.from_residual-in_err-rooted-in-Again.result c.in_err-rooted-in-Again.field-0.0 _ c.from_residual-in_err-rooted-in-Again.ensures.0 c.from_residual-in_err-rooted-in-Again.ensures.1
-    (c.in_err-rooted-in-Again.ensures.bits h l (subst (λ (x : Tree). IsFactorHeld (argument_of (base_in x)) h l) (sym is) a) few)
+pub returns-in_err-rooted-in-Again : goal.returns-in_err-rooted-in-Again
+returns-in_err-rooted-in-Again c =
+    let after = (goal.at.returns-in_err-rooted-in-Again c).In-Again in
+    let s = step after in
+    let f = c.from_residual-in_err-rooted-in-Again in
+    let x = c.in_err-rooted-in-Again in
+    record {
+      ok = search rules;
+      defined = passed_on f.result x.field-0.0 _ f.ensures.0 f.ensures.1 (any_fault x.field-0.0 _ (half_defined (tree_of c.args.power c.args.pool.now) c.requires.power c.requires.half s.defined));
+      front = front_next (again after) c.power_step.ensures.front c.reduce_base.ensures.front;
+      room = λ gs z.
+          let moved = replaced_free c.requires.stands c.in_ok-answer.ensures.stands c.in_ok-answer.ensures.kept c.requires.handed (again after) in
+          passed_on f.result x.field-0.0 _ f.ensures.0 f.ensures.1 (base_finds_none gs (free_of c.power_step.new.pool) _ x.field-0.0 c.requires.base z s moved x.ensures.room);
+      bits = λ h l z a few more.
+          passed_on f.result x.field-0.0 _ f.ensures.0 f.ensures.1 (x.ensures.bits h l (subst (λ (y : Tree). IsFactorHeld (argument_of (base_in y)) h l) (sym s.is) a) few);
+      leaves = search rules;
+    }
 
 pub last_step-requires : goal.last_step-requires
 last_step-requires c =
@@ -67,21 +64,18 @@ returns-in_ok-rooted-in-Again c =
     let exponent = last_exponent s k in
     record {
       ok = let w = subst (λ (x : Tree). Rewrites x (tree_of c.in-Again.tree c.power_step.new.pool)) c.requires.power (given_told g).1 in
-          if_two c.last_step.result _ _ _ c.last_step.ensures.ok (c.last_step.ensures.held n exponent)
+          if_ok_both c.last_step.result c.last_step.ensures.ok (c.last_step.ensures.held n exponent)
           (λ h x y. gives_next both (gives_itself x)
           (λ r a. half_after r c.requires.half s w k a.0 c.requires.base (subst (IsHeldAsPowerOf n (base_in (tree_of c.in_ok-rooted-in-Again.rooted c.reduce_base.new.pool))) (sym a.1) y)));
       defined = any_refusal c.last_step.result _ (half_defined (tree_of c.args.power c.args.pool.now) c.requires.power c.requires.half s.defined);
       front = front_next both (front_next g c.power_step.ensures.front c.reduce_base.ensures.front) c.last_step.ensures.front;
-      kept = search rules;
-      faults = search rules;
-      caused = search rules;
       room = λ gs z.
           let x = last_step gs z s k in
-          let kept = keeps_after _ _ _ c.in_ok-answer.ensures.kept c.in_ok-rooted-in-Again.ensures.kept in
-          let moved = replaced_free c.requires.stands c.in_ok-rooted-in-Again.ensures.stands kept c.requires.handed both in
+          let kept = keeps_after _ _ _ c.in_ok-answer.ensures.kept c.in_ok-rooted-in-Again.ensures.leaves.kept in
+          let moved = replaced_free c.requires.stands c.in_ok-rooted-in-Again.ensures.leaves.stands kept c.requires.handed both in
           refusal_as c.last_step.result (c.last_step.ensures.room gs x.spanned x.whole) (λ f q. lacks_as f (last_finds_none gs (free_of c.reduce_base.new.pool) f x q) (λ l. omega (arith, l, moved)));
       bits = λ h l z a few more. c.last_step.ensures.bits n h l exponent (λ d. rooted_held c.requires.base s k z d a) more;
-      stands = search rules;
+      leaves = search rules;
     }
 
 -- ---- operations that do not fit

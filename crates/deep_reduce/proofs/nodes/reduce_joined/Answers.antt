@@ -39,16 +39,13 @@ returns-in-Sum c =
           (λ u a p. sum_told t u sum a.0 a.1 p);
       overflow = overflowed_defined (plain_value t) new _ _ c.reduce_sum.ensures.rationals c.reduce_sum.ensures.defined (λ o d h. record { defined = d; rational = h });
       front = search rules;
-      kept = search rules;
-      faults = search rules;
-      caused = search rules;
       room = λ gs ns k s.
           subst (λ (k : Connective). IfErr c.reduce_sum.result (LacksBelow (joined_room k (children_of t) (2 ^ length gs)) (free_of c.args.pool.now + size t))) (sym c.in-Sum.is)
           (c.reduce_sum.ensures.room gs s);
       bits = λ h l k few.
           as_overflow c.reduce_sum.result
           (product_fits (children_of t) c.reduce_sum.result (λ d. c.reduce_sum.ensures.bits h l (holds_as h l (sum_words t sum) (k d)) few) c.reduce_sum.ensures.defined);
-      stands = search rules;
+      leaves = search rules;
     }
 
 -- ---- a product
@@ -74,14 +71,11 @@ returns-in-Product c =
       ok = answered _ (plain_value t) new _ _ _ c.reduce_product.ensures.ok c.reduce_product.ensures.rationals (λ u a p. product_told t u product a p);
       overflow = overflowed_defined (plain_value t) new _ _ c.reduce_product.ensures.rationals c.reduce_product.ensures.defined (λ o d h. record { defined = d; rational = h });
       front = search rules;
-      kept = search rules;
-      faults = search rules;
-      caused = search rules;
       room = λ gs ns k s.
           subst (λ (k : Connective). IfErr c.reduce_product.result (LacksBelow (joined_room k (children_of t) (2 ^ length gs)) (free_of c.args.pool.now + size t))) (sym c.in-Product.is)
           (result_lacks c.reduce_product.result (c.reduce_product.ensures.room gs ns k s) (λ l. omega (arith, l, some_factors (children_of t) (2 ^ length gs) some)));
       bits = λ h l k few.
           as_overflow c.reduce_product.result (product_fits (children_of t) c.reduce_product.result
           (λ d. c.reduce_product.ensures.bits h l (holds_as h l (product_words t product) (k d)) few) c.reduce_product.ensures.defined);
-      stands = search rules;
+      leaves = search rules;
     }

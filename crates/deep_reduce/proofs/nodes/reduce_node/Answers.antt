@@ -2,13 +2,13 @@ use Rattle.std.proofs.Common.{rules, subst, false, ◌≡◌, ◌^◌, ℕ, List
 use Rattle.deep_reduce.proofs.Shared.{IsNodeAnswer, plain_value, Tree, root_kind, tree_of, keeps_none, front_same, gives, represents_handed, kind_of_root, pow_pos, SpansTree, value, int_is_negative}
 use Rattle.deep_reduce.proofs.{Shared.{base_in, exponent_in, argument_of, IfRational, IsNoLargerThanRoot, children_of, free_of, sum_kind, product_kind, sum_words}, Folded.{number_needs}}
 use Rattle.deep_reduce.proofs.{Lacking.{result_lacks, power_result}, Results.{answered, answer_as, overflow_as, overflowed_defined, with_facts, span_facts}, Told.{power_kind, root_kind_is, neg_kind}}
-use Rattle.deep_reduce.proofs.Told.{sub_kind, div_kind, sub_is, div_is, power_told, power_sides, IsRationalPower, rational_answer, rational_overflow, power_reduced, root_told, root_overflow}
-use Rattle.deep_reduce.proofs.{Told.{argument_reduced, leaf_told, node_fits}, nodes.reduce_node.Goals.{After-kind}}
+use Rattle.deep_reduce.proofs.Told.{sub_is, div_is, power_told, power_sides, IsRationalPower, rational_answer, rational_overflow, power_reduced, root_told, root_overflow, argument_reduced, leaf_told}
+use Rattle.deep_reduce.proofs.{Told.{node_fits}, nodes.reduce_node.Goals.{After-kind}}
 use Rattle.node_bounds.proofs.{HeldFits.{product_fits}, NodeBits.{as_overflow, power_node_fits, root_node_fits, measured_facts, holds_as}, NodeBytes.{sum_fits, factors_fit, power_fits, half_fits}}
 use Rattle.node_bounds.proofs.NodeBytes.{root_result, no_half_power, node_spans}
-use Rattle.deep_reduce.proofs.nodes.reduce_node.Goals as goal
 use Rattle.radical_forms.proofs.Handed.{root_is}
 use Rattle.product_reduce.proofs.Stepped.{mult_words as product_words}
+use Rattle.deep_reduce.proofs.nodes.reduce_node.Goals as goal
 
 -- what the readers tell
 kind-is : (c : After-kind) → c.kind.result ≡ root_kind (tree_of c.args.tree c.args.pool.now)
@@ -28,14 +28,10 @@ pub negate-requires-clause-opposite : goal.negate-requires-clause-opposite
 negate-requires-clause-opposite c = neg_kind (tree_of c.args.tree c.args.pool.now) (sym c.in-Neg.is ∙ kind-is (goal.at.negate-requires-clause-opposite c).After-kind)
 
 pub reduce_sides-requires-clause-sides : goal.reduce_sides-requires-clause-sides
-reduce_sides-requires-clause-sides c =
-    let t : Tree = tree_of c.args.tree c.args.pool.now in
-    sub_is t (sub_kind t (sym c.in-Sub.is ∙ kind-is (goal.at.reduce_sides-requires-clause-sides c).After-kind))
+reduce_sides-requires-clause-sides c = sub_is (tree_of c.args.tree c.args.pool.now) (sym c.in-Sub.is ∙ kind-is (goal.at.reduce_sides-requires-clause-sides c).After-kind)
 
 pub reduce_sides-requires-in-Div-clause-sides : goal.reduce_sides-requires-in-Div-clause-sides
-reduce_sides-requires-in-Div-clause-sides c =
-    let t : Tree = tree_of c.args.tree c.args.pool.now in
-    div_is t (div_kind t (sym c.in-Div.is ∙ kind-is (goal.at.reduce_sides-requires-in-Div-clause-sides c).After-kind))
+reduce_sides-requires-in-Div-clause-sides c = div_is (tree_of c.args.tree c.args.pool.now) (sym c.in-Div.is ∙ kind-is (goal.at.reduce_sides-requires-in-Div-clause-sides c).After-kind)
 
 pub reduce_root-requires : goal.reduce_root-requires
 reduce_root-requires c =
@@ -58,15 +54,12 @@ returns-in-Root c =
           (λ u h. root_told t u is (argument_reduced t is c.requires.reduced) h.0.0 h.0.1 h.1);
       overflow = named;
       front = search rules;
-      kept = search rules;
-      faults = search rules;
-      caused = search rules;
       room = λ gs ns n h k s. root_result gs t (free_of c.args.pool.now) n c.reduce_root.result is h c.reduce_root.ensures.full_of_a_rational c.reduce_root.ensures.full_below_96_bytes;
       root_room = λ gs n h z s. no_half_power t kind (λ e. cc) z;
       bits = λ h l k few.
           node_fits t c.reduce_root.result named (λ d. as_overflow c.reduce_root.result
           (root_node_fits (argument_of t) c.reduce_root.result c.reduce_root.ensures.bits c.reduce_root.ensures.overflows.0 (holds_as h l (root_is t is) (k d)).0 few));
-      stands = search rules;
+      leaves = search rules;
     }
 
 pub reduce_power-requires : goal.reduce_power-requires
@@ -88,9 +81,6 @@ returns-in-Pow c =
       overflow =
           overflowed_defined {C = IsRationalPower t} (plain_value t) new _ _ rationals c.reduce_power.ensures.defined (λ o d h. record { defined = d; rational = rational_overflow t o is h });
       front = search rules;
-      kept = search rules;
-      faults = search rules;
-      caused = search rules;
       room = λ gs ns n h k s.
           power_result _ _ t c.reduce_power.result is k
           (λ w. result_lacks c.reduce_power.result (c.reduce_power.ensures.room gs ns k (node_spans gs t kind (λ e. cc) s) w) (λ l. omega (arith, l, power_fits t n (2 ^ length gs) is h)))
@@ -101,7 +91,7 @@ returns-in-Pow c =
           (λ d. power_node_fits (base_in t) (exponent_in t) c.reduce_power.result h l
           (holds_as h l is (k d)) few c.reduce_power.ensures.bits c.reduce_power.ensures.root_bits c.reduce_power.ensures.others)
           c.reduce_power.ensures.defined);
-      stands = search rules;
+      leaves = search rules;
     }
 
 pub returns-in_default-kind : goal.returns-in_default-kind
@@ -115,13 +105,10 @@ returns-in_default-kind c =
           (λ e. c.in_default-kind.not-Neg (is ∙ sym e)) (λ e. c.in_default-kind.not-Sub (is ∙ sym e)) (λ e. c.in_default-kind.not-Div (is ∙ sym e)));
       overflow = tt;
       front = front_same;
-      kept = keeps_none c.args.pool.now;
-      faults = tt;
-      caused = tt;
       room = λ gs ns n h k s. tt;
       root_room = λ gs n h z s. tt;
       bits = λ h l k few. tt;
-      stands = c.requires.stands;
+      leaves = record { kept = keeps_none c.args.pool.now; faults = tt; caused = tt; stands = c.requires.stands };
     }
 
 -- ---- bytes at hand

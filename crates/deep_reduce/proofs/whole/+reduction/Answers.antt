@@ -4,8 +4,8 @@ use Rattle.deep_reduce.proofs.Shared.{joins_then, IsHeldAsPowerOf, IsFactorHeld,
 use Rattle.deep_reduce.proofs.Shared.{IsPairAt, base_in, exponent_in, are_reduced, is_whole_num, Rewrites, tree_of, children_of, keeps_none, keeps_after, behind_first, front_same, front_end}
 use Rattle.deep_reduce.proofs.Shared.{front_without, gives, gives_as, given_handed, given_told, represents_handed, changes_as, changes_free, changes_front, changes_last, changes_last_front}
 use Rattle.deep_reduce.proofs.{Shared.{children_told, front_again, hole_stays, KeepsProductBounds}, Arms.{is_finished, is_gathered, is_at, is_few, is_done, is_again, is_held, gathered_hands}}
-use Rattle.deep_reduce.proofs.{Arms.{any_fault, any_refusal, misfit_fault, rewritten_defined, is_bounded}, Children.{exponent_told, exponent_set, two_sides, handed_within, factor_set, gives_next}}
-use Rattle.deep_reduce.proofs.{Children.{front_next, exponent_seen, with_product, without_product, taken_falls}, Falls.{joint_falls, two_falls, next_two_falls, pairs_fall, product_falls, power_falls}}
+use Rattle.deep_reduce.proofs.{Arms.{any_fault, any_refusal, misfit_fault, rewritten_defined, is_bounded}, Children.{exponent_told, exponent_set, factor_set, gives_next, front_next, exponent_seen}}
+use Rattle.deep_reduce.proofs.{Children.{with_product, without_product, taken_falls, two_sides, handed_within}, Falls.{joint_falls, two_falls, next_two_falls, pairs_fall, product_falls, power_falls}}
 use Rattle.deep_reduce.proofs.{Falls.{rewritten_falls, powers_fall, ready_product_falls, exponent_falls, ready_power_falls, one_power_falls}, Finished.{product_of_powers, ready_product}}
 use Rattle.deep_reduce.proofs.{Finished.{transparent_children, ready_power, power_lifted, power_of_kind}, Lacking.{lacks_as, result_lacks, handed_on, joint_sum_lacks, joint_power_short}}
 use Rattle.deep_reduce.proofs.Lacking.{joint_at_spans, joint_ready, next_bytes, step_lacks, power_refused, power_result, ready_product as ready_for_product, ready_power as ready_for_power}
@@ -13,13 +13,12 @@ use Rattle.deep_reduce.proofs.{Lacking.{ready_exponent, ready_part}, Measures.{f
 use Rattle.deep_reduce.proofs.{Rows.{next_within, next_of, next_told, next_reduced, all_reduced}, Settled.{joint_at, ready_joint, ready_summed, pair_joined, settled_less, settled_within}}
 use Rattle.deep_reduce.proofs.Settled.{less_gathered, less_next, gathered_product, some_pair, product_after, product_finished}
 use Rattle.node_bounds.proofs.{Clashes.{contrary}, HeldFits.{product_fits, powers_ready, part_ready, power_fits, exponent_ready, joint_exponents, joint_fits}, HeldRoots.{half_no_whole}}
-use Rattle.node_bounds.proofs.JointBytes.{joint_lacks}
+use Rattle.node_bounds.proofs.{JointBytes.{joint_lacks}, Rewritten.{is_rewritten}}
 use Rattle.calc_terms.specs.Trees.{power as power_tree}
 use Rattle.coefficients.proofs.Puttings.{on_ok_after, fault_after}
+use Rattle.product_reduce.proofs.Stepped.{mult_words as product_words}
 use Rattle.tree_handles.specs.declared.fault.NumberFault.TheVariants as fault
 use Rattle.deep_reduce.proofs.whole.+reduction.Goals as goal
-use Rattle.product_reduce.proofs.Stepped.{mult_words as product_words}
-use Rattle.node_bounds.proofs.Rewritten.{is_rewritten}
 
 -- ---- reduce_product
 
@@ -78,7 +77,7 @@ reduce_product-reduce_product-requires t c =
     let g = c.in_ok-joined-in-Joined.ensures.ok in
     let j = given_told (is_gathered c.args.product c.args.pool.now c.gather_factors.new.pool c.in-Joined.is c.in_ok-answer.ensures.gathered) in
     let l = less_gathered _ _ _ j (gathered_hands c.args.product c.args.pool.now c.gather_factors.new.pool c.in-Joined.is c.in_ok-answer.ensures.gathered c.in_ok-answer.ensures.joined_bounds) (given_told g) in
-    (below_measure c.decreases (product_falls (tree_of c.args.product c.args.pool.now) _ l), (c.in_ok-joined-in-Joined.ensures.stands, (given_handed g, (ap is_mult l.is, (l.some, l.reduced)))))
+    (below_measure c.decreases (product_falls (tree_of c.args.product c.args.pool.now) _ l), (c.in_ok-joined-in-Joined.ensures.leaves.stands, (given_handed g, (ap is_mult l.is, (l.some, l.reduced)))))
 
 pub reduce_product-returns-in_ok-joined-in-Joined : goal.reduce_product-returns-in_ok-joined-in-Joined
 reduce_product-returns-in_ok-joined-in-Joined t c =
@@ -99,9 +98,9 @@ reduce_product-returns-in_ok-joined-in-Joined t c =
       room = λ gs ns k s.
           let v : Tree = tree_of c.in_ok-joined-in-Joined.joined c.join_pairs.new.pool in
           let x = handed_on (tree_of c.args.product c.args.pool.now) v c.requires.product l.is l.hands_on gs ns k s in
-          let kept = keeps_after _ _ _ c.in_ok-answer.ensures.kept c.in_ok-joined-in-Joined.ensures.kept in
+          let kept = keeps_after _ _ _ c.in_ok-answer.ensures.kept c.in_ok-joined-in-Joined.ensures.leaves.kept in
           result_lacks c.reduce_product.result (c.reduce_product.ensures.room gs ns x.calm x.spanned)
-          (λ m. omega (arith, m, x.needs, replaced_free c.requires.stands c.in_ok-joined-in-Joined.ensures.stands kept c.requires.handed next));
+          (λ m. omega (arith, m, x.needs, replaced_free c.requires.stands c.in_ok-joined-in-Joined.ensures.leaves.stands kept c.requires.handed next));
       bits = λ h m a few. c.reduce_product.ensures.bits h m (l.hands_on.held h m a) few;
       stands = search rules;
     }
@@ -121,8 +120,8 @@ join_pairs-join_two-requires t c = (
 
 pub join_pairs-loop-next-init : goal.join_pairs-loop-next-init
 join_pairs-loop-next-init t c = record {
-  stands = c.in_ok-joined.ensures.stands;
-  kept = c.in_ok-joined.ensures.kept;
+  stands = c.in_ok-joined.ensures.leaves.stands;
+  kept = c.in_ok-joined.ensures.leaves.kept;
   given = c.in_ok-joined.ensures.ok;
   pair = some_pair c.args.first _ c.next_pair-next.result c.next_pair-next.ensures.pair;
   fits = c.next_pair-next.ensures.fits;
@@ -144,8 +143,8 @@ join_pairs-loop-next-preserved t c =
     let i = c.loop-next.invariant in
     let g = i.given in
     record {
-      stands = c.in-Ok.ensures.stands;
-      kept = keeps_after _ _ _ i.kept c.in-Ok.ensures.kept;
+      stands = c.in-Ok.ensures.leaves.stands;
+      kept = keeps_after _ _ _ i.kept c.in-Ok.ensures.leaves.kept;
       given = gives_next g c.in-Ok.ensures.ok (λ v s. less_next (children_of (tree_of c.args.product c.args.pool.now)) _ v (given_told g) s);
       pair = some_pair c.in-Some.at _ c.next_pair-next-in-Some.result c.next_pair-next-in-Some.ensures.pair;
       fits = c.next_pair-next-in-Some.ensures.fits;
@@ -188,15 +187,12 @@ join_two-returns t c =
       ok = if_map c.reduce_joint.result _ _ c.reduce_joint.ensures.ok (λ h x. gives_next g x (λ r s. settled_less c.args.at ts _ r j s));
       within = if_map c.reduce_joint.result _ _ c.reduce_joint.ensures.ok (λ h x. settled_within c.args.at _ _ j.joint (given_told x));
       front = front_next g c.join_neighbours.ensures.front c.reduce_joint.ensures.front;
-      kept = search rules;
-      faults = search rules;
-      caused = search rules;
       room = λ gs ns k s.
           let w = product_words u c.requires.product in
           result_lacks c.reduce_joint.result (c.reduce_joint.ensures.room gs ns ts from (subst (IsCalmAtZero ns) w k) (subst (SpansTree gs) w s))
           (λ l. omega (arith, l, replaced_free c.requires.stands c.in_ok-joined.ensures.stands c.in_ok-joined.ensures.kept c.requires.handed g));
       bits = λ h l a few. c.reduce_joint.ensures.bits h l ts from a few;
-      stands = search rules;
+      leaves = search rules;
     }
 
 pub join_two-returns-in_err-joined-clause-room : goal.join_two-returns-in_err-joined-clause-room
@@ -233,16 +229,13 @@ reduce_joint-returns-in_err-power t c =
     record {
       ok = search rules;
       front = c.open_child-hole.ensures.front _ _ c.sum_exponent.ensures.front;
-      kept = search rules;
-      faults = search rules;
-      caused = search rules;
       room = λ gs ns ts k q s. passed_on c.from_residual.result c.in_err-power.field-0.0 _ c.from_residual.ensures.0 c.from_residual.ensures.1
           (lacks_as c.in_err-power.field-0.0 (c.in_err-power.ensures.room gs (subst (SpansTree gs) (sym e) (joint_at_spans gs c.args.at ts us k s.1)))
           (λ l. omega (arith, joint_sum_lacks gs c.args.at ts us k s.1 x (free_of c.open_child-hole.new.pool) (free_of c.args.pool.now) e c.open_child-hole.ensures.free l, ap size w)));
       bits = λ h l ts k b few.
           passed_on c.from_residual.result c.in_err-power.field-0.0 _ c.from_residual.ensures.0 c.from_residual.ensures.1
           (c.in_err-power.ensures.bits 8 0 (joint_exponents c.args.at ts us k x e h l b few) (omega arith));
-      stands = search rules;
+      leaves = search rules;
     }
 
 pub reduce_joint-reduce_power-requires : goal.reduce_joint-reduce_power-requires
@@ -252,7 +245,7 @@ reduce_joint-reduce_power-requires t c =
     let s = subst (λ (x : Tree). IsSummed (base_in x) (children_of (exponent_in x)) (tree_of c.in_ok-power.power c.sum_exponent.new.pool)) (given_told c.open_child-hole.ensures.child) (given_told g) in
     let y = ready_summed _ _ _ r.base_reduced s in (
       below_measure c.decreases (power_falls (tree_of c.args.product c.args.pool.now) _ c.args.at r.is s),
-      (c.in_ok-power.ensures.stands, (given_handed g, (y.is, (y.base_reduced, y.exponent_reduced)))),
+      (c.in_ok-power.ensures.leaves.stands, (given_handed g, (y.is, (y.base_reduced, y.exponent_reduced)))),
     )
 
 pub reduce_joint-returns-in_err-factor : goal.reduce_joint-returns-in_err-factor
@@ -267,12 +260,9 @@ reduce_joint-returns-in_err-factor t c =
     record {
       ok = search rules;
       front = c.open_child-hole.ensures.front _ _ (front_next g c.sum_exponent.ensures.front c.reduce_power.ensures.front);
-      kept = search rules;
-      faults = search rules;
-      caused = search rules;
       room = λ gs ns ts k q s.
           let m = subst (λ (y : Tree). IsSummed (base_in y) (children_of (exponent_in y)) v) e (given_told g) in
-          let moved = replaced_free c.open_child-hole.ensures.stands c.in_ok-power.ensures.stands c.in_ok-power.ensures.kept (given_handed child) g in
+          let moved = replaced_free c.open_child-hole.ensures.stands c.in_ok-power.ensures.leaves.stands c.in_ok-power.ensures.leaves.kept (given_handed child) g in
           let y = joint_ready gs ns c.args.at ts us v k q s m in
           passed_on c.from_residual-in_err-factor.result c.in_err-factor.field-0.0 _ c.from_residual-in_err-factor.ensures.0 c.from_residual-in_err-factor.ensures.1
           (power_refused _ _ v c.in_err-factor.field-0.0 y.is y.calm
@@ -281,7 +271,7 @@ reduce_joint-returns-in_err-factor t c =
           (λ h z. c.in_err-factor.ensures.others h z));
       bits = λ h l ts k b few. passed_on c.from_residual-in_err-factor.result c.in_err-factor.field-0.0 _ c.from_residual-in_err-factor.ensures.0 c.from_residual-in_err-factor.ensures.1
           (joint_fits c.args.at ts us k x e {A = ℕ} v h l (Err c.in_err-factor.field-0.0) (given_told g) b few c.in_err-factor.ensures.bits c.in_err-factor.ensures.others);
-      stands = search rules;
+      leaves = search rules;
     }
 
 pub reduce_joint-fill-requires : goal.reduce_joint-fill-requires
@@ -379,7 +369,7 @@ reduce_rewritten-reduce_product-requires t c =
     let m = product_kind _ (sym c.in-Mult.is ∙ kind_of_root {k = c.kind.result} c.id.ensures c.requires.stands c.requires.handed c.kind.ensures.plain) in
     let g = c.in_ok-product-in-Mult.ensures.ok in
     let y = ready_product _ _ m c.requires.unfinished (given_told g) in
-    (below_measure c.decreases (ready_product_falls _ _ y), (c.in_ok-product-in-Mult.ensures.stands, (given_handed g, (y.is, (y.some, y.reduced)))))
+    (below_measure c.decreases (ready_product_falls _ _ y), (c.in_ok-product-in-Mult.ensures.leaves.stands, (given_handed g, (y.is, (y.some, y.reduced)))))
 
 pub reduce_rewritten-returns-in_ok-product-in-Mult : goal.reduce_rewritten-returns-in_ok-product-in-Mult
 reduce_rewritten-returns-in_ok-product-in-Mult t c =
@@ -390,17 +380,14 @@ reduce_rewritten-returns-in_ok-product-in-Mult t c =
     record {
       ok = if_map c.reduce_product.result _ _ c.reduce_product.ensures.ok (λ h x. gives_next g x (λ r a. product_of_powers _ _ r m c.requires.unfinished (given_told g) a));
       front = front_next g c.reduce_powers.ensures.front c.reduce_product.ensures.front;
-      kept = search rules;
-      faults = search rules;
-      caused = search rules;
       room = λ gs ns b e r k s.
           let x = ready_for_product gs ns b e u v m r k s (given_told g) in
           result_lacks c.reduce_product.result (c.reduce_product.ensures.room gs ns x.calm x.spanned)
-          (λ l. omega (arith, x.lacks _ l, replaced_free c.requires.stands c.in_ok-product-in-Mult.ensures.stands c.in_ok-product-in-Mult.ensures.kept c.requires.handed g));
+          (λ l. omega (arith, x.lacks _ l, replaced_free c.requires.stands c.in_ok-product-in-Mult.ensures.leaves.stands c.in_ok-product-in-Mult.ensures.leaves.kept c.requires.handed g));
       bits = λ b e n h l r q a few.
           product_fits (children_of v) c.reduce_product.result
           (λ d. c.reduce_product.ensures.bits (raised_high n h l) (raised_low n h l) (powers_ready b e u v n h l m r (given_told g) q a d) few) c.reduce_product.ensures.defined;
-      stands = search rules;
+      leaves = search rules;
     }
 
 pub reduce_rewritten-reduce_exponent-requires : goal.reduce_rewritten-reduce_exponent-requires
@@ -414,7 +401,7 @@ reduce_rewritten-reduce_power-requires t c =
     let k = kind_of_root {k = c.kind.result} c.id.ensures c.requires.stands c.requires.handed c.kind.ensures.plain in
     let g = c.in_ok-power-in_default.ensures.ok in
     let y = ready_power _ _ (power_of_kind _ (no_product_kind _ (λ e. c.in_default.not-Mult (k ∙ sym e))) c.requires.unfinished) c.requires.unfinished (given_told g) in
-    (below_measure c.decreases (ready_power_falls _ _ y), (c.in_ok-power-in_default.ensures.stands, (given_handed g, (y.is, (y.base_reduced, y.exponent_reduced)))))
+    (below_measure c.decreases (ready_power_falls _ _ y), (c.in_ok-power-in_default.ensures.leaves.stands, (given_handed g, (y.is, (y.base_reduced, y.exponent_reduced)))))
 
 pub reduce_rewritten-returns-in_ok-power-in_default : goal.reduce_rewritten-returns-in_ok-power-in_default
 reduce_rewritten-returns-in_ok-power-in_default t c =
@@ -422,23 +409,25 @@ reduce_rewritten-returns-in_ok-power-in_default t c =
     let p = power_of_kind _ (no_product_kind _ (λ e. c.in_default.not-Mult (k ∙ sym e))) c.requires.unfinished in
     let g = c.in_ok-power-in_default.ensures.ok in
     let y = ready_power _ _ p c.requires.unfinished (given_told g) in
-    let kept = c.in_ok-power-in_default.ensures.kept in
+    let kept = c.in_ok-power-in_default.ensures.leaves.kept in
     record {
       ok = if_map c.reduce_power.result _ _ c.reduce_power.ensures.ok (λ h x. gives_next g x (λ r a. power_lifted _ _ r (ap is_mult p) (given_told g) y a));
       front = front_next g c.reduce_exponent.ensures.front c.reduce_power.ensures.front;
-      kept = on_ok_after c.reduce_power.result _ _ _ kept c.reduce_power.ensures.kept;
-      faults = fault_after c.reduce_power.result _ _ _ kept c.reduce_power.ensures.faults;
-      caused = c.reduce_power.ensures.caused;
       room = λ gs ns b e r k s.
           let x = ready_for_power gs ns b e (tree_of c.args.tree c.args.pool.now) (tree_of c.in_ok-power-in_default.power c.reduce_exponent.new.pool) (ap is_mult p) r k s (given_told g) in
           power_result _ _ (tree_of c.in_ok-power-in_default.power c.reduce_exponent.new.pool) c.reduce_power.result y.is x.calm
           (λ w. result_lacks c.reduce_power.result (c.reduce_power.ensures.room gs ns x.calm x.spanned w)
-          (λ l. omega (arith, x.lacks _ l, replaced_free c.requires.stands c.in_ok-power-in_default.ensures.stands kept c.requires.handed g)))
+          (λ l. omega (arith, x.lacks _ l, replaced_free c.requires.stands c.in_ok-power-in_default.ensures.leaves.stands kept c.requires.handed g)))
           (λ w h. c.reduce_power.ensures.others w h);
       bits = λ b e n h l r q a few.
           power_fits b e (tree_of c.args.tree c.args.pool.now) (tree_of c.in_ok-power-in_default.power c.reduce_exponent.new.pool) n h l c.reduce_power.result (ap is_mult p) r
           (given_told g) q a few c.reduce_power.ensures.bits c.reduce_power.ensures.others;
-      stands = c.reduce_power.ensures.stands;
+      leaves = record {
+        kept = on_ok_after c.reduce_power.result _ _ _ kept c.reduce_power.ensures.kept;
+        faults = fault_after c.reduce_power.result _ _ _ kept c.reduce_power.ensures.faults;
+        caused = c.reduce_power.ensures.caused;
+        stands = c.reduce_power.ensures.stands;
+      };
     }
 
 pub reduce_rewritten-returns-in_err-product-in-Mult-clause-room : goal.reduce_rewritten-returns-in_err-product-in-Mult-clause-room
@@ -487,9 +476,6 @@ reduce_powers-returns-in_err-reduced t c =
     record {
       ok = search rules;
       front = front_again (changes_front m.now) (c.open_child-hole.ensures.front _ _ c.reduce_power.ensures.front);
-      kept = search rules;
-      faults = search rules;
-      caused = search rules;
       room = λ gs ns b e r k s.
           let x = ready_part gs ns b e whole m.t m.done m.rest m.reduced c.requires.product r k s m.split m.are in
           let free = changes_free c.requires.stands c.loop-at.invariant.stands c.loop-at.invariant.kept c.requires.handed m.now in
@@ -500,7 +486,7 @@ reduce_powers-returns-in_err-reduced t c =
           let x = part_ready b e whole m.t m.done m.rest n h l c.requires.product r m.split q f few in
           passed_on c.from_residual.result c.in_err-reduced.field-0.0 _ c.from_residual.ensures.0 c.from_residual.ensures.1
           (c.in_err-reduced.ensures.bits n x.p x.q (ap exponent_in told ∙ x.exponent) (subst (λ (y : Tree). IsFactorHeld (base_in y) x.p x.q) (sym told) x.held) x.few);
-      stands = search rules;
+      leaves = search rules;
     }
 
 pub reduce_powers-fill-requires : goal.reduce_powers-fill-requires
@@ -563,9 +549,6 @@ reduce_exponent-returns-in_err-product-in-Mult t c =
     record {
       ok = search rules;
       front = c.open_child-hole.ensures.front _ _ c.reduce_product.ensures.front;
-      kept = search rules;
-      faults = search rules;
-      caused = search rules;
       room = λ gs ns b e r k s.
           let x = ready_exponent gs ns b e whole taken (ap is_mult c.requires.power) (ap is_mult told ∙ m) told r k s in
           passed_on c.from_residual.result c.in_err-product-in-Mult.field-0.0 _ c.from_residual.ensures.0 c.from_residual.ensures.1
@@ -573,7 +556,7 @@ reduce_exponent-returns-in_err-product-in-Mult t c =
           (λ l. omega (arith, x.2 _ l, c.open_child-hole.ensures.free, ap size c.requires.power, ap size told)));
       bits = λ b e n h l r q f few. passed_on c.from_residual.result c.in_err-product-in-Mult.field-0.0 _ c.from_residual.ensures.0 c.from_residual.ensures.1
           (c.in_err-product-in-Mult.ensures.bits 14 0 (exponent_ready b e whole taken n h l (ap is_mult c.requires.power) (ap is_mult told ∙ m) told r q f few) (omega arith));
-      stands = search rules;
+      leaves = search rules;
     }
 
 pub reduce_exponent-fill-requires : goal.reduce_exponent-fill-requires
@@ -608,10 +591,7 @@ reduce_exponent-returns-in_default t c =
     record {
       ok = gives last (represents_handed c.requires.handed) (without_product _ c.requires.power other);
       front = front_end last (front_without behind_first front_same);
-      kept = c.move_last-in_default.ensures.kept;
-      faults = tt;
-      caused = tt;
       room = λ gs ns b e r k s. tt;
       bits = λ b e n h l r q a few. tt;
-      stands = c.move_last-in_default.ensures.stands;
+      leaves = record { kept = c.move_last-in_default.ensures.kept; faults = tt; caused = tt; stands = c.move_last-in_default.ensures.stands };
     }
