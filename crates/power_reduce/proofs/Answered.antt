@@ -1,12 +1,12 @@
 -- The answers to the powers that no rule rewrites.
-use Rattle.std.proofs.Common.{◌≡◌, ◌<◌, Bool, true, false, ◌&&◌, ◌||◌, [], ◌++◌, length, inl, inr, refl, sym, ap, ◌∙◌, arith}
-use Rattle.power_reduce.proofs.Shared.{and_parts, Contains-append_left, Fraction, zero_fraction, one_fraction, nest, nest_of, load, is_number, IsNumber, IsTerm, AreTerms, is_reduced, HasForm}
-use Rattle.power_reduce.proofs.Shared.{IsPowerForm, num_one, Tree, num, undef, power, Trees, none, more, names, names_of, AllParts, AllPartsOf, is_undef, itself, in_base, in_exponent, number_words}
-use Rattle.power_reduce.proofs.Shared.{number_test, power_one_is_base, power_zero_is_one, reduced_test, undef_part, reduced_parts, HasNoNewName, KeepsMeanings, keeps, is_zero, has_no_power}
-use Rattle.power_reduce.proofs.{Shared.{has_number_power, IsWrittenPower, IsPowerAnswer, is_zero_or_one}, Written.{zero_written, one_written, kept_written}, Bounds.{load_at_most_weight}}
-use Rattle.calc_algebra.proofs.Names.{names_of_term, names_of_terms}
-use Rattle.calc_measures.proofs.Nests.{nest_term, nest_terms}
-use Rattle.coefficients.proofs.Forms.{term_parts, terms_parts}
+use Rattle.std.proofs.{lemmas.Bool.{or_left, or_right}, Common.{◌≡◌, ◌<◌, ◌&&◌, ◌||◌, true, false, [], length, inl, inr, refl, sym, ap, ◌∙◌, arith}}
+use Rattle.power_reduce.proofs.Shared.{and_parts, Contains-append_left, Fraction, zero_fraction, one_fraction, nest, load, is_number, IsNumber, is_reduced, IsPowerForm, num_one, Tree, num, undef}
+use Rattle.power_reduce.proofs.Shared.{power, names, is_undef, itself, in_base, in_exponent, number_words, number_test, power_one_is_base, power_zero_is_one, reduced_test, undef_part, reduced_parts}
+use Rattle.power_reduce.proofs.Shared.{HasNoNewName, KeepsMeanings, keeps, is_zero, has_no_power, has_number_power, IsWrittenPower, IsPowerAnswer, is_zero_or_one}
+use Rattle.power_reduce.proofs.{Written.{zero_written, one_written, kept_written}, Bounds.{load_at_most_weight}}
+use Rattle.calc_algebra.proofs.Names.{names_of_terms}
+use Rattle.calc_measures.proofs.Nests.{nest_terms}
+use Rattle.coefficients.proofs.Forms.{terms_parts}
 
 pub no_names : (t u : Tree) → names u ≡ [] → HasNoNewName t u
 no_names t u e = record { name = λ x c. absurd (let f : length (names u) ≡ 0 = ap length e in let k : c.0 < length (names u) = c.1 in omega arith) }
@@ -75,11 +75,7 @@ undef_base_answer e = undefined_answer undef e refl (keeps (undef_part (power un
 
 -- a power whose exponent is Undef
 pub undef_exponent_answer : (b : Tree) → IsPowerAnswer b undef undef
-undef_exponent_answer b = undefined_answer b undef (either (is_undef b)) (keeps (undef_part (power b undef) (in_exponent itself)))
-  where
-    either : (c : Bool) → (c || true || is_zero b && false) ≡ true
-    either true = refl
-    either false = refl
+undef_exponent_answer b = undefined_answer b undef (or_left (is_undef b || true) (is_zero b && false) (or_right (is_undef b) true refl)) (keeps (undef_part (power b undef) (in_exponent itself)))
 
 -- ---- powers that are kept
 

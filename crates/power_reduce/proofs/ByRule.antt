@@ -1,10 +1,10 @@
 -- By which rule a power was rewritten, and what falls.
-use Rattle.std.proofs.Common.{◌≡◌, ◌+◌, ◌≤◌, ◌<◌, suc, Bool, true, false, ◌&&◌, ◌||◌, not, if◌then◌else◌, Some, refl, sym, ◌∙◌, subst, arith}
+use Rattle.std.proofs.Common.{◌≡◌, ◌+◌, ◌≤◌, ◌<◌, suc, Bool, true, false, ◌&&◌, ◌||◌, if◌then◌else◌, Some, refl, sym, ◌∙◌, subst, arith}
 use Rattle.std.specs.Prelude.{max}
 use Rattle.power_reduce.proofs.Shared.{and_parts, Fraction, whole_fraction, nest, load, weight, load_of_factor, is_number, is_reduced, is_half_num, is_whole_num, is_opaque_exponent, Tree, num, mult}
-use Rattle.power_reduce.proofs.Shared.{power, root, Trees, none, more, is_undef, whole_denominator, number_test, number_words, reduced_parts, parts_reduced, is_zero, has_no_power, has_number_power}
-use Rattle.power_reduce.proofs.Shared.{EachTree, HalvesRoot, JoinsExponents, IsLighterPart, RaisesParts, IsByRule, IsRewritable, half, parts_of, raised, rewritten, rewritten_whole}
-use Rattle.power_reduce.proofs.{Exponents.{as_whole}, Answered.{number_plain, number_nest}, Bounds.{number_load}, Weights.{product_parts, each_lighter, powers_nest, powers_load}}
+use Rattle.power_reduce.proofs.Shared.{power, root, Trees, none, more, is_undef, whole_denominator, reduced_parts, parts_reduced, is_zero, has_no_power, has_number_power, EachTree, HalvesRoot}
+use Rattle.power_reduce.proofs.{Shared.{JoinsExponents, IsLighterPart, RaisesParts, IsByRule, IsRewritable, half, parts_of, raised, rewritten, rewritten_whole}, Exponents.{as_whole}}
+use Rattle.power_reduce.proofs.{Answered.{number_nest}, Bounds.{number_load}, Weights.{product_parts, each_lighter, powers_nest, powers_load}}
 use Rattle.calc_algebra.proofs.ReducedLaws.{from_not}
 use Rattle.calc_measures.proofs.{Nests.{nest_number}, Weights.{to_number, to_other, base_nest}}
 use Rattle.tree_room.proofs.PowerCounts.{power_no_number}

@@ -1,5 +1,5 @@
 -- Which powers no rule rewrites, by what the program tests.
-use Rattle.std.proofs.Common.{◌≡◌, ◌≢◌, ℕ, ◌<◌, ◌^◌, ℤ, pos, Bool, true, false, ◌&&◌, ◌||◌, not, if◌then◌else◌, Some, None, Result, Err, ◌⊎◌, inl, inr, refl, sym, ap, ◌∙◌, subst, arith, to_z, of_z}
+use Rattle.std.proofs.Common.{◌≡◌, ◌≢◌, ℕ, ◌<◌, ◌^◌, ℤ, pos, Bool, true, false, ◌&&◌, ◌||◌, if◌then◌else◌, Some, None, Result, Err, ◌⊎◌, inl, inr, refl, sym, ap, ◌∙◌, subst, arith, to_z, of_z}
 use Rattle.std.proofs.Common.{FitsSigned}
 use Rattle.std.specs.Prelude.{nat_abs, int_rem, ◌==◌}
 use Rattle.power_reduce.proofs.Shared.{and_parts, rem_is, fits_signed_from_abs, w128, IsErrAnd, Fraction, whole_fraction, zero_fraction, is_zero_fraction, int_is_zero, int_is_one, int_is_even}
@@ -9,11 +9,10 @@ use Rattle.power_reduce.proofs.Shared.{is_at_most_zero, has_no_power, IsPowerAns
 use Rattle.power_reduce.proofs.Shared.{numerator, Rewrites, Gives, AnswersRationalStep, Step, NumberFault, Forest, gives_as, by_test}
 use Rattle.power_reduce.proofs.{Answered.{kept_answer, undef_base_answer, undef_exponent_answer}, ByRule.{has_power}, Exponents.{as_whole, inside_whole, whole_no_half}}
 use Rattle.power_reduce.proofs.{Kept.{reduced_power, kept_form, whole_inside}, Powers.{power_is}, Rules.{rewriting}, Whole.{whole_is}}
-use Rattle.calc_algebra.proofs.HalfLaws.{half_is_odd}
-use Rattle.calc_terms.specs.declared.kind.Kind.TheVariants as kind
-use Rattle.calc_algebra.proofs.ReducedLaws.{from_not}
+use Rattle.calc_algebra.proofs.{HalfLaws.{half_is_odd}, ReducedLaws.{from_not}}
 pub use Rattle.number_forms.proofs.Pairs.{rational_test as rational_number}
 use Rattle.number_forms.proofs.RationalCalls.{num_same}
+use Rattle.calc_terms.specs.declared.kind.Kind.TheVariants as kind
 
 -- ---- tests
 

@@ -1,10 +1,10 @@
 -- Whole powers are held by the bits of their bases, times the exponent.
 use Rattle.std.proofs.Common.{◌≡◌, ℕ, zero, suc, ◌*◌, ◌≤◌, ◌≤ℤ◌, ◌<ℤ◌, inr, ℤ, pos, negsuc, neg_ℤ, List, [], ◌∷◌, length, Bool, true, false, ◌&&◌, ◌||◌, not, None, Some, Result, refl, sym, ap, ◌∙◌}
-use Rattle.std.proofs.Common.{subst, arith}
+use Rattle.std.proofs.{Common.{subst, arith}, lemmas.Bool.{not-true, or_parts}}
 use Rattle.std.specs.Prelude.{if◌then◌else◌, nat_abs, IfOk}
-use Rattle.power_reduce.proofs.Shared.{and_parts, is_number, value, classes, IsNumber, is_opaque_exponent, is_whole_num, num_one, Surd, surd_one, number_test, number_words, IsHeld, mass_from}
-use Rattle.power_reduce.proofs.Shared.{calculated, exactly, powered, undefined, pow_op, fraction_power, Fraction, inverse, one_fraction, whole_fraction, is_zero_fraction, is_one_fraction, Tree, num}
-use Rattle.power_reduce.proofs.Shared.{symbol, undef, add, mult, power, root, neg, sub, div, none, more, is_undef, one_is, whole_numerator, zero_is, State, IsFactorHeld, IsHeldAsPowerOf}
+use Rattle.power_reduce.proofs.Shared.{and_parts, is_number, value, classes, IsNumber, is_opaque_exponent, is_whole_num, num_one, Surd, surd_one, number_test, number_words, IsHeld}
+use Rattle.power_reduce.proofs.Shared.{mass_from, calculated, exactly, powered, undefined, pow_op, fraction_power, Fraction, inverse, one_fraction, whole_fraction, is_zero_fraction, is_one_fraction}
+use Rattle.power_reduce.proofs.Shared.{Tree, num, symbol, undef, add, mult, power, root, neg, sub, div, none, more, is_undef, one_is, whole_numerator, zero_is, State, IsFactorHeld, IsHeldAsPowerOf}
 use Rattle.power_reduce.proofs.Shared.{IsNumberPower, base_in, exponent_in, has_no_power, has_number_power, IsWrittenPower, IsPowerAnswer, IsStep, goes_inside, is_zero_or_one, parts_of, raised}
 use Rattle.power_reduce.proofs.Shared.{rewritten, rewritten_whole, IsNoLargerThanInverse, IfDone, Step, tree_as_base, alone, held_wider, nothing_held, number_held, Forest, tree_of, NumberFault}
 use Rattle.power_reduce.proofs.{Shared.{given_told}, Exponents.{as_whole, whole_no_half}, RationalPowers.{calculated_exactly}, Whole.{whole_is}, Written.{number_power, one_exponent}}
@@ -14,10 +14,9 @@ use Rattle.calc_bits.specs.Bounds.{IsNoLargerThanPower}
 use Rattle.tree_bits.specs.{Children.{IsSumHeld}, Exponents.{Counts, counts, counts_of, is_counted, multiple}, Factors.{as_factor}, HeldTrees.{Addend, addend, addend_of, IsPartHeld, factor_held}}
 use Rattle.tree_bits.specs.HeldTrees.{more_weighted, none_weighted, AreWeighted, no_factor_held, power_high, power_low, base_in as factor_base, exponent_in as factor_exponent}
 use Rattle.tree_bits.specs.{Powers.{raised_high, raised_low, IsHeldAsPower}, Weighted.{Weighted, weighted}}
-use Rattle.tree_bits.proofs.{Children.{tree_as_sum}, Powers.{addend_raised, held_as_power, held_as_inverse, inverse_raised}, Sums.{one_counts, one_weighted}}
-use Rattle.reduce_port.specs.declared.step.Step.TheVariants as step
-use Rattle.tree_bits.proofs.Factors.{as_number}
+use Rattle.tree_bits.proofs.{Children.{tree_as_sum}, Powers.{addend_raised, held_as_power, held_as_inverse, inverse_raised}, Sums.{one_counts, one_weighted}, Factors.{as_number}}
 use Rattle.tree_room.proofs.PowerCounts.{power_no_number}
+use Rattle.reduce_port.specs.declared.step.Step.TheVariants as step
 
 -- ---- Numbers as factors
 
@@ -144,12 +143,8 @@ opaque_held : {A : Type 0} (c f : Tree) (h l : ℕ) → is_opaque_exponent f ≡
 opaque_held c f h l o a =
     let (n, w) = and_parts (is_number f) (not (is_whole_num f)) o in
     let s = subst (λ (x : Addend). IsSumHeld (x ∷ []) h l) (as_other (power c f) (power_no_number c f)) a in
-    absurd (not_counted f (number_words f n) (is_false (is_whole_num f) w) (counted_of s.weighted))
+    absurd (not_counted f (number_words f n) (not-true (is_whole_num f) w) (counted_of s.weighted))
   where
-    is_false : (b : Bool) → not b ≡ true → b ≡ false
-    is_false true k = cc
-    is_false false k = refl
-
     counted_of : {ws : List Weighted} → AreWeighted (addend surd_one (more (power c f) none) ∷ []) ws → is_counted f ≡ true
     counted_of (more_weighted p q (factor_held i j k n x y z u v) none_weighted) = x
 
@@ -215,11 +210,7 @@ whole_answer_held b t z r a p u h l k = by (is_zero_or_one e) (is_number b) (has
     d = sym a.undefined ∙ u
 
     base_defined : is_undef b ≡ false
-    base_defined = first_false (is_undef b) _ (first_false (is_undef b || is_undef e) _ d)
-      where
-        first_false : (x y : Bool) → (x || y) ≡ false → x ≡ false
-        first_false false y h = refl
-        first_false true y h = cc
+    base_defined = (or_parts (is_undef b) _ (or_parts (is_undef b || is_undef e) _ d).0).0
 
     kept : is_zero_or_one e ≡ false → has_number_power b e ≡ false → t ≡ power b e
     kept o m = (a.written d).kept (record { other = o; no_number = m; not_rewritten = r })

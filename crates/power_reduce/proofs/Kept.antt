@@ -1,9 +1,8 @@
 -- Powers that no rule changes are reduced.
-use Rattle.std.proofs.Common.{◌≡◌, ◌≤◌, Bool, true, false, ◌&&◌, ◌||◌, not, if◌then◌else◌, inr, Some, None, pos, refl, ap, arith}
-use Rattle.power_reduce.proofs.Shared.{and_from, eq-eqb, not_from_false, Fraction, zero_fraction, one_fraction, is_zero_fraction, is_one_fraction, int_is_zero, int_is_one, int_is_even}
-use Rattle.power_reduce.proofs.Shared.{int_is_negative, is_number, classes, is_reduced, is_whole_num, is_transparent_power, HasForm, IsPowerForm, IsWholePowerForm, Tree, num, symbol, undef, add, mult}
-use Rattle.power_reduce.proofs.Shared.{power, root, neg, sub, div, AllParts, is_undef, is_mult, is_root, whole_numerator, whole_denominator, reduced_words, reduced_test, is_zero_or_one, goes_inside}
-use Rattle.power_reduce.proofs.Shared.{is_even_whole, rewritten, rewritten_whole}
+use Rattle.std.proofs.{lemmas.Bool.{or_parts, not-false}, Common.{◌≡◌, ◌≤◌, Bool, true, false, ◌&&◌, if◌then◌else◌, inr, Some, None, pos, refl, ap, arith}}
+use Rattle.power_reduce.proofs.Shared.{and_from, eq-eqb, not_from_false, Fraction, zero_fraction, one_fraction, is_zero_fraction, is_one_fraction, int_is_even, int_is_negative, is_number, classes}
+use Rattle.power_reduce.proofs.Shared.{is_reduced, is_whole_num, is_transparent_power, IsPowerForm, IsWholePowerForm, Tree, num, symbol, undef, add, mult, power, root, neg, sub, div, is_undef}
+use Rattle.power_reduce.proofs.{Shared.{is_mult, is_root, whole_numerator, reduced_test, is_zero_or_one, goes_inside, is_even_whole, rewritten, rewritten_whole}, Written.{clash}}
 use Rattle.tree_bits.proofs.ExponentBits.{nothing_is}
 use Rattle.number_forms.proofs.Placings.{one_test}
 use Rattle.coefficients.proofs.Forms.{reduced_parts}
@@ -19,15 +18,6 @@ refused t u h = grind arith
 second_fails : (a b : Bool) → (a && b) ≡ false → a ≡ true → b ≡ false
 second_fails a b h e = grind arith
 
-not_fails : (b : Bool) → not b ≡ false → b ≡ true
-not_fails b h = grind arith
-
-contradiction : (a : Bool) → a ≡ true → a ≡ false → ⊥
-contradiction a h k = cc
-
-either_fails : (a b : Bool) → (a || b) ≡ false → (a ≡ false) × (b ≡ false)
-either_fails a b h = grind arith
-
 -- ---- whole exponents
 
 pub whole_inside : (q : Fraction) → q.den ≡ 1 → is_zero_or_one (num q) ≡ false → goes_inside (num q) ≡ true
@@ -40,15 +30,15 @@ whole_form : (b : Tree) (q : Fraction) → is_zero_or_one (num q) ≡ false → 
 whole_form b q z m p r n = grind (arith, nothing_is, one_test)
 
 even_whole : (q : Fraction) → q.den ≡ 1 → is_zero_or_one (num q) ≡ false → int_is_even q.num ≡ true → is_even_whole q ≡ true
-even_whole q d z e = and_from _ _ (and_from _ _ (eq-eqb q.den 1 d) e) (not_from_false _ (either_fails (is_zero_fraction q) (is_one_fraction q) z).0)
+even_whole q d z e = and_from _ _ (and_from _ _ (eq-eqb q.den 1 d) e) (not_from_false _ (or_parts (is_zero_fraction q) (is_one_fraction q) z).0)
 
 no_even_root : (a : Tree) (q : Fraction) → q.den ≡ 1 → is_zero_or_one (num q) ≡ false → is_number (root a) ≡ false → rewritten_whole (root a) (num q) ≡ None → int_is_even q.num ≡ true → is_root (root a) ≡ false
-no_even_root a q d z n r e = absurd (contradiction (is_number (root a)) (not_fails _ (second_fails _ _ (refused _ _ r) (even_whole q d z e))) n)
+no_even_root a q d z n r e = clash (not-false _ (second_fails _ _ (refused _ _ r) (even_whole q d z e))) n
 
 whole_kept : (b : Tree) (q : Fraction) → q.den ≡ 1 → is_zero_or_one (num q) ≡ false → is_number b ≡ false → rewritten_whole b (num q) ≡ None → IsWholePowerForm b q
 whole_kept (root a) q d z n r = whole_form (root a) q z refl refl (no_even_root a q d z n r) n
 whole_kept (power c f) q d z n r = whole_form (power c f) q z refl (second_fails _ _ (refused _ _ r) (whole_inside q d z)) (λ e. refl) n
-whole_kept (mult ts) q d z n r = absurd (contradiction (is_number (mult ts)) (not_fails _ (second_fails _ _ (refused _ _ r) (whole_inside q d z))) n)
+whole_kept (mult ts) q d z n r = clash (not-false _ (second_fails _ _ (refused _ _ r) (whole_inside q d z))) n
 whole_kept (num p) q d z n r = whole_form (num p) q z refl refl (λ e. refl) n
 whole_kept (symbol x) q d z n r = whole_form (symbol x) q z refl refl (λ e. refl) n
 whole_kept undef q d z n r = whole_form undef q z refl refl (λ e. refl) n

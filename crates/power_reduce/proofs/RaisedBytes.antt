@@ -1,8 +1,7 @@
 -- Bytes at hand while the factors of a product are raised one by one.
-use Rattle.std.proofs.Common.{◌≡◌, ℕ, ◌+◌, ◌*◌, ◌<◌, ◌≤◌, refl, ap, ◌∙◌, arith}
-use Rattle.power_reduce.proofs.Shared.{mapped, Tree, mult, Trees, none, more, append, count, size, sizes, IsOver, over_handed, over_plain, without_put, State, free_of, bytes_without, raised, plain}
-use Rattle.power_reduce.proofs.Shared.{Forest, bytes_in, tree_of, IsHanded, tree_at, root_tree, without_root, Stands, forest, KeepsRefusals, tree_of_root, used_forest, size-plain, root_arity}
-use Rattle.power_reduce.proofs.Raising.{to_power}
+use Rattle.std.proofs.Common.{◌≡◌, ℕ, ◌+◌, ◌*◌, ◌<◌, ◌≤◌, ap, arith}
+use Rattle.power_reduce.proofs.Shared.{mapped, Tree, mult, Trees, none, more, append, count, size, sizes, State, free_of, raised, bytes_in, tree_of, IsHanded, tree_at, without_root, Stands, forest}
+use Rattle.power_reduce.proofs.{Shared.{KeepsRefusals, tree_of_root, used_forest, size-plain, root_arity}, Raising.{to_power}}
 use Rattle.coefficients.proofs.Loops.{IsPart, count_append, next_at, part_free}
 pub use Rattle.tree_handles.proofs.FreeBytes.{beside_bytes as handed_bytes}
 

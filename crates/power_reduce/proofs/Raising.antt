@@ -1,8 +1,8 @@
 -- The factors of a product are raised to an exponent, one by one.
-use Rattle.std.proofs.Common.{◌≡◌, ℕ, ◌+◌, ◌≤◌, ◌<◌, [], ◌∷◌, eqb, refl, sym, ap, ◌∙◌, subst, arith, true, false}
-use Rattle.power_reduce.proofs.Shared.{Tree, is_mult, mult, power, Trees, none, more, count, raised, plain, children_of, compound, nth, Forest, IsHanded, Gives, KeepsFront, root_tree, without_root}
-use Rattle.power_reduce.proofs.Shared.{given_rest, given_same, given_told, behind_first, behind_later, front_after_one, front_same, front_without, tree-without, ChangesTree, IsHole, changes_after}
-use Rattle.power_reduce.proofs.Shared.{changes_as, changes_beside, changes_front, changes_same, eqb-sym, hole_beside, hole_stays, mapped, set_child}
+use Rattle.std.proofs.Common.{◌≡◌, ℕ, ◌+◌, ◌<◌, [], ◌∷◌, eqb, refl, sym, ap, ◌∙◌, subst, arith, true, false}
+use Rattle.power_reduce.proofs.Shared.{Tree, is_mult, mult, power, Trees, none, more, count, raised, plain, children_of, compound, nth, Forest, Gives, KeepsFront, root_tree, without_root, given_rest}
+use Rattle.power_reduce.proofs.Shared.{given_same, given_told, behind_first, behind_later, front_after_one, front_same, front_without, tree-without, ChangesTree, IsHole, changes_as, changes_beside}
+use Rattle.power_reduce.proofs.Shared.{changes_front, changes_same, eqb-sym, hole_beside, hole_stays, mapped, set_child}
 use Rattle.tree_handles.proofs.Filling.{IsAsBefore}
 use Rattle.tree_handles.specs.Holes.{Place}
 use Rattle.coefficients.proofs.Loops.{IsPart, part_all, part_next, part_nth}

@@ -70,15 +70,13 @@ names_joined t ts e x h = grind (arith, Contains-append_left)
 names_behind : (t : Tree) (ts : Trees) (e : Tree) (x : List ℕ) → Contains (names_of ts) x ⊎ Contains (names e) x → Contains (names t ++ names_of ts) x ⊎ Contains (names e) x
 names_behind t ts e x h = grind (arith, Contains-append_right)
 
-either : {A B C : Type 0} → A ⊎ B → (A → C) → (B → C) → C
-either h f g = grind arith
-
 raised_names : (ts : Trees) (e : Tree) (x : List ℕ) → Contains (names_of (raised ts e)) x → Contains (names_of ts) x ⊎ Contains (names e) x
 raised_names none e x k = inl k
 raised_names (more t ts) e x k =
-    either (Contains-append_cases (names t ++ names e) (names_of (raised ts e)) x k)
-    (λ h. names_joined t ts e x (Contains-append_cases (names t) (names e) x h))
-    (λ h. names_behind t ts e x (raised_names ts e x h))
+    elim (Contains-append_cases (names t ++ names e) (names_of (raised ts e)) x k) [
+      | inl h ↦ names_joined t ts e x (Contains-append_cases (names t) (names e) x h)
+      | inr h ↦ names_behind t ts e x (raised_names ts e x h)
+    ]
 
 product_names : (ts : Trees) (e : Tree) → HasNoNewName (power (mult ts) e) (mult (raised (parts_of ts) e))
 product_names ts e = record { name = λ x k. by x (raised_names (parts_of ts) e x k) }

@@ -1,4 +1,5 @@
 -- What spans a power spans what a step makes of it, but for the power of a root.
+use Rattle.std.proofs.lemmas.Bool.{or_right, or_parts}
 use Rattle.std.proofs.Common.{◌≡◌, ℕ, zero, suc, ◌≤◌, ℤ, pos, negsuc, List, [], ◌∷◌, length, Bool, true, false, ◌&&◌, ◌||◌, not, Some, None, Result, inl, refl, sym, ap, ◌∙◌, subst, arith}
 use Rattle.std.specs.Prelude.{IfOk, ◌==◌, nat_le}
 use Rattle.power_reduce.proofs.Shared.{and_parts, eqb-true, leb-true, is_number, value, classes, IsNumber, Rises, is_half_num, split_product, KeepsMeanings, Inverts, Surd, surd_of, surd_power}
@@ -73,17 +74,11 @@ module _ (gs : List ℕ) where
   narrow : (m l : Bool) → (not m || l) ≡ true → m ≡ true → l ≡ true
   narrow m l h e = grind arith
 
-  last_false : (u v w : Bool) → (u || v || w) ≡ false → w ≡ false
-  last_false u v w h = grind arith
-
   first_false : (z a : Bool) → (z && a) ≡ false → a ≡ true → z ≡ false
   first_false z a h e = grind arith
 
-  either : (a : Bool) → (a || true) ≡ true
-  either a = grind arith
-
   below : (q : Fraction) → (q.den == 1) ≡ true → int_is_negative q.num ≡ true → is_at_most_zero (num q) ≡ true
-  below q w g = rw (w, g) (either (int_is_zero q.num))
+  below q w g = rw (w, g) (or_right (int_is_zero q.num) true refl)
 
   number_power_spans : (b e t : Tree) → has_number_power b e ≡ true → has_no_power b e ≡ false → is_zero_or_one e ≡ false → is_number t ≡ true → KeepsMeanings (power b e) t → SpansTree gs b → SpansTree gs t
   number_power_spans b (num q) t n d o k m s =
@@ -91,7 +86,7 @@ module _ (gs : List ℕ) where
       let (f, w) = and_parts _ _ p in
       let e : q ≡ whole_fraction q.num = fraction_whole q (eqb-true q.den 1 w) in
       let down : int_is_negative q.num ≡ true → (is_zero b ≡ false) × (classes b ≤ 2) = λ g. (
-        first_false (is_zero b) (is_at_most_zero (num q)) (last_false (is_undef b) false _ d) (below q w g),
+        first_false (is_zero b) (is_at_most_zero (num q)) (or_parts (is_undef b || false) _ d).1 (below q w g),
         leb-true (classes b) 2 (narrow (int_is_negative q.num) (nat_le (classes b) 2) c g),
       ) in
       means_power b t q.num (number_words b f) (number_words t k) (ap (λ (x : Fraction). is_zero_or_one (num x)) (sym e) ∙ o) down

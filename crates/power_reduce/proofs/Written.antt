@@ -1,5 +1,5 @@
 -- Which tree stands for a power, where a rule names it.
-use Rattle.std.proofs.Common.{◌≡◌, ◌≢◌, ◌≤◌, ◌≤ℤ◌, ℤ, pos, Bool, true, false, ◌||◌, not, refl, sym, ap, ◌∙◌, arith}
+use Rattle.std.proofs.{lemmas.Bool.{or_right}, Common.{◌≡◌, ◌≢◌, ◌≤◌, ◌≤ℤ◌, ℤ, pos, Bool, true, false, ◌||◌, not, refl, sym, ap, ◌∙◌, arith}}
 use Rattle.std.specs.Prelude.{nat_le}
 use Rattle.power_reduce.proofs.Shared.{le-leb, whole_numerator, whole_denominator, one_times, times_comm, Fraction, whole_fraction, zero_fraction, one_fraction, fraction_power, int_is_negative, Tree}
 use Rattle.power_reduce.proofs.Shared.{num, power, number_test, is_number, classes, num_one, has_number_power, IsWrittenPower, is_zero_or_one}
@@ -35,11 +35,8 @@ apart e = let k : pos 0 ≡ pos 1 = whole_numbers e in cc
 pub number_power : (b : Tree) (z : ℤ) → is_number b ≡ true → (not (int_is_negative z) || nat_le (classes b) 2) ≡ true → has_number_power b (num (whole_fraction z)) ≡ true
 number_power b z n w = rw (whole_numerator z, whole_denominator z, n) w
 
-either : (a : Bool) → (a || true) ≡ true
-either a = grind arith
-
 pub few_classes : (b : Tree) (z : ℤ) → classes b ≤ 2 → (not (int_is_negative z) || nat_le (classes b) 2) ≡ true
-few_classes b z l = rw (le-leb _ _ l) (either (not (int_is_negative z)))
+few_classes b z l = rw (le-leb _ _ l) (or_right (not (int_is_negative z)) true refl)
 
 pub rational_classes : (q : Fraction) → classes (num q) ≤ 2
 rational_classes q = grind arith

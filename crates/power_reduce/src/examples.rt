@@ -6,6 +6,7 @@ ghost use Rattle.power_reduce.specs.PowerAnswers.{has_no_power, has_number_power
 ghost use Rattle.power_reduce.specs.PowerSteps.{rewritten};
 
 /// Powers that are rewritten, and powers that are kept.
+#[tactic(auto, unfolding(calc_terms::specs::Gcd::gcd, calc_terms::specs::Fractions::lowest, calc_algebra::specs::Numbers::is_number, calc_algebra::specs::Clean::is_clean, calc_algebra::specs::Clean::left_of, calc_algebra::specs::SquareRoots::square_root, calc_terms::specs::Fractions::zero_fraction, calc_terms::specs::Fractions::one_fraction))]
 pub fn powers_rewritten()
     ensures even_root { rewritten (root x) (whole_num 2) ≡ Some (power x (whole_num 1)) }
     ensures negative_even_root { rewritten (root x) (ratio (negsuc 3) 1) ≡ Some (power x (ratio (negsuc 1) 1)) }
@@ -28,6 +29,7 @@ pub fn powers_rewritten()
 {}
 
 /// Powers that are Undef at once, and others.
+#[tactic(auto, unfolding(calc_terms::specs::Gcd::gcd, calc_terms::specs::Fractions::lowest, calc_algebra::specs::Numbers::is_number, calc_algebra::specs::Clean::is_clean, calc_terms::specs::Fractions::zero_fraction, calc_terms::specs::Fractions::one_fraction))]
 pub fn powers_undefined()
     ensures zero_to_zero { has_no_power (whole_num 0) (whole_num 0) ≡ true }
     ensures zero_below { has_no_power (whole_num 0) (ratio (negsuc 0) 1) ≡ true }
@@ -37,6 +39,7 @@ pub fn powers_undefined()
 {}
 
 /// Powers of Numbers that are Numbers, and others.
+#[tactic(auto, unfolding(calc_terms::specs::Gcd::gcd, calc_terms::specs::Fractions::lowest, calc_algebra::specs::Numbers::is_number, calc_algebra::specs::Clean::is_clean, calc_algebra::specs::Clean::left_of, calc_algebra::specs::SquareRoots::square_root, calc_terms::specs::Fractions::zero_fraction, calc_terms::specs::Fractions::one_fraction))]
 pub fn numbers_to_powers()
     ensures two_classes { has_number_power (sum (root_of 2) (root_of 3)) (ratio (negsuc 1) 1) ≡ true }
     ensures three_classes { has_number_power (add (three (whole_num 1) (root_of 2) (root_of 3))) (ratio (negsuc 0) 1) ≡ false }

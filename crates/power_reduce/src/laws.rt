@@ -21,6 +21,7 @@ pub fn rewriting_keeps_meanings()
 
 /// With half of an odd whole number n as its exponent a power is the power n of a root. No rule rewrites that one once
 /// its root is reduced.
+#[tactic(auto, using(crate::proofs::Cases::root_once, crate::proofs::Exponents::by_half))]
 pub fn halves_are_powers_of_roots()
     ensures rewritten { (b e : Tree) → is_half_num e ≡ true → is_undef b ≡ false → rewritten b e ≡ Some (power_of_root b e) }
     ensures once { (r e : Tree) → is_half_num e ≡ true → (is_undef r || is_number r || is_root r) ≡ true
@@ -29,22 +30,26 @@ pub fn halves_are_powers_of_roots()
 
 /// The parts of a product that is no Number, whose powers a rewriting multiplies, count 1 more at most than the product, though
 /// its coefficient counts 1 there.
+#[tactic(auto, using(crate::proofs::Counted::parts_counted))]
 pub fn parts_are_counted()
     ensures { (ts : Trees) → is_reduced (mult ts) ≡ true → is_number (mult ts) ≡ false → counted_in_all (parts_of ts) ≤ 1 + counted (mult ts) }
 {}
 
 /// Any other rewriting is by one of three rules, and each leaves trees that are reduced, weigh less and nest no more.
+#[tactic(auto, using(crate::proofs::ByRule::by_rule))]
 pub fn rewritings_are_by_rule()
     ensures { (b e t : Tree) → is_half_num e ≡ false → is_reduced b ≡ true → rewritten b e ≡ Some t → IsByRule b e t }
 {}
 
 /// A power that is so rewritten is no Number's, and neither opaque nor Undef at once.
+#[tactic(auto, using(crate::proofs::ByRule::is_rewritable))]
 pub fn rewritten_powers_are_transparent()
     ensures { (b e t : Tree) → is_half_num e ≡ false → rewritten b e ≡ Some t → IsRewritable b e }
 {}
 
 /// A power that no rule changes is reduced: none that is rewritten, whose exponent is 0 or 1, or that is a
 /// whole power of a Number.
+#[tactic(auto, using(crate::proofs::Kept::reduced_power, crate::proofs::Kept::kept_form))]
 pub fn other_powers_are_reduced()
     ensures { (b e : Tree) → is_reduced b ≡ true → is_reduced e ≡ true → is_undef b ≡ false → is_undef e ≡ false
         → is_zero_or_one e ≡ false → (is_number b && is_whole_num e) ≡ false → rewritten b e ≡ None
@@ -52,6 +57,7 @@ pub fn other_powers_are_reduced()
 {}
 
 /// A negative whole power of a Number of three classes or more is reduced.
+#[tactic(auto, using(crate::proofs::Kept::wide_power))]
 pub fn wide_powers_are_reduced()
     ensures { (b : Tree) (n : Fraction) → is_reduced b ≡ true → is_number b ≡ true → 3 ≤ classes b
         → n.den ≡ 1 → int_is_negative n.num ≡ true → is_reduced (power b (num n)) ≡ true }
@@ -65,6 +71,7 @@ pub fn powers_one_and_zero()
 
 /// The load of a tree is at most its weight, and that of a power at most its base's weight, or one more where it
 /// is opaque.
+#[tactic(auto, using(crate::proofs::Bounds::load_at_most_weight, crate::proofs::Bounds::transparent_load, crate::proofs::Bounds::opaque_load))]
 pub fn loads_are_bounded()
     ensures tree { (b : Tree) → load b ≤ weight b }
     ensures transparent { (b e : Tree) → is_opaque_exponent e ≡ false → load (power b e) ≤ weight b }

@@ -60,6 +60,7 @@ pub(crate) fn rational_power(
 }
 
 /// The power of a rational, which is not 0 where n is at most 0.
+#[tactic(auto, using(rational128::proofs::LowestTerms::ratio_parts, crate::proofs::RationalPowers::not_above, crate::proofs::RationalPowers::zero_bits, crate::proofs::RationalPowers::powered_zero, coefficients::proofs::Steps::one_value, crate::proofs::RationalPowers::if_err, crate::proofs::RationalPowers::powered_above, crate::proofs::RationalPowers::unfit_power))]
 fn power_of(q: Rat, n: i128) -> Result<Rat, Overflow>
     requires fits { nat_abs n < 2 ^ 127 }
     requires some { is_zero_fraction (value_of q) ≡ true → pos 1 ≤ℤ n }
@@ -116,6 +117,7 @@ pub(crate) fn irrational_power(
 
 /// A power of a Number that is no rational, with an exponent below 0: one of the inverse, where the Number has one
 /// class or two.
+#[tactic(auto, using(tree_handles::proofs::Given::represents_handed, crate::proofs::NumberPowers::wide_answer, crate::proofs::NumberPowers::irrational_power))]
 fn negative_power(pool: &mut Pool, power: Handle, n: i128) -> Result<Handle, NumberFault>
     requires stands { Stands pool.old }
     requires handed { IsHanded power (forest pool.old) }

@@ -26,6 +26,7 @@ use tree_handles::{
 };
 
 /// A power by half of n as the power n of the root of its base.
+#[tactic(auto, using(tree_handles::proofs::Given::given_handed))]
 pub(crate) fn root_base(pool: &mut Pool, power: Handle, n: i128) -> Result<Handle, Full>
     requires stands { Stands pool.old }
     requires handed { IsHanded power (forest pool.old) }
@@ -79,6 +80,7 @@ pub(crate) fn halve_root(pool: &mut Pool, power: Handle, n: i128) -> Handle
 
 /// A power of a power as one of the inner base, with the product of the exponents. The bytes of the inner power's
 /// node suffice for the product's.
+#[tactic(auto, using(tree_handles::proofs::Lasts::last_held))]
 pub(crate) fn join_exponents(pool: &mut Pool, power: Handle) -> Handle
     requires stands { Stands pool.old }
     requires handed { IsHanded power (forest pool.old) }
@@ -126,6 +128,7 @@ pub(crate) fn raise_factors(pool: &mut Pool, power: Handle) -> Result<Handle, Fu
 }
 
 /// The coefficient of a reduced product as one Number, where it is not 1, and the factors behind it.
+#[tactic(auto, using(tree_handles::proofs::Lasts::last_held))]
 fn product_of_parts(pool: &mut Pool, product: Handle) -> Result<Handle, Full>
     requires stands { Stands pool.old }
     requires handed { IsHanded product (forest pool.old) }
@@ -149,6 +152,7 @@ fn product_of_parts(pool: &mut Pool, product: Handle) -> Result<Handle, Full>
 }
 
 /// Each factor to a power: copies of the exponent, and the last one is the exponent itself.
+#[tactic(auto, using(tree_handles::proofs::Seen::live))]
 fn raise_each(pool: &mut Pool, product: Handle, exponent: Handle) -> Result<Handle, Full>
     requires stands { Stands pool.old }
     requires first { IsHanded product (forest pool.old) }

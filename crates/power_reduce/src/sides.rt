@@ -17,6 +17,7 @@ use number_forms::{is_reduced_number, whole};
 use tree_handles::{Handle, child_id, number, release, take_child};
 
 /// The base of a power.
+#[tactic(auto, using(tree_handles::proofs::Seen::expression))]
 pub(crate) fn base_id(pool: &Pool, power: &Handle) -> Id
     requires stands { Stands pool.now }
     requires handed { IsHanded power.now (forest pool.now) }
@@ -28,6 +29,7 @@ pub(crate) fn base_id(pool: &Pool, power: &Handle) -> Id
 }
 
 /// The exponent of a power.
+#[tactic(auto, using(tree_handles::proofs::Seen::expression))]
 pub(crate) fn exponent_id(pool: &Pool, power: &Handle) -> Id
     requires stands { Stands pool.now }
     requires handed { IsHanded power.now (forest pool.now) }
@@ -39,6 +41,7 @@ pub(crate) fn exponent_id(pool: &Pool, power: &Handle) -> Id
 }
 
 /// Whether the exponent of the power that a reduced power has as its base makes that one opaque.
+#[tactic(auto, using(crate::proofs::Whole::first_is, crate::proofs::Whole::whole_first, crate::proofs::Whole::other_first))]
 pub(crate) fn first_exponent_is_opaque(pool: &Pool, power: &Handle) -> bool
     requires stands { Stands pool.now }
     requires handed { IsHanded power.now (forest pool.now) }
@@ -55,6 +58,7 @@ pub(crate) fn first_exponent_is_opaque(pool: &Pool, power: &Handle) -> bool
 }
 
 /// Whether a tree is the rational 1.
+#[tactic(auto, using(crate::proofs::Whole::is_one_as))]
 pub(crate) fn is_one(pool: &Pool, id: Id) -> bool
     requires stands { Stands pool.now }
     requires expression { IsExpression id (forest pool.now) }

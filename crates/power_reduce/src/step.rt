@@ -92,6 +92,7 @@ fn is_root(pool: &Pool, id: Id) -> bool
 }
 
 /// A whole power.
+#[tactic(auto, using(crate::proofs::Cases::number_kept, crate::proofs::Cases::rational_number, crate::proofs::Whole::whole_is, crate::proofs::Cases::step_fault))]
 fn whole_power(pool: &mut Pool, power: Handle, n: i128) -> Result<Step, NumberFault>
     requires stands { Stands pool.old }
     requires handed { IsHanded power (forest pool.old) }
@@ -122,6 +123,7 @@ fn whole_power(pool: &mut Pool, power: Handle, n: i128) -> Result<Step, NumberFa
 }
 
 /// A whole power of a tree that is no rational.
+#[tactic(auto, using(crate::proofs::Cases::number_kept, crate::proofs::Whole::whole_is, crate::proofs::Cases::again, crate::proofs::Cases::whole_goes_inside, crate::proofs::RationalPowers::no_zero_bits, crate::proofs::Whole::no_one_bits, crate::proofs::Cases::no_number))]
 fn whole_power_of_other(pool: &mut Pool, power: Handle, n: i128) -> Result<Step, NumberFault>
     requires stands { Stands pool.old }
     requires handed { IsHanded power (forest pool.old) }
@@ -157,6 +159,7 @@ fn whole_power_of_other(pool: &mut Pool, power: Handle, n: i128) -> Result<Step,
 }
 
 /// A power whose exponent is no whole number: with half of one it is a power of a root, and any other is kept.
+#[tactic(auto, using(crate::proofs::Cases::broken_other, crate::proofs::Cases::again))]
 fn other_power(pool: &mut Pool, power: Handle) -> Result<Step, NumberFault>
     requires stands { Stands pool.old }
     requires handed { IsHanded power (forest pool.old) }
@@ -184,6 +187,7 @@ fn other_power(pool: &mut Pool, power: Handle) -> Result<Step, NumberFault>
 }
 
 /// A power whose exponent is a whole number other than 0 and 1. No even power of a root.
+#[tactic(auto, using(crate::proofs::Cases::power_kind, tree_handles::proofs::Seen::product_kind, crate::proofs::Cases::inside_other))]
 fn power_inside(pool: &mut Pool, power: Handle) -> Result<Step, NumberFault>
     requires stands { Stands pool.old }
     requires handed { IsHanded power (forest pool.old) }
@@ -208,6 +212,7 @@ fn power_inside(pool: &mut Pool, power: Handle) -> Result<Step, NumberFault>
 }
 
 /// A power of a power: the exponents are joined where the inner power is not opaque.
+#[tactic(auto, using(crate::proofs::Cases::inside_other, crate::proofs::Cases::sealed_kept, crate::proofs::Cases::again))]
 fn power_of_power(pool: &mut Pool, power: Handle) -> Result<Step, NumberFault>
     requires stands { Stands pool.old }
     requires handed { IsHanded power (forest pool.old) }
@@ -231,6 +236,7 @@ fn power_of_power(pool: &mut Pool, power: Handle) -> Result<Step, NumberFault>
 }
 
 /// A power of a product: the product of the powers of its parts, where it is no Number.
+#[tactic(auto, using(crate::proofs::Cases::inside_other, crate::proofs::Cases::number_kept, crate::proofs::Exponents::inside_whole, crate::proofs::Cases::again))]
 fn power_of_product(pool: &mut Pool, power: Handle) -> Result<Step, NumberFault>
     requires stands { Stands pool.old }
     requires handed { IsHanded power (forest pool.old) }

@@ -1,17 +1,7 @@
-use Rattle.std.proofs.Common.{◌≡◌, pos, ◌<ℤ◌, refl, sym, ap, ◌∙◌, subst, arith, true, false}
-use Rattle.power_reduce.proofs.{Shared.{PlainValue, value_of, one_value, ratio_parts, IsPlainOverflow}, RationalPowers.{not_above, below, zero_bits, no_zero_bits, opposite, powered_above}}
-use Rattle.power_reduce.proofs.{RationalPowers.{powered_below, powered_zero, not_zero, fitting_power, unfit_power, fitting_power_of, unfit_power_of, if_err}, numbers.power_of.Goals.{Else-n-gt0}}
+use Rattle.std.proofs.{Common.{pos, ◌<ℤ◌, refl, sym, ap, ◌∙◌, subst, false, arith}, lemmas.Bool.{false≢true}}
+use Rattle.power_reduce.proofs.{Shared.{PlainValue, value_of, IsPlainOverflow}, RationalPowers.{not_above, below, no_zero_bits, opposite, powered_below, not_zero, fitting_power_of, unfit_power_of}}
+use Rattle.power_reduce.proofs.{RationalPowers.{if_err, powered_above, fitting_power}, numbers.power_of.Goals.{Else-n-gt0}}
 use Rattle.power_reduce.proofs.numbers.power_of.Goals as goal
-use Rattle.std.proofs.lemmas.Bool.{false≢true}
-
-pub invert-requires : goal.invert-requires
-invert-requires c = grind (arith, ratio_parts, not_above)
-
-pub returns-then-n-eq0-clause-value : goal.returns-then-n-eq0-clause-value
-returns-then-n-eq0-clause-value c = grind (arith, zero_bits, powered_zero, one_value)
-
-pub returns-in_err-power-clause-named : goal.returns-in_err-power-clause-named
-returns-in_err-power-clause-named c = grind (arith, if_err, powered_above, unfit_power)
 
 pub returns-then-n-gt0-clause-value : goal.returns-then-n-gt0-clause-value
 returns-then-n-gt0-clause-value c = grind (arith, powered_above, fitting_power, false≢true)

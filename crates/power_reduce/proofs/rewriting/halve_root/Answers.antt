@@ -1,6 +1,6 @@
-use Rattle.std.proofs.Common.{◌≡◌, ◌≤◌, inl, refl, ap, ◌∙◌, subst, arith, rules}
+use Rattle.std.proofs.Common.{◌≤◌, inl, refl, ap, ◌∙◌, arith, rules}
 use Rattle.power_reduce.proofs.Shared.{Tree, power, value_of, num, none, more, count, size, IsAdded, over_handed, over_plain, children_in, free_of, base_in, exponent_in, nth, children_of, tree_of}
-use Rattle.power_reduce.proofs.Shared.{without_root, forest, gives_as, given_handed, given_root, given_told, owned, ChangesTree, changes_as, changes_last, changes_last_front, hole_stays, set_child}
+use Rattle.power_reduce.proofs.Shared.{forest, gives_as, given_handed, given_root, given_told, owned, ChangesTree, changes_as, changes_last, changes_last_front, hole_stays, set_child}
 use Rattle.power_reduce.proofs.{InPlace.{first_alone, hole_at, root_merged, merged_front, number_bytes, without_added}, Powers.{over_power}, Halves.{half_rewritten, half_room, halved}}
 use Rattle.power_reduce.proofs.rewriting.halve_root.Goals.{After-merge_children, After-fill}
 use Rattle.tree_handles.proofs.Filling.{front_again}

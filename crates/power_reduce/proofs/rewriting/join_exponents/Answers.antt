@@ -1,8 +1,8 @@
 use Rattle.std.proofs.Common.{◌≡◌, ◌≤◌, true, false, Result, Ok, Err, refl, ◌∙◌, arith}
 use Rattle.std.specs.Prelude.{IsOk}
 use Rattle.power_reduce.proofs.Shared.{none, more, mult, IsOver, IsTaken, over_end, without_put, IsAdded, children_in, added_as, moved, represents_count, base_in, exponent_in, Gives, tree_of, put}
-use Rattle.power_reduce.proofs.Shared.{forest, behind_first, front_at, front_end, front_put, front_without, gives_as, given_rest, given_root, ends_as, last_apart, last_held, other_root, root_held}
-use Rattle.power_reduce.proofs.{Shared.{free_of, taken_free, merged_free}, InPlace.{first_alone, merged_front, apart_last, without_added}, Joining.{sides_merged, first_taken, then_taken, first_on}}
+use Rattle.power_reduce.proofs.Shared.{forest, behind_first, front_at, front_end, front_put, front_without, gives_as, given_rest, given_root, ends_as, last_apart, other_root, root_held, free_of}
+use Rattle.power_reduce.proofs.{Shared.{taken_free, merged_free}, InPlace.{first_alone, merged_front, apart_last, without_added}, Joining.{sides_merged, first_taken, then_taken, first_on}}
 use Rattle.power_reduce.proofs.{Joining.{product_given, alone_over, joined}, Powers.{over_power}, rewriting.join_exponents.Goals.{After-merge_children, After-take_child-first}}
 use Rattle.power_reduce.proofs.rewriting.join_exponents.Goals.{After-take_child-exponent, After-add_child-2}
 use Rattle.calc_terms.specs.declared.kind.Kind.TheVariants as kind
@@ -60,9 +60,6 @@ unreachable-requires c =
     let twice = taken_free c.args.power 1 c.take_child-first.ensures.stands c.take_child-exponent.ensures.stands c.take_child-exponent.ensures.kept w.1.over.root (c.take_child-exponent.ensures.last w.1.over.root) in
     let room : 8 ≤ free_of c.take_child-exponent.new.pool = omega (arith, freed, once, twice) in
     no_ok c.node.result (c.node.ensures.exactly.1 room) c.in_default.not-Ok
-
-pub add_child-requires-clause-live : goal.add_child-requires-clause-live
-add_child-requires-clause-live c = last_held c.in-Ok.ensures.ok
 
 pub add_child-requires-clause-root : goal.add_child-requires-clause-root
 add_child-requires-clause-root c = other_root c.take_child-exponent.result c.in-Ok.ensures.ok (given_root (second (goal.at.add_child-requires-clause-root c).After-take_child-exponent).2.gives)

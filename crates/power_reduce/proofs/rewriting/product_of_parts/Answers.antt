@@ -1,7 +1,7 @@
 use Rattle.std.proofs.Common.{refl, inl, sym, ap, ◌∙◌, arith}
-use Rattle.power_reduce.proofs.Shared.{gives_without, passed_on, is_num_one, is_mult, mult, more, over_gives, expression, tree_of, children_of, behind_first, behind_new, front_same, front_at}
-use Rattle.power_reduce.proofs.Shared.{front_end, front_without, front_after_two, gives_as, given_apart, given_handed, given_rest, given_root, given_told, owned, ends_as, last_apart, last_held}
-use Rattle.power_reduce.proofs.{Shared.{last_tree}, Rooms.{short_below, coefficient_most}, PartsOf.{led_by_one, led_by_other, first_handed, first_tree, first_seen, gives_at}}
+use Rattle.power_reduce.proofs.Shared.{gives_without, passed_on, is_num_one, is_mult, mult, more, over_gives, tree_of, children_of, behind_first, behind_new, front_same, front_at, front_end}
+use Rattle.power_reduce.proofs.Shared.{front_without, front_after_two, gives_as, given_apart, given_handed, given_rest, given_root, given_told, owned, ends_as, last_apart, last_tree, expression}
+use Rattle.power_reduce.proofs.{Rooms.{short_below, coefficient_most}, PartsOf.{led_by_one, led_by_other, first_handed, first_tree, first_seen, gives_at}}
 use Rattle.coefficients.proofs.FirstFactors.{first_factor, first_front}
 use Rattle.power_reduce.proofs.rewriting.product_of_parts.Goals as goal
 
@@ -22,9 +22,6 @@ pub returns-then-is_one-clause-front : goal.returns-then-is_one-clause-front
 returns-then-is_one-clause-front c =
     let g = c.in_ok-coefficient.ensures.ok in
     front_at (front_without (behind_new g.first-given.ends (front_without behind_first front_same)) c.split_product.ensures.front) (c.release.ensures.owned (owned (first_handed _ g)))
-
-pub add_child-requires-clause-live : goal.add_child-requires-clause-live
-add_child-requires-clause-live c = last_held c.in_ok-coefficient.ensures.ok.second-given.ends
 
 pub add_child-requires-clause-root : goal.add_child-requires-clause-root
 add_child-requires-clause-root c = (first_handed _ c.in_ok-coefficient.ensures.ok).root

@@ -11,9 +11,6 @@ node_over_two-requires c =
     let b = as_before c.open_child-hole.ensures.hole c.open_child-hole.ensures.child c.requires.apart c.requires.second in
     record { stands = search rules; takes = refl; first = given_handed c.open_child-hole.ensures.child; second = b.handed; apart = b.apart }
 
-pub returns-in_err-power-clause-front : goal.returns-in_err-power-clause-front
-returns-in_err-power-clause-front c = c.open_child-hole.ensures.front _ _ c.node_over_two.ensures.front
-
 pub returns-in_err-power-clause-room : goal.returns-in_err-power-clause-room
 returns-in_err-power-clause-room c =
     passed_on c.from_residual.result c.in_err-power.field-0.0 _ c.from_residual.ensures.0 c.from_residual.ensures.1 (omega (arith, refused_below c.in_err-power.ensures.full, c.open_child-hole.ensures.free))

@@ -1,25 +1,16 @@
 use Rattle.std.proofs.Common.{◌≡◌, ℤ, Bool, true, false, sym, ap, ◌∙◌, subst, ◌<◌, ◌^◌, arith}
 use Rattle.std.specs.Prelude.{nat_abs, IfOk}
-use Rattle.power_reduce.proofs.Shared.{counted, SpansTree, is_number, IsNumberPower, IfDone, counts_one, whole_fraction, is_whole_num, Tree, num, told, tree_of, gives_as, given_told, base_in}
-use Rattle.power_reduce.proofs.{Shared.{exponent_in, refused_as}, Counted.{if_step_counts}, Exponents.{whole_no_half}, HeldPowers.{if_step_held, no_undef}, WithinBits.{within_bits}}
-use Rattle.power_reduce.proofs.{Written.{whole_numbers}, Spanned.{if_step_spans}, Whole.{whole_is}, Cases.{HasUndef, undef_base, undef_exponent, undef_kept, undef_answer, defined_rationals}}
-use Rattle.power_reduce.proofs.step.power_step.Goals.{Joined-then-is_undefined, then-is_undefined-via-then-is_undefined, then-is_undefined-via-else-is_undefined+then-is_undefined-2}
+use Rattle.power_reduce.proofs.Shared.{SpansTree, is_number, IsNumberPower, IfDone, whole_fraction, is_whole_num, Tree, num, told, tree_of, gives_as, given_told, base_in, exponent_in, refused_as}
+use Rattle.power_reduce.proofs.{Shared.{counted, counts_one}, Exponents.{whole_no_half}, HeldPowers.{if_step_held, no_undef}, Written.{whole_numbers}, Whole.{whole_is}, Cases.{HasUndef, undef_base}}
+use Rattle.power_reduce.proofs.{Cases.{undef_exponent, undef_kept, undef_answer, defined_rationals}, step.power_step.Goals.{Joined-then-is_undefined, then-is_undefined-via-then-is_undefined}}
+use Rattle.power_reduce.proofs.{step.power_step.Goals.{then-is_undefined-via-else-is_undefined+then-is_undefined-2}, Counted.{if_step_counts}, WithinBits.{within_bits}, Spanned.{if_step_spans}}
 use Rattle.power_reduce.proofs.step.power_step.Goals as goal
-
-pub whole_power-requires-clause-sides : goal.whole_power-requires-clause-sides
-whole_power-requires-clause-sides c = grind arith
 
 pub whole_power-requires-clause-exponent : goal.whole_power-requires-clause-exponent
 whole_power-requires-clause-exponent c = sym c.exponent_id-exponent.ensures.tree ∙ c.in-Some.ensures.value ∙ ap (λ z. num (whole_fraction z)) (sym (told c.in-Some.n c.in-Some.ensures.fits))
 
 pub whole_power-requires-clause-fits : goal.whole_power-requires-clause-fits
 whole_power-requires-clause-fits c = subst (λ z. nat_abs z < 2 ^ 127) (sym (told c.in-Some.n c.in-Some.ensures.fits)) c.in-Some.ensures.fits
-
-pub other_power-requires-clause-sides : goal.other_power-requires-clause-sides
-other_power-requires-clause-sides c = grind arith
-
-pub other_power-requires-clause-exponent : goal.other_power-requires-clause-exponent
-other_power-requires-clause-exponent c = sym (ap is_whole_num c.exponent_id-exponent.ensures.tree) ∙ c.in-None.ensures.value
 
 undef : (c : Joined-then-is_undefined) → HasUndef (base_in (tree_of c.args.power c.args.pool.now)) (exponent_in (tree_of c.args.power c.args.pool.now))
 undef c = grind (arith, undef_base, undef_exponent)
@@ -53,9 +44,6 @@ returns-in-Some-clause-root_room c = grind (arith, contrary, whole_no_half, whol
 pub returns-in-Some-clause-others : goal.returns-in-Some-clause-others
 returns-in-Some-clause-others c = grind (arith, contrary, whole_exponent)
 
-pub returns-in-None-clause-others : goal.returns-in-None-clause-others
-returns-in-None-clause-others c = λ w h. c.other_power.ensures.others h
-
 -- ---- what counts, and what spans
 
 pub returns-then-is_undefined-clause-counted : goal.returns-then-is_undefined-clause-counted
@@ -70,13 +58,13 @@ returns-in-None-clause-counted c = if_step_counts (tree_of c.args.power c.args.p
 pub returns-then-is_undefined-clause-spanned : goal.returns-then-is_undefined-clause-spanned
 returns-then-is_undefined-clause-spanned c = λ gs s h. subst (SpansTree gs) (sym (given_told c.undefined.ensures.gives)) tt
 
+-- ---- bits
+
 pub returns-in-Some-clause-spanned : goal.returns-in-Some-clause-spanned
 returns-in-Some-clause-spanned c = λ gs s h. if_step_spans gs (tree_of c.args.power c.args.pool.now) _ c.whole_power.new.pool c.whole_power.result c.requires.power h c.whole_power.ensures.ok s
 
 pub returns-in-None-clause-spanned : goal.returns-in-None-clause-spanned
 returns-in-None-clause-spanned c = λ gs s h. if_step_spans gs (tree_of c.args.power c.args.pool.now) _ c.other_power.new.pool c.other_power.result c.requires.power h c.other_power.ensures.ok s
-
--- ---- bits
 
 pub returns-then-is_undefined-clause-held : goal.returns-then-is_undefined-clause-held
 returns-then-is_undefined-clause-held c = λ n e u. no_undef _ (given_told c.undefined.ensures.gives) u
@@ -93,6 +81,3 @@ returns-in-None-clause-held c = λ n e. contrary (is_whole_num (exponent_in (tre
 
 pub returns-in-Some-clause-bits : goal.returns-in-Some-clause-bits
 returns-in-Some-clause-bits c = λ n e h l k few. within_bits (base_in (tree_of c.args.power c.args.pool.now)) (exponent_in (tree_of c.args.power c.args.pool.now)) n h l c.whole_power.result e k few c.whole_power.ensures.overflow
-
-pub returns-in-None-clause-bits : goal.returns-in-None-clause-bits
-returns-in-None-clause-bits c = λ n e h l k few. c.other_power.ensures.overflow
