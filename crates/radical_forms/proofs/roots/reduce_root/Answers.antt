@@ -1,15 +1,14 @@
-use Rattle.std.proofs.Common.{◌≡◌, ◌*◌, [], ◌∷◌, false, refl, sym, ap, ◌∙◌, subst, arith, ◌↔◌}
+use Rattle.std.proofs.Common.{rules, ◌≡◌, ◌*◌, [], ◌∷◌, false, refl, sym, ap, ◌∙◌, subst, arith}
 use Rattle.calc_algebra.specs.Numbers.{natural_of}
 use Rattle.calc_room.specs.Spans.{SpansTree}
 use Rattle.calc_terms.specs.{Rat.{value_of}, Trees.{Tree, num, root, is_num, is_undef, root_kind, size}}
 use Rattle.tree_handles.proofs.{Lasts.{expression_root, last_tree}, Room.{least_size}, Fronts.{behind_first, front_same, front_end, front_without}}
 use Rattle.tree_handles.proofs.Given.{gives, gives_as, given_told, represents_handed}
 use Rattle.tree_handles.specs.{Expressions.{plain}, Forest.{Forest}, Handed.{tree_of}}
-use Rattle.radical_forms.specs.{RootAnswers.{argument_of}, Refusals.{HasWideRoot, IsOverflow}}
+use Rattle.radical_forms.specs.RootAnswers.{argument_of}
 use Rattle.radical_forms.proofs.{Handed.{root_is, has_child, argument_at, undef_by_kind, no_num_by_kind, no_undef_by_kind}, RootLaws.{no_argument_answer, other_answer, no_other_wide, answer_as}}
-use Rattle.radical_forms.proofs.{Spanned.{spans_answer, spans_root_of}, RootBits.{no_wide, not_refused, other_rational}}
+use Rattle.radical_forms.proofs.{Spanned.{spans_answer, spans_root_of}, RootBits.{no_wide, not_refused, other_rational}, roots.reduce_root.Goals.{After-rational-q, After-kind}}
 use Rattle.radical_forms.proofs.roots.reduce_root.Goals as goal
-use Rattle.radical_forms.proofs.roots.reduce_root.Goals.{After-rational-q, After-kind}
 
 pub child_id-argument-requires-clause-within : goal.child_id-argument-requires-clause-within
 child_id-argument-requires-clause-within c = rw c.id.ensures (has_child c.requires.stands c.requires.handed c.requires.root)
@@ -22,66 +21,57 @@ argument_is c =
 pub root_of_rational-requires-clause-root : goal.root_of_rational-requires-clause-root
 root_of_rational-requires-clause-root c = root_is (tree_of c.args.root c.args.pool.now) c.requires.root ∙ ap root (argument_is (goal.at.root_of_rational-requires-clause-root c).After-rational-q)
 
-pub returns-in-Num-clause-ok : goal.returns-in-Num-clause-ok
-returns-in-Num-clause-ok c = rw (argument_is (goal.at.returns-in-Num-clause-ok c).After-rational-q) c.root_of_rational.ensures.ok
-
-pub returns-in-Num-clause-overflows : goal.returns-in-Num-clause-overflows
-returns-in-Num-clause-overflows c = rw (argument_is (goal.at.returns-in-Num-clause-overflows c).After-rational-q) c.root_of_rational.ensures.overflows
-
-pub returns-in-Num-clause-named : goal.returns-in-Num-clause-named
-returns-in-Num-clause-named c = rw (argument_is (goal.at.returns-in-Num-clause-named c).After-rational-q) c.root_of_rational.ensures.named
-
-pub returns-in-Num-clause-first_lack : goal.returns-in-Num-clause-first_lack
-returns-in-Num-clause-first_lack c = rw (argument_is (goal.at.returns-in-Num-clause-first_lack c).After-rational-q) c.root_of_rational.ensures.first_lack
-
-pub returns-in-Num-clause-full_of_a_rational : goal.returns-in-Num-clause-full_of_a_rational
-returns-in-Num-clause-full_of_a_rational c = λ full. ap is_num (argument_is (goal.at.returns-in-Num-clause-full_of_a_rational c).After-rational-q)
-
-pub returns-in-Num-clause-measured : goal.returns-in-Num-clause-measured
-returns-in-Num-clause-measured c = rw (argument_is (goal.at.returns-in-Num-clause-measured c).After-rational-q) c.root_of_rational.ensures.measured
-
-pub returns-in-Num-clause-bits : goal.returns-in-Num-clause-bits
-returns-in-Num-clause-bits c = λ few.
-    let wide : IsOverflow c.root_of_rational.result ↔ HasWideRoot (argument_of (tree_of c.args.root c.args.pool.now)) = rw (argument_is (goal.at.returns-in-Num-clause-bits c).After-rational-q) c.root_of_rational.ensures.overflows in
-    not_refused c.root_of_rational.result (λ o. no_wide (argument_of (tree_of c.args.root c.args.pool.now)) few (wide.0 o))
+pub returns-in-Num : goal.returns-in-Num
+returns-in-Num c =
+    let r = c.root_of_rational.ensures in
+    let argument = argument_is (goal.at.returns-in-Num c).After-rational-q in
+    let is = root_is (tree_of c.args.root c.args.pool.now) c.requires.root ∙ ap root argument in
+    rw argument (record {
+      ok = r.ok;
+      overflows = r.overflows;
+      named = r.named;
+      measured = r.measured;
+      bits = λ few. not_refused c.root_of_rational.result (λ o. no_wide (num (value_of c.rational-q.result)) few (r.overflows.0 o));
+      room = r.room;
+      first_lack = r.first_lack;
+      full_of_a_rational = λ full. refl;
+      full_below_96_bytes = r.full_below_96_bytes;
+      front = r.front;
+      kept = r.kept;
+      faults = r.faults;
+      caused = r.caused;
+      spanned = λ gs s. spans_answer gs _ _ c.root_of_rational.result _ c.root_of_rational.new.pool r.ok is s;
+      spanned_alone = λ q e h. spans_answer _ _ _ c.root_of_rational.result _ c.root_of_rational.new.pool r.ok refl (spans_root_of q _ e h);
+      stands = r.stands;
+    })
 
 kind_is : (c : After-kind) → c.kind.result ≡ root_kind (argument_of (tree_of c.args.root c.args.pool.now))
 kind_is c =
     let e = c.child_id-argument.ensures.expression (rw c.id.ensures (expression_root c.requires.stands c.requires.handed)) in
     c.kind.ensures.plain e ∙ ap root_kind (sym (argument_at c.args.root c.child_id-argument.result c.id.result c.args.pool.now c.requires.stands c.requires.handed c.requires.root c.id.ensures c.child_id-argument.ensures.plain))
 
-pub returns-in-Undef-clause-ok : goal.returns-in-Undef-clause-ok
-returns-in-Undef-clause-ok c =
-    let a = undef_by_kind _ (sym (kind_is (goal.at.returns-in-Undef-clause-ok c).After-kind) ∙ c.in-Undef.is) in
-    gives_as c.undefined.ensures.gives refl (λ t e. answer_as a e no_argument_answer)
-
-pub returns-in-Undef-clause-overflows : goal.returns-in-Undef-clause-overflows
-returns-in-Undef-clause-overflows c =
-    let a = undef_by_kind _ (sym (kind_is (goal.at.returns-in-Undef-clause-overflows c).After-kind) ∙ c.in-Undef.is) in
-    (λ x. absurd x, λ w. no_other_wide _ (ap is_num a) w)
-
-pub returns-in-Undef-clause-measured : goal.returns-in-Undef-clause-measured
-returns-in-Undef-clause-measured c = other_rational _ _ (ap is_num (undef_by_kind _ (sym (kind_is (goal.at.returns-in-Undef-clause-measured c).After-kind) ∙ c.in-Undef.is)))
-
-pub returns-in-Undef-clause-room : goal.returns-in-Undef-clause-room
-returns-in-Undef-clause-room c = omega (arith, ap size (given_told c.undefined.ensures.gives), least_size (tree_of c.args.root c.args.pool.now))
-
-num_spanned : (c : After-rational-q) → tree_of c.args.root c.args.pool.now ≡ root (num (value_of c.rational-q.result))
-num_spanned c = root_is (tree_of c.args.root c.args.pool.now) c.requires.root ∙ ap root (argument_is c)
-
-pub returns-in-Num-clause-spanned : goal.returns-in-Num-clause-spanned
-returns-in-Num-clause-spanned c = λ gs s.
-    spans_answer gs _ _ c.root_of_rational.result _ c.root_of_rational.new.pool c.root_of_rational.ensures.ok (num_spanned (goal.at.returns-in-Num-clause-spanned c).After-rational-q) s
-
-pub returns-in-Num-clause-spanned_alone : goal.returns-in-Num-clause-spanned_alone
-returns-in-Num-clause-spanned_alone c = λ q e h.
-    spans_answer _ _ _ c.root_of_rational.result _ c.root_of_rational.new.pool c.root_of_rational.ensures.ok (ap root (argument_is (goal.at.returns-in-Num-clause-spanned_alone c).After-rational-q)) (spans_root_of q _ e h)
-
-pub returns-in-Undef-clause-spanned : goal.returns-in-Undef-clause-spanned
-returns-in-Undef-clause-spanned c = λ gs s. subst (SpansTree gs) (sym (given_told c.undefined.ensures.gives)) tt
-
-pub returns-in-Undef-clause-spanned_alone : goal.returns-in-Undef-clause-spanned_alone
-returns-in-Undef-clause-spanned_alone c = λ q e h. subst (SpansTree (natural_of q.num * q.den ∷ [])) (sym (given_told c.undefined.ensures.gives)) tt
+pub returns-in-Undef : goal.returns-in-Undef
+returns-in-Undef c =
+    let is = undef_by_kind _ (sym (kind_is (goal.at.returns-in-Undef c).After-kind) ∙ c.in-Undef.is) in
+    let told = given_told c.undefined.ensures.gives in
+    record {
+      ok = gives_as c.undefined.ensures.gives refl (λ t e. answer_as is e no_argument_answer);
+      overflows = (λ x. absurd x, λ w. no_other_wide _ (ap is_num is) w);
+      named = tt;
+      measured = other_rational _ _ (ap is_num is);
+      bits = λ few. tt;
+      room = omega (arith, ap size told, least_size (tree_of c.args.root c.args.pool.now));
+      first_lack = tt;
+      full_of_a_rational = λ x. absurd x;
+      full_below_96_bytes = λ x. absurd x;
+      front = search rules;
+      kept = search rules;
+      faults = tt;
+      caused = tt;
+      spanned = λ gs s. subst (SpansTree gs) (sym told) tt;
+      spanned_alone = λ q e h. subst (SpansTree (natural_of q.num * q.den ∷ [])) (sym told) tt;
+      stands = search rules;
+    }
 
 pub returns-in_default : goal.returns-in_default
 returns-in_default c =

@@ -1,4 +1,4 @@
-use Rattle.std.proofs.Common.{◌≡◌, pos, ◌<ℤ◌, ◌≤◌, ◌+◌, true, refl, sym, ap, ◌∙◌, arith, to_z, of_z}
+use Rattle.std.proofs.Common.{rules, ◌≡◌, pos, ◌<ℤ◌, ◌≤◌, ◌+◌, true, refl, sym, ap, ◌∙◌, arith, to_z, of_z}
 use Rattle.std.specs.Int.{w128}
 use Rattle.calc_terms.specs.{Fractions.{whole_fraction}, Integers.{int_is_negative}, Rat.{value_of}, Trees.{num, root_size, size}}
 use Rattle.calc_terms.proofs.Sizes.{num_most}
@@ -6,17 +6,16 @@ use Rattle.node_pool.specs.State.{free_of}
 use Rattle.rational128.proofs.{LowestTerms.{ratio_parts}, Signed.{told}}
 use Rattle.surd_terms.specs.Terms.{term_of}
 use Rattle.surd_terms.proofs.Rationals.{whole_value}
-use Rattle.tree_handles.proofs.{Fronts.{behind_first, front_same, front_at, front_without, front_after}, Given.{gives_as, given_told, owned}, Outcomes.{passed_on}}
+use Rattle.tree_handles.proofs.{Fronts.{behind_first, front_same, front_at, front_without, front_after}, Given.{gives_as, given_told, owned}, Outcomes.{passed_on}, Room.{released_free, least_size}}
 use Rattle.tree_handles.specs.{Handed.{tree_of}, Lacking.{OfFull}}
 use Rattle.number_forms.specs.Shapes.{term_tree}
-use Rattle.tree_handles.specs.declared.fault.NumberFault.TheVariants as fault
 use Rattle.rational128.specs.declared.overflow.Overflow.{Overflow}
 use Rattle.radical_forms.specs.Refusals.{LacksRoot, NamesProduct}
-use Rattle.tree_handles.proofs.Room.{released_free, least_size}
 use Rattle.radical_forms.proofs.RootLaws.{zero_answer, positive_answer, negative_answer, not_above_zero, not_above_negative, answer_as, root_as, wide_as, positive_num, negative_num, not_negative_num}
-use Rattle.radical_forms.proofs.{RootLaws.{not_overflow, is_overflow, named_overflow, term_tree_is, term_lacks}, RootBits.{term_measured, zero_measured}}
+use Rattle.radical_forms.proofs.{RootLaws.{not_overflow, is_overflow, named_overflow, term_tree_is, term_lacks}, RootBits.{term_measured, zero_measured}, roots.root_of_rational.Goals.{Then-num-lt0}}
+use Rattle.radical_forms.proofs.roots.root_of_rational.Goals.{Then-num-eq0, Else-num-eq0}
+use Rattle.tree_handles.specs.declared.fault.NumberFault.TheVariants as fault
 use Rattle.radical_forms.proofs.roots.root_of_rational.Goals as goal
-use Rattle.radical_forms.proofs.roots.root_of_rational.Goals.{Then-num-lt0, Then-num-eq0, Else-num-eq0}
 
 negative : (c : Then-num-lt0) → int_is_negative (value_of c.args.q).num ≡ true
 negative c = negative_num _ _ c.if-num-lt0.true (ap (λ z. to_z w128 (of_z w128 z)) c.num.ensures.value ∙ told c.args.q.num c.args.q.fits ∙ sym (ratio_parts c.args.q).num)
@@ -91,19 +90,28 @@ returns-in_err-value-clause-full_below_96_bytes c = λ full.
 pub returns-in_err-value-clause-front : goal.returns-in_err-value-clause-front
 returns-in_err-value-clause-front c = front_after (front_at (front_without behind_first front_same) (c.release-2.ensures.owned (owned c.requires.handed))) c.place_term.ensures.front
 
-pub returns-clause-ok : goal.returns-clause-ok
-returns-clause-ok c =
+pub returns : goal.returns
+returns c =
     let p = ratio_parts c.args.q in
-    gives_as c.in_ok-value.ensures.ok (c.release-2.ensures.owned (owned c.requires.handed))
-    (λ t e. positive_answer (value_of c.args.q) t (term_of c.in_ok-term.term) (above (goal.at.returns-clause-ok c).Else-num-eq0) e (root_as _ _ _ _ _ (sym p.num) (sym p.den) c.in_ok-term.ensures.root))
-
-pub returns-clause-overflows : goal.returns-clause-overflows
-returns-clause-overflows c =
-    let p = ratio_parts c.args.q in
-    (λ x. absurd x, λ w. absurd (cc (c.in_ok-term.ensures.refused.1 (wide_as _ _ _ _ p.num p.den w.1))))
-
-pub returns-clause-front : goal.returns-clause-front
-returns-clause-front c = front_after (front_at (front_without behind_first front_same) (c.release-2.ensures.owned (owned c.requires.handed))) c.place_term.ensures.front
+    let positive = above (goal.at.returns c).Else-num-eq0 in
+    let gone = c.release-2.ensures.owned (owned c.requires.handed) in
+    let told = given_told c.in_ok-value.ensures.ok in
+    let least : size (term_tree (term_of c.in_ok-term.term)) ≤ free_of c.release-2.new.pool = c.in_ok-value.ensures.exactly.0 refl in
+    record {
+      ok = gives_as c.in_ok-value.ensures.ok gone
+          (λ t e. positive_answer (value_of c.args.q) t (term_of c.in_ok-term.term) positive e (root_as _ _ _ _ _ (sym p.num) (sym p.den) c.in_ok-term.ensures.root));
+      overflows = (λ x. absurd x, λ w. absurd (cc (c.in_ok-term.ensures.refused.1 (wide_as _ _ _ _ p.num p.den w.1))));
+      named = tt;
+      measured = λ h. term_measured (value_of c.args.q) _ (term_of c.in_ok-term.term) _ positive (λ i. record { num = sym p.num i; den = sym p.den i }) c.in_ok-term.ensures.extracted told.0 told.1;
+      room = omega (arith, released_free c.requires.stands c.release-2.ensures.stands c.release-2.ensures.kept c.requires.handed gone, least, ap size c.in_ok-value.ensures.tree);
+      first_lack = tt;
+      full_below_96_bytes = λ x. absurd x;
+      front = front_after (front_at (front_without behind_first front_same) gone) c.place_term.ensures.front;
+      kept = search rules;
+      faults = tt;
+      caused = tt;
+      stands = search rules;
+    }
 
 -- ---- bytes
 
@@ -115,12 +123,6 @@ returns-then-num-eq0-clause-room c =
     let free = released_free c.requires.stands c.release.ensures.stands c.release.ensures.kept c.requires.handed (c.release.ensures.owned (owned c.requires.handed)) in
     let least : root_size (num (value_of c.args.q)) ≤ free_of c.release.new.pool = c.in_ok-zero.ensures.exactly.0 refl in
     omega (arith, free, least, ap size (given_told c.in_ok-zero.ensures.given))
-
-pub returns-clause-room : goal.returns-clause-room
-returns-clause-room c =
-    let free = released_free c.requires.stands c.release-2.ensures.stands c.release-2.ensures.kept c.requires.handed (c.release-2.ensures.owned (owned c.requires.handed)) in
-    let least : size (term_tree (term_of c.in_ok-term.term)) ≤ free_of c.release-2.new.pool = c.in_ok-value.ensures.exactly.0 refl in
-    omega (arith, free, least, ap size c.in_ok-value.ensures.tree)
 
 -- the root of 0 has more bytes than 0
 pub returns-in_err-zero-clause-first_lack : goal.returns-in_err-zero-clause-first_lack
@@ -151,13 +153,3 @@ returns-then-num-lt0-clause-measured c = λ h. absurd (cc (negative (goal.at.ret
 
 pub returns-then-num-eq0-clause-measured : goal.returns-then-num-eq0-clause-measured
 returns-then-num-eq0-clause-measured c = λ h. zero_measured (value_of c.args.q) _ (given_told c.in_ok-zero.ensures.given) (zero_num (goal.at.returns-then-num-eq0-clause-measured c).Then-num-eq0)
-
-pub returns-clause-measured : goal.returns-clause-measured
-returns-clause-measured c = λ h.
-    let p = ratio_parts c.args.q in
-    let told = given_told c.in_ok-value.ensures.ok in
-    term_measured (value_of c.args.q) _ (term_of c.in_ok-term.term) _ (above (goal.at.returns-clause-measured c).Else-num-eq0) (λ i. record {
-      num =
-          sym p.num i;
-      den = sym p.den i;
-    }) c.in_ok-term.ensures.extracted told.0 told.1
