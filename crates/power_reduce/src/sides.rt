@@ -41,7 +41,6 @@ pub(crate) fn exponent_id(pool: &Pool, power: &Handle) -> Id
 }
 
 /// Whether the exponent of the power that a reduced power has as its base makes that one opaque.
-#[tactic(auto, using(crate::proofs::Whole::first_is, crate::proofs::Whole::whole_first, crate::proofs::Whole::other_first))]
 pub(crate) fn first_exponent_is_opaque(pool: &Pool, power: &Handle) -> bool
     requires stands { Stands pool.now }
     requires handed { IsHanded power.now (forest pool.now) }

@@ -92,7 +92,6 @@ fn is_root(pool: &Pool, id: Id) -> bool
 }
 
 /// A whole power.
-#[tactic(auto, using(crate::proofs::Cases::number_kept, crate::proofs::Cases::rational_number, crate::proofs::Whole::whole_is, crate::proofs::Cases::step_fault))]
 fn whole_power(pool: &mut Pool, power: Handle, n: i128) -> Result<Step, NumberFault>
     requires stands { Stands pool.old }
     requires handed { IsHanded power (forest pool.old) }
@@ -123,7 +122,6 @@ fn whole_power(pool: &mut Pool, power: Handle, n: i128) -> Result<Step, NumberFa
 }
 
 /// A whole power of a tree that is no rational.
-#[tactic(auto, using(crate::proofs::Cases::number_kept, crate::proofs::Whole::whole_is, crate::proofs::Cases::again, crate::proofs::Cases::whole_goes_inside, crate::proofs::RationalPowers::no_zero_bits, crate::proofs::Whole::no_one_bits, crate::proofs::Cases::no_number))]
 fn whole_power_of_other(pool: &mut Pool, power: Handle, n: i128) -> Result<Step, NumberFault>
     requires stands { Stands pool.old }
     requires handed { IsHanded power (forest pool.old) }
@@ -236,7 +234,6 @@ fn power_of_power(pool: &mut Pool, power: Handle) -> Result<Step, NumberFault>
 }
 
 /// A power of a product: the product of the powers of its parts, where it is no Number.
-#[tactic(auto, using(crate::proofs::Cases::inside_other, crate::proofs::Cases::number_kept, crate::proofs::Exponents::inside_whole, crate::proofs::Cases::again))]
 fn power_of_product(pool: &mut Pool, power: Handle) -> Result<Step, NumberFault>
     requires stands { Stands pool.old }
     requires handed { IsHanded power (forest pool.old) }

@@ -1,7 +1,26 @@
 use Rattle.std.proofs.Common.{arith, sym, ap, ◌∙◌, subst}
 use Rattle.std.specs.Prelude.{IfOk}
-use Rattle.power_reduce.proofs.{Shared.{IsNumberPower, told, IfDone, root_kind, tree_of, base_in, passed_on, full_as}, Cases.{no_num_kind, no_rational}}
+use Rattle.power_reduce.proofs.{Shared.{IsNumberPower, told, IfDone, root_kind, tree_of, base_in, passed_on, full_as, exponent_in, is_whole_num}, Cases.{no_num_kind, no_rational, number_kept}}
+use Rattle.power_reduce.proofs.{Cases.{rational_number, step_fault}, Whole.{whole_is}}
 use Rattle.power_reduce.proofs.step.whole_power.Goals as goal
+
+pub kind-requires-clause-live : goal.kind-requires-clause-live
+kind-requires-clause-live c = c.base_id-base.ensures.expression.live
+
+pub rational-q-requires-clause-live : goal.rational-q-requires-clause-live
+rational-q-requires-clause-live c = c.base_id-base.ensures.expression.live
+
+pub rational_power-requires-clause-base : goal.rational_power-requires-clause-base
+rational_power-requires-clause-base c = sym c.base_id-base.ensures.tree ∙ c.rational-q.ensures.plain
+
+pub returns-in_ok-answer-in-Num-clause-ok : goal.returns-in_ok-answer-in-Num-clause-ok
+returns-in_ok-answer-in-Num-clause-ok c = (number_kept (base_in (tree_of c.args.power c.args.pool.now)) (exponent_in (tree_of c.args.power c.args.pool.now)) (rational_number _ _ (sym c.base_id-base.ensures.tree ∙ c.rational-q.ensures.plain)) (ap is_whole_num c.requires.exponent ∙ whole_is c.args.n), c.in_ok-answer-in-Num.ensures.ok)
+
+pub returns-in_ok-answer-in-Num-clause-rationals : goal.returns-in_ok-answer-in-Num-clause-rationals
+returns-in_ok-answer-in-Num-clause-rationals c = λ b e. c.in_ok-answer-in-Num.ensures.rationals
+
+pub returns-in_err-answer-in-Num-clause-rationals : goal.returns-in_err-answer-in-Num-clause-rationals
+returns-in_err-answer-in-Num-clause-rationals c = λ b e. step_fault _ c.rational_power.new.pool c.in_err-answer-in-Num.field-0.0 _ c.from_residual.ensures.1 c.in_err-answer-in-Num.ensures.rationals
 
 pub whole_power_of_other-requires-clause-base : goal.whole_power_of_other-requires-clause-base
 whole_power_of_other-requires-clause-base c = no_num_kind _ (λ e. c.in_default.not-Num ((c.kind.ensures.plain c.base_id-base.ensures.expression ∙ ap root_kind c.base_id-base.ensures.tree) ∙ sym e))

@@ -1,9 +1,18 @@
 use Rattle.std.proofs.Common.{arith, ◌≡◌, true, false, refl, sym, ap, ◌∙◌, subst}
-use Rattle.power_reduce.proofs.Shared.{IsNumberPower, whole_fraction, is_number, Tree, num, one_value, tree_of, gives_as, base_in, exponent_in, is_even_whole, passed_on, refused_as, told}
-use Rattle.power_reduce.proofs.{Cases.{zero_kept, one_kept, other_power, even_bits, odd_bits, even_whole, odd_root_kept}, NumberPowers.{zero_answer, one_answer}, Powers.{one_room}}
-use Rattle.power_reduce.proofs.{Rooms.{number_lacks}, Spanned.{base_spans}, RationalPowers.{zero_bits, no_zero_bits}, Whole.{one_bits}}
-use Rattle.power_reduce.proofs.step.whole_power_of_other.Goals.{else-n-eq0-2-via-then-n-eq0-2+else-is_root, else-n-eq0-2-via-else-n-eq0-2}
+use Rattle.power_reduce.proofs.Shared.{IsNumberPower, whole_fraction, is_number, Tree, num, one_value, tree_of, gives_as, base_in, exponent_in, is_even_whole, passed_on, refused_as, told, is_reduced}
+use Rattle.power_reduce.proofs.{Shared.{is_whole_num, is_root}, Cases.{zero_kept, one_kept, other_power, even_bits, odd_bits, even_whole, odd_root_kept, number_kept, whole_goes_inside, no_number}}
+use Rattle.power_reduce.proofs.{Cases.{again}, NumberPowers.{zero_answer, one_answer}, Powers.{one_room}, Rooms.{number_lacks}, Spanned.{base_spans}, RationalPowers.{zero_bits, no_zero_bits}}
+use Rattle.power_reduce.proofs.{Whole.{one_bits, no_one_bits, whole_is}, step.whole_power_of_other.Goals.{else-n-eq0-2-via-then-n-eq0-2+else-is_root, else-n-eq0-2-via-else-n-eq0-2}}
 use Rattle.power_reduce.proofs.step.whole_power_of_other.Goals as goal
+
+pub is_reduced_number-requires-clause-reduced : goal.is_reduced_number-requires-clause-reduced
+is_reduced_number-requires-clause-reduced c = ap is_reduced c.base_id-base.ensures.tree ∙ c.requires.sides.base
+
+pub irrational_power-requires-clause-number : goal.irrational_power-requires-clause-number
+irrational_power-requires-clause-number c = sym (ap is_number c.base_id-base.ensures.tree) ∙ sym c.is_reduced_number.ensures ∙ c.if-is_reduced_number.true
+
+pub returns-then-is_reduced_number-clause-ok : goal.returns-then-is_reduced_number-clause-ok
+returns-then-is_reduced_number-clause-ok c = (number_kept (base_in (tree_of c.args.power c.args.pool.now)) (exponent_in (tree_of c.args.power c.args.pool.now)) (sym (ap is_number c.base_id-base.ensures.tree) ∙ sym c.is_reduced_number.ensures ∙ c.if-is_reduced_number.true) (ap is_whole_num c.requires.exponent ∙ whole_is c.args.n), c.in_ok-answer.ensures.ok)
 
 pub with_number-requires-clause-room : goal.with_number-requires-clause-room
 with_number-requires-clause-room c = one_room (tree_of c.args.power c.args.pool.now) _ _ c.requires.sides.power c.requires.exponent (one_value c.whole.result c.whole.ensures)
@@ -26,6 +35,21 @@ returns-then-n-eq1-clause-ok c =
 
 pub halve_root-requires-clause-even : goal.halve_root-requires-clause-even
 halve_root-requires-clause-even c = ap (λ z. is_even_whole (whole_fraction z)) (told c.args.n c.requires.fits) ∙ even_whole c.args.n (even_bits c.args.n c.requires.fits c.if-n-eq0-2.true) (no_zero_bits c.args.n c.if-n-eq0.false)
+
+pub halve_root-requires-clause-root : goal.halve_root-requires-clause-root
+halve_root-requires-clause-root c = sym (ap is_root c.base_id-base.ensures.tree) ∙ sym c.is_root.ensures ∙ c.if-is_root.true
+
+pub halve_root-requires-clause-number : goal.halve_root-requires-clause-number
+halve_root-requires-clause-number c = sym (ap is_number c.base_id-base.ensures.tree) ∙ sym c.is_reduced_number.ensures ∙ c.if-is_reduced_number.false
+
+pub returns-then-is_root-clause-ok : goal.returns-then-is_root-clause-ok
+returns-then-is_root-clause-ok c = again (tree_of c.args.power c.args.pool.now) c.requires.sides.power c.halve_root.ensures.gives
+
+pub power_inside-requires-clause-inside : goal.power_inside-requires-clause-inside
+power_inside-requires-clause-inside c = whole_goes_inside (exponent_in (tree_of c.args.power c.args.pool.now)) c.args.n c.requires.exponent (no_zero_bits c.args.n c.if-n-eq0.false) (no_one_bits c.args.n c.if-n-eq1.false)
+
+pub power_inside-requires-clause-number : goal.power_inside-requires-clause-number
+power_inside-requires-clause-number c = no_number (base_in (tree_of c.args.power c.args.pool.now)) (exponent_in (tree_of c.args.power c.args.pool.now)) (sym (ap is_number c.base_id-base.ensures.tree) ∙ sym c.is_reduced_number.ensures ∙ c.if-is_reduced_number.false)
 
 pub power_inside-requires-clause-root : goal.power_inside-requires-clause-root
 power_inside-requires-clause-root c = grind (arith, odd_root_kept, odd_bits)
@@ -56,6 +80,9 @@ returns-then-n-eq0-clause-held c = λ m. no_number_base _ _ c.base_id-base.ensur
 
 pub returns-then-n-eq1-clause-held : goal.returns-then-n-eq1-clause-held
 returns-then-n-eq1-clause-held c = λ m. no_number_base _ _ c.base_id-base.ensures.tree (sym c.is_reduced_number.ensures ∙ c.if-is_reduced_number.false) m
+
+pub returns-then-is_root-clause-held : goal.returns-then-is_root-clause-held
+returns-then-is_root-clause-held c = λ m. tt
 
 pub returns-clause-held : goal.returns-clause-held
 returns-clause-held c = λ m. no_number_base _ _ c.base_id-base.ensures.tree (sym c.is_reduced_number.ensures ∙ c.if-is_reduced_number.false) m
