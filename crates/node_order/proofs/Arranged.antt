@@ -2,7 +2,8 @@
 use Rattle.node_order.proofs.Shared.{◌≡◌, ℕ, ◌+◌, ◌<◌, ◌≤◌, List, length, take, get_or, sym, ap, ◌∙◌, subst, arith, true, All, IsPermutation, swap, range_with_len, take_all, All-get_or}
 use Rattle.node_order.proofs.Shared.{All-permutation, IsPermutation-sym, picked_behind, State, root_ids, IsChildAt, AreSiblings, Forest, arity, kids, rest_trees, swapped_nth, kids_of, has_root}
 use Rattle.node_order.proofs.Shared.{root_tree, put, Stands, forest, first-rest, arity-join, arity-first_trees, arity-rest_trees, kids_of_root, root-put, kids-put, put-put, put-same, root_ids-nth}
-use Rattle.node_order.proofs.{Picks.{AreInside, arity-picked, picked-swap, nth-picked_behind}, Places.{inside_range}, SortLaws.{picked-range}}
+use Rattle.node_order.proofs.Shared.{rules, IsSorted, Tree, place_cmp, SortsChildren, plains, nth, AllExpressions, AllOnce}
+use Rattle.node_order.proofs.{Picks.{AreInside, arity-picked, picked-swap, nth-picked_behind}, Places.{inside_range}, SortLaws.{picked-range, sorted_children}}
 
 -- how the children stand: those from a place on are picked by a list of places
 pub record IsArranged (i n : ℕ) (xs : List ℕ) (f g : Forest) : Type 0 where
@@ -57,3 +58,12 @@ arranged_start i n m f h = grind (arith, picked-range, arity-rest_trees, first-r
 
 pub all_placed : (xs ys : List ℕ) (at : ℕ) → length xs ≡ length ys → length ys ≤ at → take at xs ≡ take at ys → xs ≡ ys
 all_placed xs ys at long h e = sym (take_all at xs (omega arith)) ∙ e ∙ take_all at ys h
+
+-- one child is in order
+lone_sorted : (n m : ℕ) (key : Tree → Tree) (k : Forest) → m ≤ 1 → IsSorted (place_cmp (λ j. key (nth (n + j) (plains k)))) (range_with_len 0 m)
+lone_sorted n m key k le = grind arith
+
+pub lone_child : (i n m : ℕ) (key : Tree → Tree) (f : Forest) → AllOnce (kids (root_tree i f)) → AllExpressions (kids (root_tree i f)) → n + m ≡ arity (kids (root_tree i f)) → m ≤ 1
+    → SortsChildren i n key f f
+lone_child i n m key f once whole all le =
+    sorted_children i n m key (range_with_len 0 m) f f once whole all (search rules) (lone_sorted n m key (kids (root_tree i f)) le) (arranged_start i n m f all)

@@ -1,5 +1,5 @@
 -- Keys, and the fronts of their trees.
-use Rattle.node_order.proofs.Shared.{◌≡◌, ◌≢◌, ℕ, zero, suc, ◌-◌, ◌^◌, ◌<◌, ◌≤◌, [], ◌∷◌, length, eqb, cond, refl, sym, ap, ◌∙◌, subst, arith, append-nil, true, ne_eqb, Payload, bare, Tree, mult}
+use Rattle.node_order.proofs.Shared.{◌≡◌, ◌≢◌, ℕ, suc, ◌-◌, ◌^◌, ◌<◌, ◌≤◌, [], ◌∷◌, length, eqb, cond, refl, sym, ap, ◌∙◌, arith, append-nil, true, ne_eqb, Payload, bare, Tree, mult}
 use Rattle.node_order.proofs.Shared.{Trees, count, is_mult, Front, Key, Shows, trees_behind, key_tree, IsKey, State, Visit, grown, plains, plain, takes, children_of, IsWhole, IsExpression, Forest}
 use Rattle.node_order.proofs.Shared.{empty, tree, arity, rest_trees, kids, nodes_in, holds, tree_at, kids_of, payload_in, Stands, forest, visits_of, arity-rest_trees, all-rest_trees, few_in}
 use Rattle.node_order.proofs.{Shared.{children_of-plain, count-plains, whole_kids, expression_children, found, found-kids, found-rest_trees, visits_length, product_tree}, Pairs.{shows_first}}
@@ -18,9 +18,8 @@ shown_children {i = i} {base = base} e x =
     x.front.children ∙ sym same ∙ expression_children i base e
 
 pub behind-plains : (n : ℕ) (f : Forest) → trees_behind n (plains f) ≡ plains (rest_trees n f)
-behind-plains zero f = refl
-behind-plains (suc n) empty = refl
 behind-plains (suc n) (tree l k r) = behind-plains n r
+behind-plains n f = refl
 
 key_cond : (t : Tree) (u : Tree) (n : ℕ) → n ≢ 0 → cond (eqb n 0) t u ≡ u
 key_cond t u n h = ap (λ b. cond b t u) (ne_eqb n 0 h)
@@ -29,20 +28,17 @@ key_rest : (k : Key) (f : Forest) → IsKey k f → k.behind ≢ 0 → key_tree 
 key_rest k f x h = grind (arith, key_cond, children_of-plain, behind-plains)
 
 one_factor : (f : Forest) → arity f ≡ 1 → product_tree (plains f) ≡ plain f
-one_factor empty e = absurd (omega arith)
 one_factor (tree l k empty) e = refl
-one_factor (tree l k (tree m j s)) e = absurd (omega arith)
+one_factor f e = absurd (omega arith)
 
 more_factors : (f : Forest) → 2 ≤ arity f → product_tree (plains f) ≡ mult (plains f)
-more_factors empty e = absurd (omega arith)
-more_factors (tree l k empty) e = absurd (omega arith)
 more_factors (tree l k (tree m j s)) e = refl
+more_factors f e = absurd (omega arith)
 
 -- some children of a node have few nodes
 nodes_rest : (n : ℕ) (f : Forest) → nodes_in (rest_trees n f) ≤ nodes_in f
-nodes_rest zero f = omega arith
-nodes_rest (suc n) empty = omega arith
 nodes_rest (suc n) (tree l k r) = omega (arith, nodes_rest n r)
+nodes_rest n f = omega arith
 
 nodes_kids : (t : Forest) → nodes_in (kids t) ≤ nodes_in t
 nodes_kids t = grind arith

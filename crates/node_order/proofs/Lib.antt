@@ -9,7 +9,6 @@ pub mod Inverses
 pub mod Listing
 pub mod Picks
 pub mod SortLaws
-pub mod Lone
 pub mod Arranged
 pub mod Tested
 pub mod Shared

@@ -1,7 +1,7 @@
 -- Children of a node that are listed from a place on.
-use Rattle.node_order.proofs.Shared.{rest_trees-add, ◌≡◌, ◌≢◌, List, [], ◌∷◌, ◌++◌, ℕ, zero, suc, ◌+◌, ◌<◌, length, get_or, refl, sym, ap, ◌∙◌, subst, arith, zero-add, ⊎_elim, Option, Some, None, set}
+use Rattle.node_order.proofs.Shared.{rest_trees-add, ◌≡◌, List, [], ◌∷◌, ◌++◌, ℕ, suc, ◌+◌, ◌<◌, length, get_or, ap, ◌∙◌, arith, zero-add, Option, Some, None, set}
 use Rattle.node_order.proofs.Shared.{cases_lt, get_or-set_other, get_or-set_same, enumerate_from, enumerate_source, enumerate_count, enumerate_steps, length-enumerate_from, get_or-enumerate_from}
-use Rattle.node_order.proofs.Shared.{root_ids, IsChildAt, Forest, empty, tree, join, arity, root_id, first_trees, rest_trees, tree_nth, kids_of, arity-rest_trees, Yields, YieldsFirst, Enumerate}
+use Rattle.node_order.proofs.Shared.{root_ids, IsChildAt, Forest, join, arity, root_id, first_trees, rest_trees, tree_nth, kids_of, arity-rest_trees, Yields, YieldsFirst, Enumerate}
 use Rattle.node_order.proofs.Shared.{YieldsList, YieldsList-from_first, YieldsList-from_enumerate, YieldsList-turn, YieldsList-end, rest-rest, root_ids-nth, length-root_ids}
 use Rattle.std.proofs.Common.{length-append}
 

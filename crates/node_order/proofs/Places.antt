@@ -20,10 +20,6 @@ pub record IsPair (i j : ℕ) (xs : List ℕ) : Type 0 where
   pub at-second : j ≡ length before + suc (length between)
 
 pub pair : (i j : ℕ) (xs : List ℕ) → i < j → j < length xs → IsPair i j xs
-pair zero zero xs lt h = absurd (omega arith)
-pair (suc i) zero xs lt h = absurd (omega arith)
-pair zero (suc j) [] lt h = absurd (omega arith)
-pair (suc i) (suc j) [] lt h = absurd (omega arith)
 pair zero (suc j) (x ∷ xs) lt h =
     let room : j < length xs = omega arith in
     let y = get_or xs j 0 in
@@ -54,6 +50,7 @@ pair (suc i) (suc j) (x ∷ xs) lt h =
       at-first = ap suc p.at-first;
       at-second = omega (arith, p.at-second);
     }
+pair i j xs lt h = absurd (omega arith)
 
 pub swap_same : (xs : List ℕ) (i : ℕ) → i < length xs → swap xs i i ≡ xs
 swap_same xs i h = sym (swap_is xs i i 0 h h) ∙ set-set xs i (get_or xs i 0) (get_or xs i 0) ∙ set-get_or xs i 0

@@ -20,9 +20,8 @@ record IsGrown (t : Forest) : Type 0 where
   payload : root_payload t ≡ bare kind.Add
 
 grown : (n t : Forest) → arity t ≡ 1 → root_payload t ≡ bare kind.Add → AllOnce t → AllOnce n → AllExpressions n → IsGrown (with_root_kids n t)
-grown n empty e p once new whole = absurd (omega arith)
 grown n (tree l k empty) e p once new whole = record { once = (once.0, new, tt); whole = (ap (λ (x : Payload). takes x (arity n)) p, whole, tt); payload = p }
-grown n (tree l k (tree m j s)) e p once new whole = absurd (omega arith)
+grown n t e p once new whole = absurd (omega arith)
 
 -- with other children
 pub sum_put : (i : ℕ) (n f : Forest) → IsSum i f → AllOnce n → AllExpressions n → IsSum i (put i n f)

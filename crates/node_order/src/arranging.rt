@@ -15,6 +15,7 @@ use tree_handles::{Handle, child_ids, swap_siblings};
 ///
 /// The other lists are written: the children by the places that they have at first, which of them stands at each place
 /// now, and where each of them stands now.
+#[tactic(auto, using(tree_handles::proofs::Seen::live))]
 pub fn arrange(
     pool: &mut Pool,
     parent: &Handle,

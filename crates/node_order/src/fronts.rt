@@ -27,6 +27,7 @@ pub struct Front<'a> {
 
 impl<'a> Front<'a> {
     /// The front of the first tree.
+    #[tactic(auto, using(tree_handles::proofs::Visiting::some_next, tree_handles::proofs::Visiting::next_is))]
     pub fn first(nodes: Nodes<'a>) -> Front<'a>
         requires { 0 < length nodes }
         ensures { nodes.entry ≡ result.root ∷ result.behind }
@@ -46,6 +47,7 @@ impl<'a> Front<'a> {
     }
 
     /// Goes on to the next node.
+    #[tactic(auto, using(tree_handles::proofs::Visiting::some_next, tree_handles::proofs::Visiting::next_is))]
     pub fn advance(&mut self)
         requires { 0 < length self.old.behind }
         ensures { self.old.behind ≡ self.new.root ∷ self.new.behind }
@@ -55,6 +57,7 @@ impl<'a> Front<'a> {
 }
 
 /// Two roots: by kind, and leaves of one kind by what they hold.
+#[tactic(auto, using(tree_handles::proofs::Readings::number_seen, tree_handles::proofs::Readings::symbol_seen))]
 pub fn compare_roots(pool: &Pool, left: &Visit, right: &Visit) -> Ordering
     requires stands { Stands pool.now }
     requires first { holds left.now.id (forest pool.now) ≡ true }

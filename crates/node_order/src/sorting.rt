@@ -123,6 +123,7 @@ fn sort_up_to<K: Keys, const N: usize>(pool: &mut Pool, parent: &Handle, from: u
 }
 
 /// How many children a root has from a place on.
+#[tactic(auto, using(tree_handles::proofs::Seen::live, crate::proofs::SortLaws::handle_kids))]
 fn children_from(pool: &Pool, parent: &Handle, from: u16) -> usize
     requires stands { Stands pool.now }
     requires root { has_root parent.now (forest pool.now) ≡ true }

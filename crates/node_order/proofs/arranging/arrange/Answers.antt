@@ -1,7 +1,7 @@
 use Rattle.node_order.proofs.Shared.{◌≡◌, ℕ, ◌+◌, ◌<◌, List, take, length, get_or, refl, sym, ap, ◌∙◌, subst, arith, IsPermutation, swap, range_with_len, IsPermutation-sym, IsPermutation-trans}
 use Rattle.node_order.proofs.{Shared.{picked_behind, root_ids, Forest, arity, kids, rest_trees, root_tree, put, forest, keeps_none, keeps_after}, Arranged.{arranged, arranged_root, arranged_siblings}}
 use Rattle.node_order.proofs.{Arranged.{arranged_swap, arranged_start, all_placed}, Inverses.{AreInverse, IsSought, inverse_start, inverse_swap, sought}, Places.{placed_swap}}
-use Rattle.node_order.proofs.SortLaws.{handle_kids, handle_live}
+use Rattle.node_order.proofs.SortLaws.{handle_kids}
 use Rattle.node_order.proofs.arranging.arrange.Goals as goal
 
 pub loop-at-init : goal.loop-at-init
@@ -25,9 +25,6 @@ bounds-whereabouts-wanted c =
     let i = c.loop-at.invariant.inverse in
     let s = sought (length c.args.order.now) c.loop-at.at c.loop-at.current c.loop-at.whereabouts c.args.order.now c.requires.places i c.loop-at.invariant.same c.loop-at-test.true in
     omega (arith, s.0, i.wide, c.from-wanted.ensures)
-
-pub list_children-requires-clause-live : goal.list_children-requires-clause-live
-list_children-requires-clause-live c = handle_live c.args.parent.now c.id.result c.args.pool.now c.requires.root c.id.ensures
 
 pub list_children-requires-clause-all : goal.list_children-requires-clause-all
 list_children-requires-clause-all c = omega (arith, c.requires.all, c.requires.ids, ap arity (handle_kids c.args.parent.now c.id.result c.args.pool.now c.requires.stands c.requires.root c.id.ensures))

@@ -1,4 +1,4 @@
-use Rattle.node_order.proofs.{Shared.{IsWhole, IsOnce, root_tree, forest, all-kids}, Lone.{lone_child}}
+use Rattle.node_order.proofs.{Shared.{IsWhole, IsOnce, root_tree, forest, all-kids}, Arranged.{lone_child}}
 use Rattle.node_order.proofs.sorting.sort_children.Goals as goal
 
 pub returns-then-len-le1-clause-sorts : goal.returns-then-len-le1-clause-sorts

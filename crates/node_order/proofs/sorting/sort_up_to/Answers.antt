@@ -1,4 +1,4 @@
-use Rattle.node_order.proofs.Shared.{◌+◌, ◌<◌, ◌≤◌, ℕ, sym, ap, subst, arith, replicate, length-take-le, length-replicate, IsSorted, count, place_cmp, plains, nth, IsWhole, IsExpression, Forest, kids}
+use Rattle.node_order.proofs.Shared.{◌+◌, ◌<◌, ◌≤◌, ℕ, sym, ap, subst, arith, replicate, length-take-le, length-replicate, IsSorted, count, place_cmp, plains, nth, IsWhole, IsExpression, Forest}
 use Rattle.node_order.proofs.{Shared.{arity, IsOnce, root_tree, forest, all-kids, expression_root}, SortLaws.{sorted_children, handle_kids}}
 use Rattle.node_order.proofs.sorting.sort_up_to.Goals as goal
 
@@ -18,7 +18,6 @@ returns-clause-sorts g c =
     let n = c.args.from in
     let f = forest c.args.pool.now in
     let key = g.K.Keys.key_of in
-    let k = kids (root_tree i f) in
     let same = handle_kids i c.id.result c.args.pool.now c.requires.stands c.requires.handed.root c.id.ensures in
     sorted_children i n _ key c.rank_children.new.order f (forest c.arrange.new.pool) (all-kids IsOnce (root_tree i f) c.requires.handed.once) (all-kids IsWhole (root_tree i f) c.requires.handed.whole)
     (omega (arith, length-take-le {A = ℕ} c.children_from-len.result (replicate g.row.N 0) (omega (arith, length-replicate {A = ℕ} g.row.N 0, c.children_from-len.ensures.all, c.requires.room)), c.children_from-len.ensures.all)) c.rank_children.ensures.places
