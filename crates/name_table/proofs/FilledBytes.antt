@@ -1,21 +1,17 @@
 -- What filling needs and leaves of the free bytes, and how deep and how large a filled tree becomes.
-use Rattle.std.proofs.{Common.{◌≡◌, ◌∙◌, ℕ, ◌+◌, ◌*◌, ◌≤◌, ◌<◌, List, [], ◌∷◌, cond, nat_lt, Result, Ok, Err, All, refl, sym, subst, arith}, lemmas.List.Elements.{All-head, All-tail}}
+use Rattle.std.proofs.{Common.{◌≡◌, ℕ, ◌+◌, ◌*◌, ◌≤◌, ◌<◌, List, [], ◌∷◌, cond, nat_lt, Result, Ok, Err, All, refl, subst, arith}, lemmas.List.Elements.{All-head, All-tail}}
 use Rattle.std.specs.Prelude.{IfOk, IfErr}
 use Rattle.calc_terms.proofs.Sizes.{root_most}
-use Rattle.calc_terms.specs.Trees.{add, div, more, mult, neg, nodes, nodes_of, none, num, power, root, sizes, sub, undef, Trees}
+use Rattle.calc_terms.specs.Trees.{add, div, more, mult, neg, nodes, nodes_of, none, num, power, root, sizes, sub, Trees}
 use Rattle.name_table.proofs.Shared.{ltb-true, Tree, depth, root_size, size, symbol, by_test, Full, Filling, NamedTree, fills, filled, filling, filling_one, lacks, too_deep, replaced, occurrences}
-use Rattle.name_table.proofs.{Shared.{replacing}, Growing.{copies_fit, copies_leave, depth_grows, nodes_grow, size_grows}}
+use Rattle.name_table.proofs.{Shared.{replacing}, Growing.{copies_fit, copies_leave, grows, size_grows}}
 use Rattle.tree_walks.proofs.Composing.{bytes_of_replaced}
 
 -- ---- a filled tree is no smaller than before
 
-pub depth_filled : (vs : List NamedTree) (t : Tree) → depth t ≤ depth (filled vs t)
-depth_filled [] t = omega arith
-depth_filled (v ∷ vs) t = omega (arith, depth_grows v.name v.tree t, depth_filled vs (replaced v.name v.tree t))
-
-pub nodes_filled : (vs : List NamedTree) (t : Tree) → nodes t ≤ nodes (filled vs t)
-nodes_filled [] t = omega arith
-nodes_filled (v ∷ vs) t = omega (arith, nodes_grow v.name v.tree t, nodes_filled vs (replaced v.name v.tree t))
+pub grown : (vs : List NamedTree) (t : Tree) → (nodes t ≤ nodes (filled vs t)) × (depth t ≤ depth (filled vs t))
+grown [] t = (omega arith, omega arith)
+grown (v ∷ vs) t = let h = grows v.name v.tree t in let k = grown vs (replaced v.name v.tree t) in (omega (arith, h.0, k.0), omega (arith, h.1, k.1))
 
 -- each tree is at least as large as the leaf of its name
 abbrev pub IsLarge : NamedTree → Type 0
@@ -69,7 +65,7 @@ fares all free (v ∷ vs) t is = by (filling_one free v t) (one_fares all free v
 
     by : (m : Filling) → Fares all (v ∷ []) t m → ((l : ℕ) (w : Tree) → l + size w ≡ all → Fares all vs w (filling l vs w)) → Fares all (v ∷ vs) t (elim m [ lacks f ↦ lacks f | too_deep ↦ too_deep | fills l w ↦ filling l vs w ])
     by (lacks f) h next = λ way. h (way.0, fits_first all vs u way.1)
-    by too_deep h next = omega (arith, h, depth_filled vs u)
+    by too_deep h next = omega (arith, h, (grown vs u).1)
     by (fills l w) h next = behind (filling l vs w) (subst (λ x. Fares all vs x (filling l vs w)) h.1 (next l w h.0))
 
 pub fills_as : (free left : ℕ) (vs : List NamedTree) (t u : Tree) → filling free vs t ≡ fills left u → u ≡ filled vs t
@@ -85,8 +81,6 @@ fits_by_bytes all (v ∷ vs) t large h = (omega (arith, size_filled (v ∷ vs) t
 mutual
   bytes_by_nodes : (t : Tree) → size t ≤ 40 * nodes t
   bytes_by_nodes (num q) = omega (arith, root_most (num q))
-  bytes_by_nodes (symbol x) = omega arith
-  bytes_by_nodes undef = omega arith
   bytes_by_nodes (add ts) = omega (arith, all_bytes_by_nodes ts)
   bytes_by_nodes (mult ts) = omega (arith, all_bytes_by_nodes ts)
   bytes_by_nodes (power b e) = omega (arith, bytes_by_nodes b, bytes_by_nodes e)
@@ -94,6 +88,7 @@ mutual
   bytes_by_nodes (neg a) = omega (arith, bytes_by_nodes a)
   bytes_by_nodes (sub a b) = omega (arith, bytes_by_nodes a, bytes_by_nodes b)
   bytes_by_nodes (div a b) = omega (arith, bytes_by_nodes a, bytes_by_nodes b)
+  bytes_by_nodes t = omega arith
 
   all_bytes_by_nodes : (ts : Trees) → sizes ts ≤ 40 * nodes_of ts
   all_bytes_by_nodes none = omega arith
@@ -101,4 +96,4 @@ mutual
 
 pub fits_by_nodes : (all : ℕ) (vs : List NamedTree) (t : Tree) → 40 * nodes (filled vs t) + 16 ≤ all → FitsOnTheWay all vs t
 fits_by_nodes all [] t h = omega (arith, h, bytes_by_nodes t)
-fits_by_nodes all (v ∷ vs) t h = (omega (arith, nodes_filled (v ∷ vs) t, h, bytes_by_nodes t), fits_by_nodes all vs (replaced v.name v.tree t) h)
+fits_by_nodes all (v ∷ vs) t h = (omega (arith, (grown (v ∷ vs) t).0, h, bytes_by_nodes t), fits_by_nodes all vs (replaced v.name v.tree t) h)

@@ -1,7 +1,7 @@
 -- Names of filled trees.
-use Rattle.std.proofs.Common.{arith, ◌≡◌, ℕ, ◌⊎◌, inl, inr, List, [], ◌∷◌, map, refl, sym, ap, ◌∙◌, subst}
+use Rattle.std.proofs.Common.{◌≡◌, ℕ, ◌⊎◌, inl, inr, List, [], ◌∷◌, map, refl, sym, ap, subst}
 use Rattle.std.specs.Prelude.{Contains}
-use Rattle.name_table.proofs.Shared.{Tree, Forest, replaced, Filling, LacksNames, NamedTree, fills, filled, filling, filling_one, lacks, too_deep, value_in, values, HasEntries, HoldLaterNames, IsHeld}
+use Rattle.name_table.proofs.Shared.{Tree, Forest, replaced, LacksNames, NamedTree, filled, value_in, values, HasEntries, HoldLaterNames, IsHeld}
 use Rattle.name_table.proofs.{Shared.{Entry, Table, entries, table_names}, Later.{behind, in_front, names_of_entries, none_in, where_in}}
 use Rattle.tree_walks.proofs.Composing.{names_of_replaced}
 

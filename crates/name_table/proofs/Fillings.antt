@@ -53,10 +53,12 @@ refused_deep {old = old} {s = s} {others = others} {j = j} x k free left t st g 
     one_deep free left v t (tree_of j s) (ap (λ (w : Forest). replacing free (occurrences x t) (size (plain w)) (root_size (symbol x))) (sym (beside_tree k st g r)) ∙ e)
     (given_told (put_in {old = old} x k t st g r given)) (subst (λ (w : Tree). 64 < depth w) (new_tree sts given) d)
 
-pub filled_one : {old s : State} {others : Forest} {i j : ℕ} {Told : Tree → Type 0} (x : List ℕ) (k free left : ℕ) (t : Tree) → Stands old → Gives others (forest old) i Told → has_root k others ≡ true → Stands s
+pub filled_one : {old : State} {others : Forest} {i j : ℕ} {Told : Tree → Type 0} (s : State) (x : List ℕ) (k free left : ℕ) (t : Tree)
+    → Stands old → Gives others (forest old) i Told → has_root k others ≡ true
     → Gives others (forest s) j (λ u. u ≡ replaced x (plain (tree_at k (forest old))) t)
-    → replacing free (occurrences x t) (size (plain (tree_at k (forest old)))) (root_size (symbol x)) ≡ Ok left → (64 < depth (plain (tree_at j (forest s))) → ⊥) → filling_one free (record { name = x; tree = plain (root_tree k others) }) t ≡ fills left (tree_of j s)
-filled_one {old = old} {s = s} {others = others} {j = j} x k free left t st g r sts given e d =
+    → replacing free (occurrences x t) (size (plain (tree_at k (forest old)))) (root_size (symbol x)) ≡ Ok left → (64 < depth (tree_of j s) → ⊥)
+    → filling_one free (record { name = x; tree = plain (root_tree k others) }) t ≡ fills left (tree_of j s)
+filled_one {old = old} {others = others} {j = j} s x k free left t st g r given e d =
     let v : NamedTree = record { name = x; tree = plain (root_tree k others) } in
     one_fills free left v t (tree_of j s) (ap (λ (w : Forest). replacing free (occurrences x t) (size (plain w)) (root_size (symbol x))) (sym (beside_tree k st g r)) ∙ e)
-    (given_told (put_in {old = old} x k t st g r given)) (λ h. d (subst (λ (w : Tree). 64 < depth w) (sym (new_tree sts given)) h))
+    (given_told (put_in {old = old} x k t st g r given)) d

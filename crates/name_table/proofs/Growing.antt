@@ -1,63 +1,35 @@
 -- A tree in which a name is replaced is no smaller than before, and what its copies need and leave of the free bytes.
 use Rattle.std.proofs.{Common.{◌≡◌, ℕ, zero, suc, ◌+◌, ◌-◌, ◌*◌, ◌≤◌, List, cond, leb, arith}, lemmas.Bool.{le-leb, leb-false, leb-true}, lemmas.Nat.{mul-le}}
 use Rattle.std.specs.{Prelude.{IfOk, IfErr}, Str.{bytes_eq}}
-use Rattle.calc_terms.specs.Trees.{Tree, num, symbol, undef, add, mult, power, root, neg, sub, div, Trees, none, more, depth, depths, nodes, nodes_of, root_size, size}
+use Rattle.calc_terms.specs.Trees.{Tree, num, symbol, add, mult, power, root, neg, sub, div, Trees, none, more, depth, depths, nodes, nodes_of, root_size, size}
 use Rattle.tree_walks.proofs.{Composing.{bytes_of_replaced}, Shallow.{depth_within}}
 use Rattle.tree_handles.proofs.Outcomes.{by_test}
 use Rattle.tree_walks.specs.Replacing.{replaced, replaced_in, replacing}
 
--- ---- its nodes
+-- ---- its nodes, and its depth
 
 some_depth : (t : Tree) → 1 ≤ depth t
 some_depth (num q) = omega arith
-some_depth (symbol x) = omega arith
-some_depth undef = omega arith
-some_depth (add ts) = omega arith
-some_depth (mult ts) = omega arith
-some_depth (power b e) = omega arith
-some_depth (root a) = omega arith
-some_depth (neg a) = omega arith
-some_depth (sub a b) = omega arith
-some_depth (div a b) = omega arith
+some_depth t = omega arith
 
 symbol_nodes : (x y : List ℕ) (u : Tree) → 1 ≤ nodes (cond (bytes_eq y x) u (symbol y))
 symbol_nodes x y u = omega (arith, some_depth (cond (bytes_eq y x) u (symbol y)), depth_within (cond (bytes_eq y x) u (symbol y)))
 
 mutual
-  pub nodes_grow : (x : List ℕ) (u t : Tree) → nodes t ≤ nodes (replaced x u t)
-  nodes_grow x u (num q) = omega arith
-  nodes_grow x u (symbol y) = symbol_nodes x y u
-  nodes_grow x u undef = omega arith
-  nodes_grow x u (add ts) = omega (arith, all_nodes_grow x u ts)
-  nodes_grow x u (mult ts) = omega (arith, all_nodes_grow x u ts)
-  nodes_grow x u (power b e) = omega (arith, nodes_grow x u b, nodes_grow x u e)
-  nodes_grow x u (root a) = omega (arith, nodes_grow x u a)
-  nodes_grow x u (neg a) = omega (arith, nodes_grow x u a)
-  nodes_grow x u (sub a b) = omega (arith, nodes_grow x u a, nodes_grow x u b)
-  nodes_grow x u (div a b) = omega (arith, nodes_grow x u a, nodes_grow x u b)
+  pub grows : (x : List ℕ) (u t : Tree) → (nodes t ≤ nodes (replaced x u t)) × (depth t ≤ depth (replaced x u t))
+  grows x u (symbol y) = (symbol_nodes x y u, some_depth (cond (bytes_eq y x) u (symbol y)))
+  grows x u (add ts) = let h = all_grow x u ts in (omega (arith, h.0), omega (arith, h.1))
+  grows x u (mult ts) = let h = all_grow x u ts in (omega (arith, h.0), omega (arith, h.1))
+  grows x u (power b e) = let h = grows x u b in let k = grows x u e in (omega (arith, h.0, k.0), omega (arith, h.1, k.1))
+  grows x u (root a) = let h = grows x u a in (omega (arith, h.0), omega (arith, h.1))
+  grows x u (neg a) = let h = grows x u a in (omega (arith, h.0), omega (arith, h.1))
+  grows x u (sub a b) = let h = grows x u a in let k = grows x u b in (omega (arith, h.0, k.0), omega (arith, h.1, k.1))
+  grows x u (div a b) = let h = grows x u a in let k = grows x u b in (omega (arith, h.0, k.0), omega (arith, h.1, k.1))
+  grows x u t = (omega arith, omega arith)
 
-  all_nodes_grow : (x : List ℕ) (u : Tree) (ts : Trees) → nodes_of ts ≤ nodes_of (replaced_in x u ts)
-  all_nodes_grow x u none = omega arith
-  all_nodes_grow x u (more t ts) = omega (arith, nodes_grow x u t, all_nodes_grow x u ts)
-
--- ---- its depth
-
-mutual
-  pub depth_grows : (x : List ℕ) (u t : Tree) → depth t ≤ depth (replaced x u t)
-  depth_grows x u (num q) = omega arith
-  depth_grows x u (symbol y) = omega (arith, some_depth (cond (bytes_eq y x) u (symbol y)))
-  depth_grows x u undef = omega arith
-  depth_grows x u (add ts) = omega (arith, all_depths_grow x u ts)
-  depth_grows x u (mult ts) = omega (arith, all_depths_grow x u ts)
-  depth_grows x u (power b e) = omega (arith, depth_grows x u b, depth_grows x u e)
-  depth_grows x u (root a) = omega (arith, depth_grows x u a)
-  depth_grows x u (neg a) = omega (arith, depth_grows x u a)
-  depth_grows x u (sub a b) = omega (arith, depth_grows x u a, depth_grows x u b)
-  depth_grows x u (div a b) = omega (arith, depth_grows x u a, depth_grows x u b)
-
-  all_depths_grow : (x : List ℕ) (u : Tree) (ts : Trees) → depths ts ≤ depths (replaced_in x u ts)
-  all_depths_grow x u none = omega arith
-  all_depths_grow x u (more t ts) = omega (arith, depth_grows x u t, all_depths_grow x u ts)
+  all_grow : (x : List ℕ) (u : Tree) (ts : Trees) → (nodes_of ts ≤ nodes_of (replaced_in x u ts)) × (depths ts ≤ depths (replaced_in x u ts))
+  all_grow x u none = (omega arith, omega arith)
+  all_grow x u (more t ts) = let h = grows x u t in let k = all_grow x u ts in (omega (arith, h.0, k.0), omega (arith, h.1, k.1))
 
 -- ---- its bytes
 

@@ -42,9 +42,8 @@ counts_join h empty g a b = b
 counts_join h (tree l k r) g a b = (a.0, a.1, a.2, counts_join h r g a.3 b)
 
 counts_alone : (h : ℕ → ℕ) (t : Forest) → arity t ≡ 1 → AllOnce t → h (root_id t) ≡ 1 → AreCountedBy h t
-counts_alone h empty a o e = absurd (omega arith)
 counts_alone h (tree l k empty) a o e = let c : l.count ≡ 1 = o.0 in (omega arith, c ∙ sym e, o.1, tt)
-counts_alone h (tree l k (tree m j s)) a o e = absurd (omega arith)
+counts_alone h t a o e = absurd (omega arith)
 
 pub start_counts : {t : Table} {others f : Forest} {i : ℕ} {Told : Tree → Type 0} → IsHeld t others → Gives others f i Told → AreCountedBy (one_more i (holders_in t)) f
 start_counts {t = t} {others = others} {i = i} held g =

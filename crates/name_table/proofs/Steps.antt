@@ -1,5 +1,5 @@
 -- Pools whose roots are counted, from call to call.
-use Rattle.name_table.proofs.Shared.{◌≡◌, ◌≢◌, ℕ, suc, ◌+◌, ◌-◌, ◌<◌, ◌≤◌, List, [], ◌∷◌, ◌++◌, Bool, true, false, cond, eqb, Option, Some, None, refl}
+use Rattle.name_table.proofs.Shared.{◌≡◌, ◌≢◌, ℕ, suc, ◌+◌, ◌-◌, ◌<◌, ◌≤◌, List, [], ◌∷◌, ◌++◌, Bool, true, cond, eqb, Option, Some, None, refl}
 use Rattle.name_table.proofs.Shared.{sym, ap, ◌∙◌, subst, arith, bytes_eq, eq-eqb, Tree, State, Forest, Gives, count_of, released_in, with_count_in, has_root, Stands, forest, distinct}
 use Rattle.name_table.proofs.Shared.{last_root, by_test, AreCountedBy, AreRoots, IsHeld, counted_by, held_by, holders_in, released_under, IsKeepable, IsStorable, Entry, Table, entries, holders}
 use Rattle.name_table.proofs.{Shared.{tree_under, with_answer, without_entry, without_name}, Counting.{count_of-counted, counted-are, counted-by_same, counted-same, counted-twice, one_less}}
@@ -103,10 +103,7 @@ answer_root : (t : Table) {f : Forest} {s : State} (x : List ℕ) (i : ℕ) → 
 answer_root t {f = f} {s = s} x i top c = there (tree_under x t.stored) refl c
   where
     more : (b r : Bool) (n : ℕ) → (r ≡ true → 1 ≤ n) → cond r (cond b (suc (cond b (suc (suc n)) (suc n))) (cond b (suc (suc n)) (suc n)) - 1) (cond b (suc (cond b (suc (suc n)) (suc n))) (cond b (suc (suc n)) (suc n))) ≢ 0
-    more true true n p z = absurd (omega arith)
-    more true false n p z = absurd (omega arith)
-    more false true n p z = let q : 1 ≤ n = p refl in absurd (omega arith)
-    more false false n p z = absurd (omega arith)
+    more b r n p z = grind arith
 
     own : eqb t.ans t.ans ≡ true
     own = eq-eqb t.ans t.ans refl
@@ -115,9 +112,7 @@ answer_root t {f = f} {s = s} x i top c = there (tree_under x t.stored) refl c
     there None u c = still_root t.ans c (λ z. still_none (eqb t.ans t.ans) (eqb i t.ans) (holders t.ans t.stored) own z) top
       where
         still_none : (a b : Bool) (n : ℕ) → a ≡ true → cond b (suc (cond b (suc (cond a (suc n) n)) (cond a (suc n) n))) (cond b (suc (cond a (suc n) n)) (cond a (suc n) n)) ≡ 0 → ⊥
-        still_none true true n p z = absurd (omega arith)
-        still_none true false n p z = absurd (omega arith)
-        still_none false b n p z = absurd cc
+        still_none a b n p z = grind arith
     there (Some k) u c = still_root t.ans c (λ z. more (eqb i t.ans) (eqb k t.ans) (holders t.ans t.stored) (holders-without x t.stored k t.ans u).some (subst (λ (a : Bool). cond (eqb k t.ans) (cond (eqb i t.ans) (suc (cond (eqb i t.ans) (suc (cond a (suc (holders t.ans t.stored)) (holders t.ans t.stored))) (cond a (suc (holders t.ans t.stored)) (holders t.ans t.stored)))) (cond (eqb i t.ans) (suc (cond a (suc (holders t.ans t.stored)) (holders t.ans t.stored))) (cond a (suc (holders t.ans t.stored)) (holders t.ans t.stored))) - 1) (cond (eqb i t.ans) (suc (cond (eqb i t.ans) (suc (cond a (suc (holders t.ans t.stored)) (holders t.ans t.stored))) (cond a (suc (holders t.ans t.stored)) (holders t.ans t.stored)))) (cond (eqb i t.ans) (suc (cond a (suc (holders t.ans t.stored)) (holders t.ans t.stored))) (cond a (suc (holders t.ans t.stored)) (holders t.ans t.stored)))) ≡ 0) own z)) top
 
 -- a new tree is held once

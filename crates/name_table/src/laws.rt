@@ -17,6 +17,7 @@ pub fn values_stay()
 {}
 
 /// Filling in the free bytes gives the filled tree.
+#[tactic(auto, using(crate::proofs::FilledBytes::fills_as))]
 pub fn filling_gives_the_filled_tree()
     ensures { FillsWithFilled }
 {}
@@ -27,6 +28,7 @@ pub fn filled_trees_lack_names()
 {}
 
 /// Exactly the trees of a table have its entries among them.
+#[tactic(auto, using(crate::proofs::Entries::held_entries))]
 pub fn held_trees_have_the_entries()
     ensures { HasHeldEntries }
 {}

@@ -162,6 +162,7 @@ impl NameTable {
 
     /// Removes the entry of a stored name. Its tree is released where no other entry holds it. Tells whether the name
     /// was stored.
+    #[tactic(auto, using(crate::proofs::Steps::entry_root))]
     pub fn forget(&mut self, pool: &mut Pool, name: Name) -> bool
         requires stands { Stands pool.old }
         requires held { IsHeld self.old (forest pool.old) }
@@ -230,6 +231,7 @@ impl NameTable {
 }
 
 /// Puts a tree in place of its name in the last tree.
+#[tactic(auto, using(tree_handles::proofs::Roots::root_held))]
 fn fill_name(pool: &mut Pool, tree: Handle, name: Name, source: Id) -> Result<Handle, FillFault>
     requires stands { Stands pool.old }
     requires last { Gives (without_root tree (forest pool.old)) (forest pool.old) tree (λ t. ⊤) }

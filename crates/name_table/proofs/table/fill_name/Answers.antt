@@ -1,14 +1,11 @@
 -- The tree of the table is put in, and then its depth is asked.
 use Rattle.name_table.proofs.Shared.{arith, ◌≡◌, sym, subst, ◌<◌, Bool, true, false, State, Tree, err_from_is_err_and, depth, tree_at, name_of, free_of, IsExpression, plain, tree_of}
-use Rattle.name_table.proofs.{Shared.{without_root, forest, root_held}, Fillings.{beside_expression, filled_one, new_expression, put_in, new_tree, refused_deep, refused_lacks}}
+use Rattle.name_table.proofs.{Shared.{forest}, Fillings.{beside_expression, filled_one, new_expression, put_in, new_tree, refused_deep, refused_lacks}}
 use Rattle.name_table.proofs.table.fill_name.Goals.{Else-is_deeper}
 use Rattle.name_table.proofs.table.fill_name.Goals as goal
 
 pub replace_name-requires-clause-expression : goal.replace_name-requires-clause-expression
 replace_name-requires-clause-expression c = beside_expression c.args.source c.requires.stands c.requires.last c.requires.root c.requires.whole
-
-pub replace_name-requires-clause-elsewhere : goal.replace_name-requires-clause-elsewhere
-replace_name-requires-clause-elsewhere c = root_held c.args.source (without_root c.args.tree (forest c.args.pool.now)) c.requires.root
 
 pub is_deeper-requires-clause-expression : goal.is_deeper-requires-clause-expression
 is_deeper-requires-clause-expression c = subst (λ i. IsExpression i (forest c.replace_name.new.pool)) (sym c.id.ensures) (new_expression c.replace_name.ensures.stands c.in_ok-filled.ensures.ok)
@@ -37,9 +34,9 @@ not_deep c h =
 
 pub returns-clause-ok_room : goal.returns-clause-ok_room
 returns-clause-ok_room c =
-    filled_one (name_of c.args.name) c.args.source (free_of c.args.pool.now) (free_of c.replace_name.new.pool) (tree_of c.args.tree c.args.pool.now) c.requires.stands c.requires.last c.requires.root c.replace_name.ensures.stands
-    c.in_ok-filled.ensures.ok c.in_ok-filled.ensures.ok_room
-    (λ h. not_deep c (subst (λ (t : Tree). 64 < depth t) (new_tree c.replace_name.ensures.stands c.in_ok-filled.ensures.ok) h))
+    filled_one c.replace_name.new.pool (name_of c.args.name) c.args.source (free_of c.args.pool.now) (free_of c.replace_name.new.pool)
+    (tree_of c.args.tree c.args.pool.now) c.requires.stands c.requires.last c.requires.root
+    c.in_ok-filled.ensures.ok c.in_ok-filled.ensures.ok_room (not_deep c)
 
 pub returns-clause-shallow : goal.returns-clause-shallow
 returns-clause-shallow c = let h : 64 < depth (tree_of c.in_ok-filled.filled c.replace_name.new.pool) → ⊥ = not_deep c in omega arith

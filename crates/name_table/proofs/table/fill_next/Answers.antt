@@ -1,6 +1,6 @@
 -- Where the name does not occur the tree stays.
-use Rattle.name_table.proofs.Shared.{◌≡◌, ◌<◌, Bool, true, false, subst, arith, depth, Tree, tree_at, name_of, free_of, plain, tree_of, forest, given_handed}
-use Rattle.name_table.proofs.{Fillings.{filled_one, new_tree, put_in}, table.fill_next.Goals.Then-not-holds_name}
+use Rattle.name_table.proofs.Shared.{◌≡◌, Bool, true, false, arith, tree_at, name_of, free_of, plain, tree_of, forest, given_handed}
+use Rattle.name_table.proofs.{Fillings.{filled_one, put_in}, table.fill_next.Goals.Then-not-holds_name}
 use Rattle.tree_handles.proofs.Seen.{expression}
 use Rattle.tree_walks.proofs.{Absent.absent, Filling.IsDone}
 use Rattle.name_table.proofs.table.fill_next.Goals as goal
@@ -19,12 +19,9 @@ returns-then-not-holds_name-clause-ok c = put_in (name_of c.args.name) c.args.so
 
 pub returns-then-not-holds_name-clause-ok_room : goal.returns-then-not-holds_name-clause-ok_room
 returns-then-not-holds_name-clause-ok_room c =
-    filled_one (name_of c.args.name) c.args.source (free_of c.args.pool.now) (free_of c.args.pool.now) (tree_of c.args.tree c.args.pool.now) c.requires.stands c.requires.last c.requires.root c.requires.stands
-    (stays c).gives (stays c).room
-    (λ h. not_deep (subst (λ (t : Tree). 64 < depth t) (new_tree c.requires.stands c.requires.last) h))
-  where
-    not_deep : 64 < depth (tree_of c.args.tree c.args.pool.now) → ⊥
-    not_deep h = omega (arith, c.requires.shallow)
+    filled_one c.args.pool.now (name_of c.args.name) c.args.source (free_of c.args.pool.now) (free_of c.args.pool.now)
+    (tree_of c.args.tree c.args.pool.now) c.requires.stands c.requires.last c.requires.root
+    (stays c).gives (stays c).room (λ h. omega (arith, c.requires.shallow))
 
 pub returns-then-not-holds_name-clause-front : goal.returns-then-not-holds_name-clause-front
 returns-then-not-holds_name-clause-front c = (stays c).front
