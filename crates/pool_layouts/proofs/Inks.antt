@@ -1,48 +1,16 @@
 -- The characters of ink, and their bytes.
-use Rattle.pool_layouts.proofs.Shared.{◌≡◌, ◌≢◌, ◌∙◌, ℕ, zero, suc, ◌+◌, ◌<◌, List, [], ◌∷◌, ◌++◌, replicate, Bool, true, encode_utf8_all, sym, ap, arith}
-use Rattle.pool_layouts.proofs.Shared.{append_assoc, append-nil, list_all, and_parts, nat_tests, replicate-append-replicate, encodes-append, is_digit, is_name_byte, Payload, named, IsPayload}
-use Rattle.pool_layouts.proofs.Shared.{spelled, decimal, decimal_is, Content, extended, Forest, payload_in, Ink, Leaf, IsBlack, IsInk, leaf_characters, ink_characters, inked, blanks_left}
-use Rattle.pool_layouts.proofs.{Shared.{leaf_bytes, blanks}, Lines.{AreSmall, small_bytes, replicate_small, times_encoded}}
+use Rattle.pool_layouts.proofs.Shared.{◌≡◌, ◌≢◌, ◌∙◌, ℕ, zero, suc, ◌+◌, ◌<◌, List, [], ◌∷◌, ◌++◌, replicate, encode_utf8_all, sym, ap, arith}
+use Rattle.pool_layouts.proofs.Shared.{append_assoc, append-nil, replicate-append-replicate, encodes-append, Payload, IsPayload}
+use Rattle.pool_layouts.proofs.Shared.{Content, extended, Forest, payload_in, Ink, Leaf, IsBlack, IsInk, leaf_characters, ink_characters, inked, blanks_left}
+use Rattle.pool_layouts.proofs.{Shared.{leaf_bytes, blanks}, Characters.{AreSmall, small_bytes, replicate_small, times_encoded, decimal_plain, names_plain, plain_small, plain_black}}
 
 -- ---- characters of leaves
 
-digit_small : (b : ℕ) → is_digit b ≡ true → b < 128
-digit_small b h = grind (arith, nat_tests)
-
-digit_black : (b : ℕ) → is_digit b ≡ true → b ≢ 32
-digit_black b h = grind (arith, nat_tests)
-
-name_small : (b : ℕ) → is_name_byte b ≡ true → b < 128
-name_small b h = grind (arith, nat_tests)
-
-name_black : (b : ℕ) → is_name_byte b ≡ true → b ≢ 32
-name_black b h = grind (arith, nat_tests)
-
-all_small : (p : ℕ → Bool) → ((b : ℕ) → p b ≡ true → b < 128) → (cs : List ℕ) → list_all p cs ≡ true → AreSmall cs
-all_small p f [] h = tt
-all_small p f (c ∷ cs) h = let (a, b) = and_parts (p c) (list_all p cs) h in (f c a, all_small p f cs b)
-
-all_black : (p : ℕ → Bool) → ((b : ℕ) → p b ≡ true → b ≢ 32) → (cs : List ℕ) → list_all p cs ≡ true → IsBlack cs
-all_black p f [] h = tt
-all_black p f (c ∷ cs) h = let (a, b) = and_parts (p c) (list_all p cs) h in (f c a, all_black p f cs b)
-
-pub decimal_small : (n : ℕ) → AreSmall (decimal n)
-decimal_small n = all_small is_digit digit_small (decimal n) (decimal_is n).all
-
-pub names_small : (x : List ℕ) → IsPayload (named x) → AreSmall x
-names_small x h = all_small is_name_byte name_small x (spelled x h).spelled
-
-pub decimal_black : (n : ℕ) → IsBlack (decimal n)
-decimal_black n = all_black is_digit digit_black (decimal n) (decimal_is n).all
-
-pub names_black : (x : List ℕ) → IsPayload (named x) → IsBlack x
-names_black x h = all_black is_name_byte name_black x (spelled x h).spelled
-
 leaf_encoded : (x : Payload) → IsPayload x → leaf_characters x ≢ [] → encode_utf8_all (leaf_characters x) ≡ leaf_bytes x
-leaf_encoded x h some = grind (arith, small_bytes, decimal_small, names_small, times_encoded)
+leaf_encoded x h some = grind (arith, small_bytes, plain_small, decimal_plain, names_plain, times_encoded)
 
 leaf_black : (x : Payload) → IsPayload x → IsBlack (leaf_characters x)
-leaf_black x h = grind (arith, decimal_black, names_black)
+leaf_black x h = grind (arith, plain_black, decimal_plain, names_plain)
 
 replicate_black : (n c : ℕ) → c ≢ 32 → IsBlack (replicate n c)
 replicate_black zero c h = tt

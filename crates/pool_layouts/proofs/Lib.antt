@@ -10,11 +10,11 @@ pub mod Suffixes
 pub mod RowExtents
 pub mod Measuring
 pub mod Opening
+pub mod Characters
 pub mod Lines
 pub mod Inks
 pub mod Painted
 pub mod RowLines
 pub mod SerialTokens
 pub mod OneLines
-pub mod Columns
 pub mod Shared

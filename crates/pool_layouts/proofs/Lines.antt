@@ -1,66 +1,14 @@
--- The rows of a picture: how long they are, and how many bytes they take.
-use Rattle.pool_layouts.proofs.Shared.{◌≡◌, ◌≢◌, ◌∙◌, if◌then◌else◌, ℕ, zero, suc, ◌+◌, ◌-◌, ◌*◌, ◌/◌, ◌<◌, ◌≤◌, max, List, [], ◌∷◌, ◌++◌, length, replicate, codes, nat_lt, nat_eq, nat_abs, Bool}
-use Rattle.pool_layouts.proofs.Shared.{true, false, Option, encode_utf8_all, refl, sym, ap, arith, length-append, length-replicate, encodes-append, encode_ascii, decimal, times_sign, root_sign}
-use Rattle.pool_layouts.proofs.Shared.{IsBlack, Layout, number, name, plus, minus, times, row, fraction, raised, radical, paren, Layouts, nothing, beside, Block, height, blanks, bar, roof}
-use Rattle.pool_layouts.proofs.Shared.{root_character, level, line_or_blanks, level_line, level_lines, centred, widths, most_above, times_character, picture, pictures, cut, before_cut}
-use Rattle.std.specs.Char.{encode_utf8}
-
--- ---- each row has as many characters as the picture is wide
-
-blanks_long : (n : ℕ) → length (blanks n) ≡ n
-blanks_long n = length-replicate n 32
-
-bar_long : (n : ℕ) → length (bar n) ≡ n
-bar_long n = length-replicate n 45
-
-roof_long : (n : ℕ) → length (roof n) ≡ n
-roof_long n = length-replicate n 95
-
-level_long : (b : Block) (o : Option ℕ) → ((y : ℕ) → length (b.line y) ≡ b.width) → length (line_or_blanks b o) ≡ b.width
-level_long b o h = grind (arith, blanks_long)
-
-centred_long : (w : ℕ) (b : Block) (y : ℕ) → b.width ≤ w → length (b.line y) ≡ b.width → length (centred w b y) ≡ w
-centred_long w b y few h =
-    omega (
-      arith,
-      few,
-      h,
-      length-append (blanks ((w - b.width) / 2)) (b.line y ++ blanks (w - b.width - (w - b.width) / 2)),
-      length-append (b.line y) (blanks (w - b.width - (w - b.width) / 2)),
-      blanks_long ((w - b.width) / 2),
-      blanks_long (w - b.width - (w - b.width) / 2),
-    )
-
-if_long : (t : Bool) (a b : List ℕ) (n : ℕ) → length a ≡ n → length b ≡ n → length (if t then a else b) ≡ n
-if_long t a b n g h = grind arith
-
-mutual
-  pub lines_long : (l : Layout) (y : ℕ) → length ((picture l).line y) ≡ (picture l).width
-  lines_long (number q) y = refl
-  lines_long (name x) y = refl
-  lines_long plus y = refl
-  lines_long minus y = refl
-  lines_long times y = refl
-  lines_long (row ls) y = levels_long ls (most_above (pictures ls)) y
-  lines_long (fraction a b) y =
-      let w = max (picture a).width (picture b).width in
-      if_long (nat_lt y (height (picture a))) _ _ w (centred_long w (picture a) y (omega arith) (lines_long a y))
-      (if_long (nat_eq y (height (picture a))) _ _ w (bar_long w) (centred_long w (picture b) (y - height (picture a) - 1) (omega arith) (lines_long b (y - height (picture a) - 1))))
-  lines_long (raised a) y = if_long (nat_lt y (height (picture a))) _ _ (picture a).width (lines_long a y) (blanks_long (picture a).width)
-  lines_long (radical a) y = if_long (nat_eq y 0) _ _ (1 + (picture a).width) (omega (arith, roof_long (picture a).width)) (omega (arith, lines_long a (y - 1)))
-  lines_long (paren a) y = omega (arith, lines_long a y, length-append ((picture a).line y) (codes ")"))
-
-  pub levels_long : (ls : Layouts) (above y : ℕ) → length (level_lines above y (pictures ls)) ≡ widths (pictures ls)
-  levels_long nothing above y = refl
-  levels_long (beside l ls) above y =
-      omega (
-        arith,
-        level_long (picture l) (level above y (picture l).above (height (picture l))) (lines_long l),
-        levels_long ls above y,
-        length-append (level_line above y (picture l)) (level_lines above y (pictures ls)),
-      )
-
--- ---- bytes
+-- The rows of a picture: how long they are, how many bytes they take, and how many columns.
+use Rattle.pool_layouts.proofs.Shared.{⊤, ◌≡◌, ◌≢◌, ◌∙◌, if◌then◌else◌, ℕ, zero, suc, ◌+◌, ◌-◌, ◌*◌, ◌/◌, ◌≤◌, max, List, [], ◌∷◌, ◌++◌, length, replicate, nat_lt, nat_le, nat_eq, nat_abs}
+use Rattle.pool_layouts.proofs.Shared.{Bool, true, false, Option, Some, None, encode_utf8_all, refl, ap, arith, length-append, length-replicate, encodes-append, decimal, nat_tests, IsWritable}
+use Rattle.pool_layouts.proofs.Shared.{AreWritable, Tree, num, symbol, undef, add, mult, power, root, neg, sub, div, Trees, none, more, Layout, number, name, plus, minus, times, row, fraction}
+use Rattle.pool_layouts.proofs.Shared.{raised, radical, paren, Layouts, nothing, beside, unless, layout, layout_of_sum, layout_of_terms, layout_of_product, layout_of_factors, Block, height, blanks}
+use Rattle.pool_layouts.proofs.Shared.{root_character, level, line_or_blanks, level_lines, centred, widths, most_above, picture, pictures, cut, before_cut, IsBlack}
+use Rattle.pool_layouts.proofs.Characters.{AreNarrow, ArePlain, printable, times_narrow, root_narrow, narrow_append, narrow_replicate, one_each, all_simple, all_columns, plain_small, plain_narrow}
+use Rattle.pool_layouts.proofs.Characters.{small_bytes, replicate_small, times_encoded, root_encoded, decimal_plain, names_plain}
+use Rattle.unicode_width.specs.Width.{str_width}
+use Rattle.unicode_width.proofs.Rules.{str_width-simple}
+use Rattle.pool_layouts.specs.Columns.{TakeOneColumnEach}
 
 -- the sign characters of a layout that take more than one byte
 abbrev mutual
@@ -80,105 +28,147 @@ abbrev mutual
   all_signs nothing = 0
   all_signs (beside l ls) = signs l + all_signs ls
 
--- characters of one byte
-abbrev pub AreSmall : List ℕ → Type 0
-AreSmall [] = Unit {0}
-AreSmall (c ∷ cs) = (c < 128) × AreSmall cs
-
-pub small_bytes : (cs : List ℕ) → AreSmall cs → encode_utf8_all cs ≡ cs
-small_bytes [] h = refl
-small_bytes (c ∷ cs) h = (λ k. encode_ascii c h.0 k ++ small_bytes cs h.1 k)
-
-pub replicate_small : (n c : ℕ) → c < 128 → AreSmall (replicate n c)
-replicate_small zero c h = tt
-replicate_small (suc n) c h = (h, replicate_small n c h)
-
--- each leaf has characters of one byte
+-- the characters of each number and name are plain
 abbrev mutual
-  pub HasSmallLeaves : Layout → Type 0
-  HasSmallLeaves (number q) = AreSmall (decimal (nat_abs q.num))
-  HasSmallLeaves (name x) = AreSmall x
-  HasSmallLeaves (row ls) = HaveSmallLeaves ls
-  HasSmallLeaves (fraction a b) = HasSmallLeaves a × HasSmallLeaves b
-  HasSmallLeaves (raised a) = HasSmallLeaves a
-  HasSmallLeaves (radical a) = HasSmallLeaves a
-  HasSmallLeaves (paren a) = HasSmallLeaves a
-  HasSmallLeaves l = Unit {0}
+  pub HasPlainLeaves : Layout → Type 0
+  HasPlainLeaves (number q) = ArePlain (decimal (nat_abs q.num))
+  HasPlainLeaves (name x) = ArePlain x
+  HasPlainLeaves (row ls) = HavePlainLeaves ls
+  HasPlainLeaves (fraction a b) = HasPlainLeaves a × HasPlainLeaves b
+  HasPlainLeaves (raised a) = HasPlainLeaves a
+  HasPlainLeaves (radical a) = HasPlainLeaves a
+  HasPlainLeaves (paren a) = HasPlainLeaves a
+  HasPlainLeaves l = ⊤
 
-  pub HaveSmallLeaves : Layouts → Type 0
-  HaveSmallLeaves nothing = Unit {0}
-  HaveSmallLeaves (beside l ls) = HasSmallLeaves l × HaveSmallLeaves ls
+  pub HavePlainLeaves : Layouts → Type 0
+  HavePlainLeaves nothing = ⊤
+  HavePlainLeaves (beside l ls) = HasPlainLeaves l × HavePlainLeaves ls
 
--- × takes two bytes, and √ three
-pub times_encoded : encode_utf8_all (times_character ∷ []) ≡ times_sign
-unfolding encode_utf8
-times_encoded = refl
+-- ---- rows
 
-pub root_encoded : encode_utf8_all (root_character ∷ []) ≡ root_sign
-unfolding encode_utf8
-root_encoded = refl
+-- so many characters; where the leaves are plain, each of one column, with two bytes more for each of so many signs
+record IsRow (P : Type 0) (cs : List ℕ) (w n : ℕ) : Type 0 where
+  long : length cs ≡ w
+  narrow : P → AreNarrow cs
+  bytes : P → length (encode_utf8_all cs) ≤ w + 2 * n
 
 bytes-append : (a b : List ℕ) → length (encode_utf8_all (a ++ b)) ≡ length (encode_utf8_all a) + length (encode_utf8_all b)
 bytes-append a b = ap length (encodes-append a b) ∙ length-append (encode_utf8_all a) (encode_utf8_all b)
 
-bytes-small : (cs : List ℕ) → AreSmall cs → length (encode_utf8_all cs) ≡ length cs
-bytes-small cs h = ap length (small_bytes cs h)
+row_append : {P : Type 0} {a b : List ℕ} {w v n m u k : ℕ} → IsRow P a w n → IsRow P b v m → w + v ≡ u → n + m ≡ k → IsRow P (a ++ b) u k
+row_append {a = a} {b = b} g h e l = record {
+  long = omega (arith, length-append a b, g.long, h.long);
+  narrow = λ p. narrow_append a b (g.narrow p) (h.narrow p);
+  bytes = λ p. omega (arith, bytes-append a b, g.bytes p, h.bytes p);
+}
 
-bytes-blanks : (n : ℕ) → length (encode_utf8_all (blanks n)) ≡ n
-bytes-blanks n = bytes-small (blanks n) (replicate_small n 32 (omega arith)) ∙ blanks_long n
+row_more : {P : Type 0} {cs : List ℕ} {w n k : ℕ} → IsRow P cs w n → n ≤ k → IsRow P cs w k
+row_more h l = record { long = h.long; narrow = h.narrow; bytes = λ p. omega (arith, h.bytes p, l) }
 
-level_bytes : (b : Block) (o : Option ℕ) (n : ℕ) → ((y : ℕ) → length (encode_utf8_all (b.line y)) ≤ b.width + n) → length (encode_utf8_all (line_or_blanks b o)) ≤ b.width + n
-level_bytes b o n h = grind (arith, bytes-blanks)
+row_plain : {P : Type 0} (cs : List ℕ) → (P → ArePlain cs) → IsRow P cs (length cs) 0
+row_plain cs f = record { long = refl; narrow = λ p. plain_narrow cs (f p); bytes = λ p. omega (arith, ap length (small_bytes cs (plain_small cs (f p)))) }
 
-centred_bytes : (w : ℕ) (b : Block) (y n : ℕ) → b.width ≤ w → length (encode_utf8_all (b.line y)) ≤ b.width + n → length (encode_utf8_all (centred w b y)) ≤ w + n
-centred_bytes w b y n h k = grind (arith, bytes-append, bytes-blanks)
+row_replicate : {P : Type 0} {n : ℕ} (k c : ℕ) → nat_lt c 127 ≡ true → nat_le 32 c ≡ true → IsRow P (replicate k c) k n
+row_replicate k c g h = record {
+  long = length-replicate k c;
+  narrow = λ p. narrow_replicate k c (printable c g h);
+  bytes = λ p. omega (arith, ap length (small_bytes (replicate k c) (replicate_small k c (grind (arith, nat_tests)))), length-replicate k c);
+}
 
-if_bytes : (t : Bool) (a b : List ℕ) (n : ℕ) → length (encode_utf8_all a) ≤ n → length (encode_utf8_all b) ≤ n → length (encode_utf8_all (if t then a else b)) ≤ n
-if_bytes t a b n g h = grind arith
+row_if : {P : Type 0} {a b : List ℕ} {w n : ℕ} (t : Bool) → IsRow P a w n → IsRow P b w n → IsRow P (if t then a else b) w n
+row_if true g h = g
+row_if false g h = h
 
-root_bytes : (t : Bool) (cs : List ℕ) → length (encode_utf8_all ((if t then root_character else 32) ∷ cs)) ≤ 3 + length (encode_utf8_all cs)
-root_bytes true cs = omega (arith, bytes-append (root_character ∷ []) cs, ap length root_encoded)
-root_bytes false cs = omega (arith, bytes-append (32 ∷ []) cs, bytes-small (32 ∷ []) (omega arith, tt))
+row_centred : {P : Type 0} {n k : ℕ} (w : ℕ) (b : Block) (y : ℕ) → b.width ≤ w → IsRow P (b.line y) b.width n → n ≤ k → IsRow P (centred w b y) w k
+row_centred w b y few h l =
+    row_append (row_replicate {n = 0} ((w - b.width) / 2) 32 refl refl) (row_append (row_more h l)
+    (row_replicate {n = 0} (w - b.width - (w - b.width) / 2) 32 refl refl) refl refl) (omega (arith, few)) (omega arith)
+
+row_level : {P : Type 0} {n : ℕ} (b : Block) (o : Option ℕ) → ((y : ℕ) → IsRow P (b.line y) b.width n) → IsRow P (line_or_blanks b o) b.width n
+row_level b (Some y) h = h y
+row_level b None h = row_replicate b.width 32 refl refl
+
+row_root : {P : Type 0} (t : Bool) → IsRow P ((if t then root_character else 32) ∷ []) 1 1
+row_root true = record { long = refl; narrow = λ p. (root_narrow, tt); bytes = λ p. omega (arith, ap length root_encoded) }
+row_root false = row_replicate 1 32 refl refl
 
 mutual
-  pub lines_bytes : (l : Layout) → HasSmallLeaves l → (y : ℕ) → length (encode_utf8_all ((picture l).line y)) ≤ (picture l).width + 2 * signs l
-  lines_bytes (number q) h y = omega (arith, bytes-small (decimal (nat_abs q.num)) h)
-  lines_bytes (name x) h y = omega (arith, bytes-small x h)
-  lines_bytes plus h y = omega (arith, bytes-small (codes "+") (omega arith, tt))
-  lines_bytes minus h y = omega (arith, bytes-small (codes "-") (omega arith, tt))
-  lines_bytes times h y = omega (arith, ap length times_encoded)
-  lines_bytes (row ls) h y = levels_bytes ls h (most_above (pictures ls)) y
-  lines_bytes (fraction a b) h y =
+  rows : {P : Type 0} (l : Layout) → (P → HasPlainLeaves l) → (y : ℕ) → IsRow P ((picture l).line y) (picture l).width (signs l)
+  rows (number q) f y = row_plain (decimal (nat_abs q.num)) f
+  rows (name x) f y = row_plain x f
+  rows plus f y = row_replicate 1 43 refl refl
+  rows minus f y = row_replicate 1 45 refl refl
+  rows times f y = record { long = refl; narrow = λ p. (times_narrow, tt); bytes = λ p. omega (arith, ap length times_encoded) }
+  rows (row ls) f y = level_rows ls f (most_above (pictures ls)) y
+  rows (fraction a b) f y =
       let w = max (picture a).width (picture b).width in
-      let n = 2 * (signs a + signs b) in
-      let k = y - height (picture a) - 1 in
-      if_bytes (nat_lt y (height (picture a))) _ _ (w + n) (omega (arith, centred_bytes w (picture a) y (2 * signs a) (omega arith) (lines_bytes a h.0 y)))
-      (if_bytes (nat_eq y (height (picture a))) _ _ (w + n) (omega (arith, bytes-small (bar w) (replicate_small w 45 (omega arith)), bar_long w)) (omega (arith, centred_bytes w (picture b) k (2 * signs b) (omega arith) (lines_bytes b h.1 k))))
-  lines_bytes (raised a) h y = if_bytes (nat_lt y (height (picture a))) _ _ ((picture a).width + 2 * signs a) (lines_bytes a h y) (omega (arith, bytes-blanks (picture a).width))
-  lines_bytes (radical a) h y =
-      if_bytes (nat_eq y 0) _ _ (1 + (picture a).width + 2 * (1 + signs a))
-      (omega (arith, bytes-append (32 ∷ []) (roof (picture a).width), bytes-small (32 ∷ []) (omega arith, tt), bytes-small (roof (picture a).width) (replicate_small (picture a).width 95 (omega arith)), roof_long (picture a).width))
-      (omega (arith, root_bytes (nat_eq y ((picture a).above + 1)) ((picture a).line (y - 1)), lines_bytes a h (y - 1)))
-  lines_bytes (paren a) h y =
-      omega (
-        arith,
-        bytes-append (codes "(") ((picture a).line y ++ codes ")"),
-        bytes-append ((picture a).line y) (codes ")"),
-        bytes-small
-            (codes "(") (omega arith, tt),
-        bytes-small (codes ")") (omega arith, tt),
-        lines_bytes a h y,
-      )
+      row_if (nat_lt y (height (picture a))) (row_centred w (picture a) y (omega arith) (rows a (λ p. (f p).0) y) (omega arith))
+      (row_if (nat_eq y (height (picture a))) (row_replicate w 45 refl refl)
+      (row_centred w (picture b) (y - height (picture a) - 1) (omega arith) (rows b (λ p. (f p).1) (y - height (picture a) - 1)) (omega arith)))
+  rows (raised a) f y = row_if (nat_lt y (height (picture a))) (rows a f y) (row_replicate (picture a).width 32 refl refl)
+  rows (radical a) f y =
+      row_if (nat_eq y 0) (row_append (row_replicate {n = 0} 1 32 refl refl) (row_replicate {n = 1 + signs a} (picture a).width 95 refl refl) refl (omega arith))
+      (row_append (row_root (nat_eq y ((picture a).above + 1))) (rows a f (y - 1)) refl refl)
+  rows (paren a) f y =
+      row_append (row_replicate {n = 0} 1 40 refl refl) (row_append (rows a f y) (row_replicate {n = 0} 1 41 refl refl) refl refl) (omega arith) (omega arith)
 
-  pub levels_bytes : (ls : Layouts) → HaveSmallLeaves ls → (above y : ℕ) → length (encode_utf8_all (level_lines above y (pictures ls))) ≤ widths (pictures ls) + 2 * all_signs ls
-  levels_bytes nothing h above y = omega arith
-  levels_bytes (beside l ls) h above y =
-      omega (
-        arith,
-        level_bytes (picture l) (level above y (picture l).above (height (picture l))) (2 * signs l) (lines_bytes l h.0),
-        levels_bytes ls h.1 above y,
-        bytes-append (level_line above y (picture l)) (level_lines above y (pictures ls)),
-      )
+  level_rows : {P : Type 0} (ls : Layouts) → (P → HavePlainLeaves ls) → (above y : ℕ) → IsRow P (level_lines above y (pictures ls)) (widths (pictures ls)) (all_signs ls)
+  level_rows nothing f above y = row_plain [] (λ p. tt)
+  level_rows (beside l ls) f above y =
+      row_append (row_level (picture l) (level above y (picture l).above (height (picture l))) (rows l (λ p. (f p).0))) (level_rows ls (λ p. (f p).1) above y) refl refl
+
+-- each row has as many characters as the picture is wide
+pub lines_long : (l : Layout) (y : ℕ) → length ((picture l).line y) ≡ (picture l).width
+lines_long l y = (rows {P = ⊥} l (λ p. absurd p) y).long
+
+pub lines_bytes : (l : Layout) → HasPlainLeaves l → (y : ℕ) → length (encode_utf8_all ((picture l).line y)) ≤ (picture l).width + 2 * signs l
+lines_bytes l h y = (rows {P = ⊤} l (λ p. h) y).bytes tt
+
+-- ---- faces
+
+plain_unless : (t : Bool) (l : Layout) → HasPlainLeaves l → HasPlainLeaves (unless t l)
+plain_unless true l h = h
+plain_unless false l h = h
+
+mutual
+  pub plain_leaves : (u : Tree) → IsWritable u → HasPlainLeaves (layout u)
+  plain_leaves (num q) w = decimal_plain (nat_abs q.num)
+  plain_leaves (symbol x) w = names_plain x w
+  plain_leaves undef w = tt
+  plain_leaves (add ts) w = plain_sum ts w
+  plain_leaves (mult ts) w = plain_product ts w
+  plain_leaves (power b e) w = (plain_unless _ (layout b) (plain_leaves b w.0), (plain_leaves e w.1, tt))
+  plain_leaves (root a) w = plain_leaves a w
+  plain_leaves (neg a) w = (tt, (plain_unless _ (layout a) (plain_leaves a w), tt))
+  plain_leaves (sub a b) w = (plain_unless _ (layout a) (plain_leaves a w.0), (tt, (plain_unless _ (layout b) (plain_leaves b w.1), tt)))
+  plain_leaves (div a b) w = (plain_leaves a w.0, plain_leaves b w.1)
+
+  plain_sum : (ts : Trees) → AreWritable ts → HavePlainLeaves (layout_of_sum ts)
+  plain_sum none w = tt
+  plain_sum (more t ts) w = (plain_unless _ (layout t) (plain_leaves t w.0), plain_terms ts w.1)
+
+  plain_terms : (ts : Trees) → AreWritable ts → HavePlainLeaves (layout_of_terms ts)
+  plain_terms none w = tt
+  plain_terms (more t ts) w = (tt, (plain_unless _ (layout t) (plain_leaves t w.0), plain_terms ts w.1))
+
+  plain_product : (ts : Trees) → AreWritable ts → HavePlainLeaves (layout_of_product ts)
+  plain_product none w = tt
+  plain_product (more t ts) w = (plain_unless _ (layout t) (plain_leaves t w.0), plain_factors ts w.1)
+
+  plain_factors : (ts : Trees) → AreWritable ts → HavePlainLeaves (layout_of_factors ts)
+  plain_factors none w = tt
+  plain_factors (more t ts) w = (tt, (plain_unless _ (layout t) (plain_leaves t w.0), plain_factors ts w.1))
+
+narrow_picture : (u : Tree) → IsWritable u → (y : ℕ) → AreNarrow ((picture (layout u)).line y)
+narrow_picture u w y = (rows {P = ⊤} (layout u) (λ p. plain_leaves u w) y).narrow tt
+
+pub picture_columns : (u : Tree) → IsWritable u → (y : ℕ) → TakeOneColumnEach ((picture (layout u)).line y)
+picture_columns u w y = one_each _ (narrow_picture u w y)
+
+pub row_columns : (u : Tree) → IsWritable u → (y : ℕ) → str_width false ((picture (layout u)).line y) ≡ (picture (layout u)).width
+row_columns u w y =
+    let cs = (picture (layout u)).line y in
+    str_width-simple false cs (all_simple cs (narrow_picture u w y)) ∙ all_columns cs (narrow_picture u w y) ∙ lines_long (layout u) y
 
 -- ---- blanks at the end
 
@@ -191,21 +181,18 @@ pub cut-append_blanks : (xs : List ℕ) (n : ℕ) → cut (xs ++ blanks n) ≡ c
 cut-append_blanks [] n = cut_blanks n
 cut-append_blanks (x ∷ xs) n = ap (before_cut x) (cut-append_blanks xs n)
 
-before_cut_some : (c d : ℕ) (ds rest : List ℕ) → rest ≡ d ∷ ds → before_cut c rest ≡ c ∷ rest
-before_cut_some c d ds rest e = ap (before_cut c) e ∙ ap (λ (x : List ℕ). c ∷ x) (sym e)
-
 black_head : (c : ℕ) → c ≢ 32 → before_cut c [] ≡ c ∷ []
 black_head c h = grind arith
 
 -- what ends with other characters keeps all of them
 pub cut_black : (c : ℕ) (cs : List ℕ) → IsBlack (c ∷ cs) → cut (c ∷ cs) ≡ c ∷ cs
 cut_black c [] h = black_head c h.0
-cut_black c (d ∷ ds) h = before_cut_some c d ds (cut (d ∷ ds)) (cut_black d ds h.1) ∙ ap (λ (x : List ℕ). c ∷ x) (cut_black d ds h.1)
+cut_black c (d ∷ ds) h = ap (before_cut c) (cut_black d ds h.1)
 
 pub cut_kept : (xs : List ℕ) (c : ℕ) (cs : List ℕ) → IsBlack (c ∷ cs) → cut (xs ++ (c ∷ cs)) ≡ xs ++ (c ∷ cs)
 cut_kept [] c cs h = cut_black c cs h
-cut_kept (x ∷ []) c cs h = before_cut_some x c cs (cut (c ∷ cs)) (cut_black c cs h) ∙ ap (λ (y : List ℕ). x ∷ y) (cut_black c cs h)
-cut_kept (x ∷ y ∷ xs) c cs h = before_cut_some x y (xs ++ (c ∷ cs)) (cut (y ∷ (xs ++ (c ∷ cs)))) (cut_kept (y ∷ xs) c cs h) ∙ ap (λ (z : List ℕ). x ∷ z) (cut_kept (y ∷ xs) c cs h)
+cut_kept (x ∷ []) c cs h = ap (before_cut x) (cut_black c cs h)
+cut_kept (x ∷ y ∷ xs) c cs h = ap (before_cut x) (cut_kept (y ∷ xs) c cs h)
 
 before_short : (c : ℕ) (cs : List ℕ) → length (before_cut c cs) ≤ suc (length cs)
 before_short c cs = grind arith

@@ -1,10 +1,11 @@
 -- The extents of layouts: what they are for each kind of node, and that they are small.
-use Rattle.pool_layouts.proofs.Shared.{◌≡◌, ◌∙◌, ℕ, suc, ◌+◌, ◌*◌, ◌<◌, ◌≤◌, ◌≢◌, max, List, [], ◌∷◌, ◌++◌, length, drop, drop-cons, add-one, get_or, nat_abs, nat_eq, true, refl, sym, ap, subst}
-use Rattle.pool_layouts.proofs.Shared.{arith, append_assoc, eqb-true, length-append, length-drop, drop-drop, drop_at, Kind, Payload, rational, named, bare, is_bare, kind_of_payload, size_of_payload}
+use Rattle.pool_layouts.proofs.Shared.{◌≡◌, ◌∙◌, ℕ, suc, ◌+◌, ◌*◌, ◌<◌, ◌≤◌, ◌≢◌, max, List, [], ◌∷◌, ◌++◌, length, drop, get_or, nat_abs, nat_eq, true, refl, sym, ap}
+use Rattle.pool_layouts.proofs.Shared.{arith, append_assoc, eqb-true, length-append, drop-drop, drop_at, Kind, Payload, rational, named, bare, is_bare, kind_of_payload, size_of_payload}
 use Rattle.pool_layouts.proofs.Shared.{IsPayload, begins_with_letter, spelled, decimal_is, decimal, numerator_is, size_from, Label, Forest, empty, tree, join, arity, node_of, bytes_in, nodes_in}
 use Rattle.pool_layouts.proofs.Shared.{Extent, composed, drawn, drawings, composes, composes_kind, AllComposed, extent_from, extent_of, extents_of, HasSmall, HasPair, IsOver, IsSmall, AllValid}
-use Rattle.pool_layouts.proofs.Shared.{leaf_width, Layout, Layouts, nothing, beside, leaf_characters, Block, height, picture, pictures, widths, most_above, most_below, side_by_side, lowest}
+use Rattle.pool_layouts.proofs.Shared.{leaf_width, Layout, nothing, beside, leaf_characters, Block, height, picture, pictures, widths, most_above, most_below, side_by_side, lowest}
 use Rattle.std.proofs.Common.{ℤ}
+use Rattle.pool_layouts.proofs.{Shared.{Bool, false}, Shown.{inside_list, first_is}, Lines.{signs, all_signs}}
 use Rattle.calc_terms.specs.Ratio.{Ratio, IsRat}
 use Rattle.line_text.proofs.Lengths.{number_text}
 use Rattle.calc_terms.specs.declared.kind.Kind.TheVariants as kind
@@ -30,47 +31,42 @@ pub bytes_nodes : (f : Forest) → 8 * nodes_in f ≤ bytes_in f
 bytes_nodes empty = omega arith
 bytes_nodes (tree l k r) = omega (arith, bytes_nodes k, bytes_nodes r, size_from (node_of l k))
 
--- ---- how large a picture is
+-- ---- how large a picture is: its rows, and the bytes of each
 
-pub record IsBounded (b : Block) (nodes bytes : ℕ) : Type 0 where
-  pub width : b.width ≤ 2 * bytes
-  pub rows : b.above + 1 + b.below ≤ suc nodes
+pub record IsBounded (l : Layout) (nodes bytes : ℕ) : Type 0 where
+  pub width : (picture l).width + 2 * signs l ≤ 2 * bytes
+  pub rows : height (picture l) ≤ suc nodes
 
-fraction_bounded : (k : Forest) (ls : Layouts) → drawings k ≡ ls → nat_eq (arity k) 2 ≡ true → widths (blocks_of k) ≤ 2 * bytes_in k → heights (blocks_of k) ≤ nodes_in k
-    → IsBounded (picture (composed kind.Fraction (drawings k))) (nodes_in k) (size_of_payload (bare kind.Fraction) + bytes_in k)
-fraction_bounded empty ls e h w n = absurd cc
-fraction_bounded (tree l a empty) ls e h w n = absurd cc
-fraction_bounded (tree l a (tree m b empty)) ls e h w n = record { width = omega (arith, w); rows = omega (arith, n) }
-fraction_bounded (tree l a (tree m b (tree o d r))) ls e h w n = absurd (omega (arith, eqb-true (arity (tree l a (tree m b (tree o d r)))) 2 h))
+fraction_bounded : (k : Forest) → nat_eq (arity k) 2 ≡ true → widths (blocks_of k) + 2 * all_signs (drawings k) ≤ 2 * bytes_in k → heights (blocks_of k) ≤ nodes_in k
+    → IsBounded (composed kind.Fraction (drawings k)) (nodes_in k) (size_of_payload (bare kind.Fraction) + bytes_in k)
+fraction_bounded (tree l a (tree m b empty)) h w n = record { width = omega (arith, w); rows = omega (arith, n) }
+fraction_bounded k h w n = absurd (omega (arith, eqb-true (arity k) 2 h))
 
-one_bounded : (j : Kind) (k : Forest) (size : ℕ) → nat_eq (arity k) 1 ≡ true → widths (blocks_of k) ≤ 2 * bytes_in k → heights (blocks_of k) ≤ nodes_in k
-    → ((l : Layout) → (picture l).width + 0 ≤ 2 * bytes_in k → height (picture l) + 0 ≤ nodes_in k → IsBounded (picture (composed j (beside l nothing))) (nodes_in k) (size + bytes_in k)) → IsBounded (picture (composed j (drawings k))) (nodes_in k) (size + bytes_in k)
-one_bounded j empty size h w n e = absurd cc
-one_bounded j (tree l a empty) size h w n e = e (drawn l.payload (drawings a)) w n
-one_bounded j (tree l a (tree m b r)) size h w n e = absurd (omega (arith, eqb-true (arity (tree l a (tree m b r))) 1 h))
+one_bounded : (j : Kind) (k : Forest) (size : ℕ) → nat_eq (arity k) 1 ≡ true → widths (blocks_of k) + 2 * all_signs (drawings k) ≤ 2 * bytes_in k → heights (blocks_of k) ≤ nodes_in k
+    → ((l : Layout) → (picture l).width + 2 * signs l ≤ 2 * bytes_in k → height (picture l) ≤ nodes_in k → IsBounded (composed j (beside l nothing)) (nodes_in k) (size + bytes_in k))
+    → IsBounded (composed j (drawings k)) (nodes_in k) (size + bytes_in k)
+one_bounded j (tree l a empty) size h w n e = e (drawn l.payload (drawings a)) (omega (arith, w)) (omega (arith, n))
+one_bounded j k size h w n e = absurd (omega (arith, eqb-true (arity k) 1 h))
 
-composed_bounded : (j : Kind) (k : Forest) → composes_kind j (arity k) ≡ true → widths (blocks_of k) ≤ 2 * bytes_in k → heights (blocks_of k) ≤ nodes_in k
-    → IsBounded (picture (composed j (drawings k))) (nodes_in k) (size_of_payload (bare j) + bytes_in k)
-composed_bounded kind.Plus k h w n = record { width = omega arith; rows = omega arith }
-composed_bounded kind.Minus k h w n = record { width = omega arith; rows = omega arith }
-composed_bounded kind.Times k h w n = record { width = omega arith; rows = omega arith }
+composed_bounded : (j : Kind) (k : Forest) → composes_kind j (arity k) ≡ true → widths (blocks_of k) + 2 * all_signs (drawings k) ≤ 2 * bytes_in k → heights (blocks_of k) ≤ nodes_in k
+    → IsBounded (composed j (drawings k)) (nodes_in k) (size_of_payload (bare j) + bytes_in k)
 composed_bounded kind.Row k h w n = record { width = omega (arith, w); rows = omega (arith, n, most_heights (blocks_of k)) }
-composed_bounded kind.Fraction k h w n = fraction_bounded k (drawings k) refl h w n
+composed_bounded kind.Fraction k h w n = fraction_bounded k h w n
 composed_bounded kind.Raised k h w n = one_bounded kind.Raised k _ h w n (λ l a b. record { width = omega (arith, a); rows = omega (arith, b) })
 composed_bounded kind.Radical k h w n = one_bounded kind.Radical k _ h w n (λ l a b. record { width = omega (arith, a); rows = omega (arith, b) })
 composed_bounded kind.Paren k h w n = one_bounded kind.Paren k _ h w n (λ l a b. record { width = omega (arith, a); rows = omega (arith, b) })
-composed_bounded j k h w n = absurd cc
+composed_bounded j k h w n = grind arith
 
 -- the digits of a number, and its node
 pub digits_fit : (r : Ratio) → IsRat r → length (decimal (nat_abs (lowest r.num r.den).num)) ≤ 2 * size_of_payload (rational r)
 digits_fit r p = grind (arith, numerator_is, number_text)
 
-pub drawn_bounded : (x : Payload) (k : Forest) → composes x (arity k) ≡ true → IsPayload x → widths (blocks_of k) ≤ 2 * bytes_in k → heights (blocks_of k) ≤ nodes_in k
-    → IsBounded (block_of x k) (nodes_in k) (size_of_payload x + bytes_in k)
+pub drawn_bounded : (x : Payload) (k : Forest) → composes x (arity k) ≡ true → IsPayload x → widths (blocks_of k) + 2 * all_signs (drawings k) ≤ 2 * bytes_in k → heights (blocks_of k) ≤ nodes_in k
+    → IsBounded (drawn x (drawings k)) (nodes_in k) (size_of_payload x + bytes_in k)
 drawn_bounded x k h p w n = grind (arith, digits_fit, composed_bounded)
 
 pub record AreBounded (f : Forest) : Type 0 where
-  pub widths_are : widths (blocks_of f) ≤ 2 * bytes_in f
+  pub widths_are : widths (blocks_of f) + 2 * all_signs (drawings f) ≤ 2 * bytes_in f
   pub heights_are : heights (blocks_of f) ≤ nodes_in f
 
 pub bounded : (f : Forest) → AllComposed f → AllValid f → AreBounded f
@@ -86,21 +82,6 @@ pub small_first : (l : Label) (k r : Forest) → AllComposed (tree l k r) → Al
 small_first l k r c v h = grind (arith, bounded, drawn_bounded, bytes_nodes, size_from)
 
 -- ---- reading the list
-
-pub inside_extents : (es rest : List Extent) (n : ℕ) (e : Extent) → drop n es ≡ e ∷ rest → n < length es
-inside_extents es rest n e h = omega (arith, ap length h, length-drop n es)
-
-pub extent_read : (es rest : List Extent) (n : ℕ) (e d : Extent) → drop n es ≡ e ∷ rest → get_or es n d ≡ e
-extent_read es rest n e d h = by (drop-cons es n d (inside_extents es rest n e h))
-  where
-    by : drop n es ≡ get_or es n d ∷ drop (suc n) es → get_or es n d ≡ e
-    by g = cc
-
-pub others_read : (es rest : List Extent) (n : ℕ) (e : Extent) → drop n es ≡ e ∷ rest → drop (n + 1) es ≡ rest
-others_read es rest n e h = ap (λ (k : ℕ). drop k es) (add-one n) ∙ by (drop-cons es n e (inside_extents es rest n e h))
-  where
-    by : drop n es ≡ get_or es n e ∷ drop (suc n) es → drop (suc n) es ≡ rest
-    by g = cc
 
 pub extents_length : (f : Forest) → length (extents_of f) ≡ nodes_in f
 extents_length empty = refl
@@ -126,10 +107,10 @@ behind_first l k r first es h = record {
 -- ---- what the first extents are
 
 pub first_read : (l : Label) (k r : Forest) (first : ℕ) (es : List Extent) (d : Extent) → HasSmall (tree l k r) first es → get_or es first d ≡ extent_of l.payload k
-first_read l k r first es d h = extent_read es ((extents_of k ++ extents_of r) ++ h.behind) first (extent_of l.payload k) d h.extents_are
+first_read l k r first es d h = first_is es ((extents_of k ++ extents_of r) ++ h.behind) first (extent_of l.payload k) d h.extents_are
 
 pub first_within : (l : Label) (k r : Forest) (first : ℕ) (es : List Extent) → HasSmall (tree l k r) first es → first < length es
-first_within l k r first es h = inside_extents es ((extents_of k ++ extents_of r) ++ h.behind) first (extent_of l.payload k) h.extents_are
+first_within l k r first es h = inside_list es ((extents_of k ++ extents_of r) ++ h.behind) first (extent_of l.payload k) h.extents_are
 
 pub first_small : (l : Label) (k r : Forest) (first : ℕ) (es : List Extent) → HasSmall (tree l k r) first es → IsSmall (extent_of l.payload k)
 first_small l k r first es h = small_first l k r h.composed_parts h.valid_parts h.few
@@ -140,55 +121,29 @@ pub extent_same : (n m w v a b d e : ℕ) → n ≡ m → w ≡ v → a ≡ b �
     → (let r : Extent = record { nodes = n; width = w; above = a; below = d } in r) ≡ (let s : Extent = record { nodes = m; width = v; above = b; below = e } in s)
 extent_same n m w v a b d e p q r s = grind arith
 
--- one part
-pub record HasOne (j : Kind) (x : Payload) (k : Forest) : Type 0 where
-  pub label : Label
-  pub below : Forest
-  pub part_is : k ≡ tree label below empty
-  pub payload_is : x ≡ bare j
-
-pub one_part_of : (j : Kind) (x : Payload) (k : Forest) → x ≡ bare j → nat_eq (arity k) 1 ≡ true → HasOne j x k
-one_part_of j x empty e h = absurd cc
-one_part_of j x (tree l k empty) e h = record { label = l; below = k; part_is = refl; payload_is = e }
-one_part_of j x (tree l k (tree m i r)) e h = absurd (omega (arith, eqb-true (arity (tree l k (tree m i r))) 1 h))
-
-pub record HasTwo (x : Payload) (k : Forest) : Type 0 where
-  pub upper : Label
-  pub above : Forest
-  pub lower : Label
-  pub below : Forest
-  pub parts_are : k ≡ tree upper above (tree lower below empty)
-  pub payload_is : x ≡ bare kind.Fraction
-
-pub two_parts_of : (x : Payload) (k : Forest) → x ≡ bare kind.Fraction → nat_eq (arity k) 2 ≡ true → HasTwo x k
-two_parts_of x empty e h = absurd cc
-two_parts_of x (tree l k empty) e h = absurd cc
-two_parts_of x (tree l a (tree m b empty)) e h = record { upper = l; above = a; lower = m; below = b; parts_are = refl; payload_is = e }
-two_parts_of x (tree l a (tree m b (tree o d r))) e h = absurd (omega (arith, eqb-true (arity (tree l a (tree m b (tree o d r)))) 2 h))
-
 pub bare_of : (x : Payload) (j : Kind) → IsPayload x → is_bare j ≡ true → kind_of_payload x ≡ j → x ≡ bare j
 bare_of x j p b e = grind arith
 
--- a leaf
-pub leaf_extent : (x : Payload) (k : Forest) → IsPayload x → composes x (arity k) ≡ true → (kind_of_payload x ≡ kind.Row → ⊥) → (kind_of_payload x ≡ kind.Fraction → ⊥)
-    → (kind_of_payload x ≡ kind.Raised → ⊥) → (kind_of_payload x ≡ kind.Radical → ⊥) → (kind_of_payload x ≡ kind.Paren → ⊥)
+-- the kinds of nodes that have parts
+abbrev pub has_parts : Kind → Bool
+has_parts kind.Row = true
+has_parts kind.Fraction = true
+has_parts kind.Raised = true
+has_parts kind.Radical = true
+has_parts kind.Paren = true
+has_parts k = false
+
+pub no_parts : (k : Kind) → (k ≡ kind.Row → ⊥) → (k ≡ kind.Fraction → ⊥) → (k ≡ kind.Raised → ⊥) → (k ≡ kind.Radical → ⊥) → (k ≡ kind.Paren → ⊥) → has_parts k ≡ false
+no_parts k a b c d e = grind arith
+
+pub leaf_extent : (x : Payload) (k : Forest) → IsPayload x → composes x (arity k) ≡ true → has_parts (kind_of_payload x) ≡ false
     → (let r : Extent = record { nodes = 1; width = leaf_width x; above = 0; below = 0 } in r) ≡ extent_of x k
-leaf_extent (rational r) empty p c a b d e f = extent_same 1 1 _ _ 0 0 0 0 refl (ap (λ (z : ℤ). length (decimal (nat_abs z))) (sym (numerator_is r p))) refl refl
-leaf_extent (rational r) (tree l k s) p c a b d e f = absurd (omega (arith, eqb-true (arity (tree l k s)) 0 c))
-leaf_extent (named y) empty p c a b d e f = refl
-leaf_extent (named y) (tree l k s) p c a b d e f = absurd (omega (arith, eqb-true (arity (tree l k s)) 0 c))
-leaf_extent (bare kind.Plus) empty p c a b d e f = refl
-leaf_extent (bare kind.Plus) (tree l k s) p c a b d e f = absurd (omega (arith, eqb-true (arity (tree l k s)) 0 c))
-leaf_extent (bare kind.Minus) empty p c a b d e f = refl
-leaf_extent (bare kind.Minus) (tree l k s) p c a b d e f = absurd (omega (arith, eqb-true (arity (tree l k s)) 0 c))
-leaf_extent (bare kind.Times) empty p c a b d e f = refl
-leaf_extent (bare kind.Times) (tree l k s) p c a b d e f = absurd (omega (arith, eqb-true (arity (tree l k s)) 0 c))
-leaf_extent (bare kind.Row) k p c a b d e f = absurd (a refl)
-leaf_extent (bare kind.Fraction) k p c a b d e f = absurd (b refl)
-leaf_extent (bare kind.Raised) k p c a b d e f = absurd (d refl)
-leaf_extent (bare kind.Radical) k p c a b d e f = absurd (e refl)
-leaf_extent (bare kind.Paren) k p c a b d e f = absurd (f refl)
-leaf_extent (bare j) k p c a b d e f = absurd cc
+leaf_extent (rational r) empty p c h = extent_same 1 1 _ _ 0 0 0 0 refl (ap (λ (z : ℤ). length (decimal (nat_abs z))) (sym (numerator_is r p))) refl refl
+leaf_extent (named y) empty p c h = refl
+leaf_extent (bare kind.Plus) empty p c h = refl
+leaf_extent (bare kind.Minus) empty p c h = refl
+leaf_extent (bare kind.Times) empty p c h = refl
+leaf_extent x k p c h = absurd (grind (arith, eqb-true))
 
 -- ---- a node over one part, and over two
 
@@ -203,8 +158,11 @@ pub over_one : {x : Payload} {k : Forest} {first : ℕ} {es : List Extent} (j : 
     → kind_of_payload x ≡ j → IsOneOver j x k first es
 over_one {x = x} {k = k} {first = first} {es = es} j n b o e =
     let is : x ≡ bare j = bare_of x j o.payload b e in
-    let one = one_part_of j x k is (sym (n (arity k)) ∙ ap (λ (y : Payload). composes y (arity k)) (sym is) ∙ o.composed_node) in
-    record { label = one.label; below = one.below; part_is = one.part_is; payload_is = is; small = subst (λ (f : Forest). HasSmall f first es) one.part_is o.small }
+    by k o.small (sym (n (arity k)) ∙ ap (λ (y : Payload). composes y (arity k)) (sym is) ∙ o.composed_node) is
+  where
+    by : (f : Forest) → HasSmall f first es → nat_eq (arity f) 1 ≡ true → x ≡ bare j → IsOneOver j x f first es
+    by (tree l a empty) s h is = record { label = l; below = a; part_is = refl; payload_is = is; small = s }
+    by f s h is = absurd (omega (arith, eqb-true (arity f) 1 h))
 
 pub record IsTwoOver (x : Payload) (k : Forest) (first : ℕ) (es : List Extent) : Type 0 where
   pub upper : Label
@@ -218,8 +176,11 @@ pub record IsTwoOver (x : Payload) (k : Forest) (first : ℕ) (es : List Extent)
 pub over_two : {x : Payload} {k : Forest} {first : ℕ} {es : List Extent} → IsOver x k first es → kind_of_payload x ≡ kind.Fraction → IsTwoOver x k first es
 over_two {x = x} {k = k} {first = first} {es = es} o e =
     let is : x ≡ bare kind.Fraction = bare_of x kind.Fraction o.payload refl e in
-    let two = two_parts_of x k is (ap (λ (y : Payload). composes y (arity k)) (sym is) ∙ o.composed_node) in
-    record { upper = two.upper; above = two.above; lower = two.lower; below = two.below; parts_are = two.parts_are; payload_is = is; small = subst (λ (f : Forest). HasSmall f first es) two.parts_are o.small }
+    by k o.small (ap (λ (y : Payload). composes y (arity k)) (sym is) ∙ o.composed_node) is
+  where
+    by : (f : Forest) → HasSmall f first es → nat_eq (arity f) 2 ≡ true → x ≡ bare kind.Fraction → IsTwoOver x f first es
+    by (tree l a (tree m b empty)) s h is = record { upper = l; above = a; lower = m; below = b; parts_are = refl; payload_is = is; small = s }
+    by f s h is = absurd (omega (arith, eqb-true (arity f) 2 h))
 
 pub pair_over : {x : Payload} {k : Forest} {first : ℕ} {es : List Extent} (t : IsTwoOver x k first es) → HasPair t.lower t.below first es
 pair_over t = record { upper = t.upper; above = t.above; others = empty; small = t.small }
@@ -254,10 +215,8 @@ row_is x k p e = extent_same _ _ _ _ _ _ _ _ (omega arith) refl refl refl ∙ ap
 
 -- ---- the line of a leaf
 
-pub leaf_line : (x : Payload) (k : Forest) (y : ℕ) → IsPayload x → composes x (arity k) ≡ true → (kind_of_payload x ≡ kind.Row → ⊥) → (kind_of_payload x ≡ kind.Fraction → ⊥)
-    → (kind_of_payload x ≡ kind.Raised → ⊥) → (kind_of_payload x ≡ kind.Radical → ⊥) → (kind_of_payload x ≡ kind.Paren → ⊥)
-    → (block_of x k).line y ≡ leaf_characters x
-leaf_line x k y p c a b d e f = grind (arith, numerator_is)
+pub leaf_line : (x : Payload) (k : Forest) (y : ℕ) → IsPayload x → composes x (arity k) ≡ true → has_parts (kind_of_payload x) ≡ false → (block_of x k).line y ≡ leaf_characters x
+leaf_line x k y p c h = grind (arith, numerator_is)
 
 some_list : (xs : List ℕ) → 0 < length xs → xs ≢ []
 some_list xs h e = grind arith
@@ -265,17 +224,7 @@ some_list xs h e = grind arith
 name_some : (x : List ℕ) → begins_with_letter x ≡ true → x ≢ []
 name_some x h e = grind arith
 
-pub leaf_some : (x : Payload) (k : Forest) → IsPayload x → composes x (arity k) ≡ true → (kind_of_payload x ≡ kind.Row → ⊥) → (kind_of_payload x ≡ kind.Fraction → ⊥)
-    → (kind_of_payload x ≡ kind.Raised → ⊥) → (kind_of_payload x ≡ kind.Radical → ⊥) → (kind_of_payload x ≡ kind.Paren → ⊥)
-    → leaf_characters x ≢ []
-leaf_some (rational r) k p c a b d e f = some_list (decimal (nat_abs r.num)) (decimal_is (nat_abs r.num)).some
-leaf_some (named x) k p c a b d e f = name_some x (spelled x p).begins
-leaf_some (bare kind.Plus) k p c a b d e f = λ q. cc
-leaf_some (bare kind.Minus) k p c a b d e f = λ q. cc
-leaf_some (bare kind.Times) k p c a b d e f = λ q. cc
-leaf_some (bare kind.Row) k p c a b d e f = absurd (a refl)
-leaf_some (bare kind.Fraction) k p c a b d e f = absurd (b refl)
-leaf_some (bare kind.Raised) k p c a b d e f = absurd (d refl)
-leaf_some (bare kind.Radical) k p c a b d e f = absurd (e refl)
-leaf_some (bare kind.Paren) k p c a b d e f = absurd (f refl)
-leaf_some (bare j) k p c a b d e f = absurd cc
+pub leaf_some : (x : Payload) (k : Forest) → IsPayload x → composes x (arity k) ≡ true → has_parts (kind_of_payload x) ≡ false → leaf_characters x ≢ []
+leaf_some (rational r) k p c h = some_list (decimal (nat_abs r.num)) (decimal_is (nat_abs r.num)).some
+leaf_some (named x) k p c h = name_some x (spelled x p).begins
+leaf_some (bare j) k p c h = grind arith

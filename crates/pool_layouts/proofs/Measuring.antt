@@ -82,9 +82,8 @@ measuring s i at cells es st x e some within h =
 -- ---- the whole tree is measured
 
 pub alone : (t : Forest) → arity t ≡ 1 → (l : Label) × (k : Forest) × (t ≡ tree l k empty)
-alone empty e = absurd (omega (arith, e))
 alone (tree l k empty) e = (l, k, refl)
-alone (tree l k (tree m j r)) e = absurd (omega (arith, e))
+alone t e = absurd (omega (arith, e))
 
 pub record IsMeasured (s : State) (i : ℕ) (es : List Extent) : Type 0 where
   pub label : Label

@@ -1,11 +1,11 @@
 -- What the steps of a row open to.
-use Rattle.pool_layouts.proofs.Shared.{◌≡◌, ◌≢◌, ◌∙◌, if◌then◌else◌, ℕ, suc, ◌+◌, ◌-◌, ◌*◌, ◌<◌, ◌≤◌, max, List, [], ◌∷◌, ◌++◌, length, map, drop, get_or, codes, nat_lt, nat_eq, Bool, Option, Some}
-use Rattle.pool_layouts.proofs.Shared.{None, refl, sym, ap, subst, arith, append_assoc, append-nil, lt-ltb, le-ltb, map-append, drop-drop, drop_at, Kind, Node, Payload, bare, kind_of_payload}
+use Rattle.pool_layouts.proofs.Shared.{◌≡◌, ◌≢◌, ◌∙◌, if◌then◌else◌, false, ℕ, suc, ◌+◌, ◌-◌, ◌*◌, ◌<◌, ◌≤◌, max, List, [], ◌∷◌, ◌++◌, length, map, drop, get_or, codes, nat_lt, nat_eq, Bool, Option}
+use Rattle.pool_layouts.proofs.Shared.{Some, None, refl, sym, ap, subst, arith, append_assoc, append-nil, lt-ltb, le-ltb, map-append, drop-drop, drop_at, Kind, Node, Payload, bare, kind_of_payload}
 use Rattle.pool_layouts.proofs.Shared.{IsPayload, Label, Forest, empty, tree, flatten, node_of, nodes_in, holds, payload_in, Visit, Extent, Nothing, Leaf, Bar, Roof, Root, Close, Ink, Step, Opened}
 use Rattle.pool_layouts.proofs.Shared.{visit_of, visits_of, extent_of, extents_of, HasSmall, IsOver, IsSmall, IsSpanOf, ShowsPart, ShowsLevel, Shows, ShowsIf, Opens, IsInk, ink_characters, weight}
 use Rattle.pool_layouts.proofs.Shared.{weight_if, count_if, leaf_characters, opened, span_of, part_of, level_if, level_opened, centred_opened, fraction_opened, raised_opened, radical_opened}
 use Rattle.pool_layouts.proofs.Shared.{paren_opened, row_opened, Block, height, blanks, bar, roof, root_character, level, line_or_blanks, level_lines, centred, most_above, visits_length}
-use Rattle.pool_layouts.proofs.{Measures.{blocks_of, block_of, others_read, behind_first, first_small, IsOneOver, IsTwoOver, bare_of, leaf_line, leaf_some}, Shown.{first_is, others_are, inside_list}}
+use Rattle.pool_layouts.proofs.{Measures.{blocks_of, block_of, behind_first, first_small, IsOneOver, IsTwoOver, bare_of, leaf_line, leaf_some, has_parts}, Shown.{first_is, others_are, inside_list}}
 use Rattle.std.proofs.Common.{◌^◌}
 use Rattle.pool_layouts.specs.declared.steps.Span.{Span}
 use Rattle.calc_terms.specs.declared.kind.Kind.TheVariants as kind
@@ -54,7 +54,7 @@ pub span_below : {base : Forest} {cells : List Visit} {es : List Extent} {span :
 span_below {cells = cells} {es = es} {span = span} l k s = record {
   small = record {
     behind = s.small.behind;
-    extents_are = others_read es ((extents_of k ++ []) ++ s.small.behind) span.at (extent_of l.payload k) s.small.extents_are
+    extents_are = others_are es ((extents_of k ++ []) ++ s.small.behind) span.at (extent_of l.payload k) s.small.extents_are
         ∙ ap (λ (x : List Extent). x ++ s.small.behind) (append-nil (extents_of k));
     composed_parts = s.small.composed_parts.1;
     valid_parts = s.small.valid_parts.1;
@@ -173,12 +173,9 @@ level_opens {base = base} {cells = cells} {es = es} {span = span} {above = above
 -- ---- one layout
 
 module _ {base : Forest} {cells : List Visit} {es : List Extent} {span : Span} {y : ℕ} {cs : List ℕ} (p : ShowsPart base cells es span y cs) where
-  pub part_kind : (j : Kind) (d : Visit) → (get_or cells span.at d).kind ≡ j → kind_of_payload p.label.payload ≡ j
-  part_kind j d e = ap (λ (x : Visit). x.kind) (sym (cell_here p.label p.below d p.listed)) ∙ e
-
-  -- the same, by the node that stands there
+  -- its kind, by the node that stands there
   pub seen_kind : (j : Kind) (d : Visit) → d ≡ get_or cells span.at d → d.kind ≡ j → kind_of_payload p.label.payload ≡ j
-  seen_kind j d is k = part_kind j d (ap (λ (x : Visit). x.kind) (sym is) ∙ k)
+  seen_kind j d is k = ap (λ (x : Visit). x.kind) (sym (is ∙ cell_here p.label p.below d p.listed)) ∙ k
 
   part_over : IsOver p.label.payload p.below (span.at + 1) es
   part_over = is_over p.label p.below p.listed
@@ -187,10 +184,10 @@ module _ {base : Forest} {cells : List Visit} {es : List Extent} {span : Span} {
   below_listed = span_below p.label p.below p.listed
 
   -- a row
-  pub row_opens : (e : Extent) (d : Visit) → (get_or cells span.at d).kind ≡ kind.Row → e ≡ extent_of p.label.payload p.below
+  pub row_opens : (e : Extent) → kind_of_payload p.label.payload ≡ kind.Row → e ≡ extent_of p.label.payload p.below
       → Opens base cells es (step.Part span y) cs (row_opened e (span_of (span.at + 1) span.end) y)
-  row_opens e d k q =
-      let is : p.label.payload ≡ bare kind.Row = bare_of p.label.payload kind.Row p.listed.small.valid_parts.0 refl (part_kind kind.Row d k) in
+  row_opens e k q =
+      let is : p.label.payload ≡ bare kind.Row = bare_of p.label.payload kind.Row p.listed.small.valid_parts.0 refl k in
       let above : e.above ≡ most_above (blocks_of p.below) = ap (λ (x : Extent). x.above) q ∙ ap (λ (x : Payload). (block_of x p.below).above) is in
       let small = first_small p.label p.below empty span.at es p.listed.small in
       let few : most_above (blocks_of p.below) ≤ 2 ^ 20 = omega (arith, sym above, ap (λ (x : Extent). x.above) q, small.above) in
@@ -300,20 +297,19 @@ module _ {base : Forest} {cells : List Visit} {es : List Extent} {span : Span} {
       (λ g. centred_opens t.lower t.below mid span.end w (y - height a - 1) (span_rest t.upper t.above (tree t.lower t.below empty) mid both refl) (omega (arith, p.row_small)) g (omega (arith, ends)) (omega (arith, ends))))))
 
   -- a leaf
-  pub leaf_opens : (d : Visit) (i : ℕ) → i ≡ (get_or cells span.at d).id → ((get_or cells span.at d).kind ≡ kind.Row → ⊥) → ((get_or cells span.at d).kind ≡ kind.Fraction → ⊥)
-      → ((get_or cells span.at d).kind ≡ kind.Raised → ⊥)
-      → ((get_or cells span.at d).kind ≡ kind.Radical → ⊥) → ((get_or cells span.at d).kind ≡ kind.Paren → ⊥) → Opens base cells es (step.Part span y) cs (opened 0 (Leaf i) None None)
-  leaf_opens d i e a b f g h =
+  pub leaf_opens : (d : Visit) → d ≡ get_or cells span.at d → has_parts d.kind ≡ false → Opens base cells es (step.Part span y) cs (opened 0 (Leaf d.id) None None)
+  leaf_opens d e h =
       let x = p.label.payload in
-      let cell = cell_here p.label p.below d p.listed in
-      let id_is : i ≡ p.label.id = e ∙ ap (λ (c : Visit). c.id) cell in
-      let kind_is : (get_or cells span.at d).kind ≡ kind_of_payload x = ap (λ (c : Visit). c.kind) cell in
-      let payload : payload_in i base ≡ x = ap (λ (n : ℕ). payload_in n base) id_is ∙ p.listed.found.0.1 in
+      let cell = e ∙ cell_here p.label p.below d p.listed in
+      let id_is : d.id ≡ p.label.id = ap (λ (c : Visit). c.id) cell in
+      let leaf : has_parts (kind_of_payload x) ≡ false = ap (λ (c : Visit). has_parts c.kind) (sym cell) ∙ h in
+      let payload : payload_in d.id base ≡ x = ap (λ (n : ℕ). payload_in n base) id_is ∙ p.listed.found.0.1 in
       let over = part_over in
-      let line = leaf_line x p.below y over.payload over.composed_node (λ q. a (kind_is ∙ q)) (λ q. b (kind_is ∙ q)) (λ q. f (kind_is ∙ q)) (λ q. g (kind_is ∙ q)) (λ q. h (kind_is ∙ q)) in
-      let some = leaf_some x p.below over.payload over.composed_node (λ q. a (kind_is ∙ q)) (λ q. b (kind_is ∙ q)) (λ q. f (kind_is ∙ q)) (λ q. g (kind_is ∙ q)) (λ q. h (kind_is ∙ q)) in
-      alone 0 (Leaf i) (p.line_is ∙ line ∙ ap leaf_characters (sym payload)) (omega (arith, p.listed.end_is))
-      (ap (λ (n : ℕ). holds n base) id_is ∙ p.listed.found.0.0, subst IsPayload (sym payload) over.payload, subst (λ (z : Payload). leaf_characters z ≢ []) (sym payload) some)
+      alone 0 (Leaf d.id) (p.line_is ∙ leaf_line x p.below y over.payload over.composed_node leaf ∙ ap leaf_characters (sym payload)) (omega (arith, p.listed.end_is)) (
+        ap (λ (n : ℕ). holds n base) id_is ∙ p.listed.found.0.0,
+        subst IsPayload (sym payload) over.payload,
+        subst (λ (z : Payload). leaf_characters z ≢ []) (sym payload) (leaf_some x p.below over.payload over.composed_node leaf),
+      )
 
 pub blanks_opens : {base : Forest} {cells : List Visit} {es : List Extent} {cs : List ℕ} (n : ℕ) → Shows base cells es (step.Blanks n) cs
     → Opens base cells es (step.Blanks n) cs (opened n Nothing None None)

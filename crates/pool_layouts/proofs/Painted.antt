@@ -3,6 +3,7 @@ use Rattle.pool_layouts.proofs.Shared.{option_to_list, ◌≡◌, ◌∙◌, ℕ
 use Rattle.pool_layouts.proofs.Shared.{append-nil, length-append, length-replicate, replicate-append-replicate, encodes-append, Forest, Visit, Extent, Step, Opened, Shows, ShowsIf, Opens, IsLine}
 use Rattle.pool_layouts.proofs.{Shared.{IsBlack, ink_characters, inked, blanks_left, weight, weight_if, count_if, blanks, cut}, Inks.ink_black, Lines.{cut-append_blanks, cut_kept}}
 use Rattle.pool_layouts.specs.Painting.{count}
+use Rattle.line_text.proofs.Walks.{snoc_same}
 
 -- ---- weights
 
@@ -39,27 +40,25 @@ abbrev pub AreShown : Forest → List Visit → List Extent → List Owed → Ty
 AreShown base cells es [] = Unit {0}
 AreShown base cells es (o ∷ os) = Shows base cells es o.step o.cs × AreShown base cells es os
 
-pub record IsPainting (base : Forest) (cells : List Visit) (es : List Extent) (steps : List Step) (owed_blanks : ℕ) (bytes start line : List ℕ) : Type 0 where
-  pub owed : List Owed
+pub record IsOwing (base : Forest) (cells : List Visit) (es : List Extent) (owed : List Owed) (owed_blanks : ℕ) (bytes start line : List ℕ) : Type 0 where
   pub seen : List ℕ
-  pub steps_are : steps ≡ steps_of owed
   pub chars : seen ++ (blanks owed_blanks ++ chars_of owed) ≡ line
   pub bytes_are : bytes ≡ start ++ encode_utf8_all seen
   pub kept : cut seen ≡ seen
   pub each : AreShown base cells es owed
   pub few : counts_of owed ≤ length cells
 
+pub record IsPainting (base : Forest) (cells : List Visit) (es : List Extent) (steps : List Step) (owed_blanks : ℕ) (bytes start line : List ℕ) : Type 0 where
+  pub owed : List Owed
+  pub steps_are : steps ≡ steps_of owed
+  pub state : IsOwing base cells es owed owed_blanks bytes start line
+
 pub painting_start : {base : Forest} {cells : List Visit} {es : List Extent} {steps : List Step} {line : List ℕ} (start : List ℕ) → IsLine base cells es steps line
     → IsPainting base cells es steps 0 start start line
 painting_start {line = line} start h = record {
   owed = record { step = h.only; cs = line } ∷ [];
-  seen = [];
   steps_are = h.steps_are;
-  chars = append-nil line;
-  bytes_are = sym (append-nil start);
-  kept = refl;
-  each = (h.shown, tt);
-  few = omega (arith, h.fits);
+  state = record { seen = []; chars = append-nil line; bytes_are = sym (append-nil start); kept = refl; each = (h.shown, tt); few = omega (arith, h.fits) };
 }
 
 -- a step that paints something counts
@@ -75,52 +74,25 @@ steps_few base cells es (o ∷ os) h = omega (arith, steps_few base cells es os 
 pub record IsDue (base : Forest) (cells : List Visit) (es : List Extent) (s : Step) (popped : List Step) (owed_blanks : ℕ) (bytes start line : List ℕ) : Type 0 where
   pub cs : List ℕ
   pub owed : List Owed
-  pub seen : List ℕ
   pub popped_is : popped ≡ steps_of owed
-  pub shown : Shows base cells es s cs
-  pub chars : seen ++ (blanks owed_blanks ++ (cs ++ chars_of owed)) ≡ line
-  pub bytes_are : bytes ≡ start ++ encode_utf8_all seen
-  pub kept : cut seen ≡ seen
-  pub each : AreShown base cells es owed
-  pub few : count s + counts_of owed ≤ length cells
-
-snoc_same : (xs ys : List Step) (x y : Step) → xs ++ x ∷ [] ≡ ys ++ y ∷ [] → (xs ≡ ys) × (x ≡ y)
-snoc_same [] [] x y e = (refl, cc)
-snoc_same [] (b ∷ ys) x y e = absurd (omega (arith, ap length e, length-append ys (y ∷ [])))
-snoc_same (a ∷ xs) [] x y e = absurd (omega (arith, ap length e, length-append xs (x ∷ [])))
-snoc_same (a ∷ xs) (b ∷ ys) x y e =
-    let tails : xs ++ x ∷ [] ≡ ys ++ y ∷ [] = cc in
-    let heads : a ≡ b = cc in
-    let same = snoc_same xs ys x y tails in
-    (ap (λ (z : Step). z ∷ xs) heads ∙ ap (λ (zs : List Step). b ∷ zs) same.0, same.1)
+  pub state : IsOwing base cells es (record { step = s; cs = cs } ∷ owed) owed_blanks bytes start line
 
 pub due : {base : Forest} {cells : List Visit} {es : List Extent} {steps : List Step} {owed_blanks : ℕ} {bytes start line : List ℕ} (s : Step) (popped : List Step)
     → IsPainting base cells es steps owed_blanks bytes start line → steps ≡ popped ++ s ∷ []
     → IsDue base cells es s popped owed_blanks bytes start line
-due {base = base} {cells = cells} {es = es} {steps = steps} {owed_blanks = owed_blanks} {bytes = bytes} {start = start} {line = line} s popped p e = by p.owed p.steps_are p.chars p.each p.few
+due {base = base} {cells = cells} {es = es} {steps = steps} {owed_blanks = owed_blanks} {bytes = bytes} {start = start} {line = line} s popped p e = by p.owed p.steps_are p.state
   where
-    by : (os : List Owed) → steps ≡ steps_of os → p.seen ++ (blanks owed_blanks ++ chars_of os) ≡ line → AreShown base cells es os → counts_of os ≤ length cells
-        → IsDue base cells es s popped owed_blanks bytes start line
-    by [] q c a f = absurd (omega (arith, ap length (sym e ∙ q), length-append popped (s ∷ [])))
-    by (o ∷ os) q c a f =
+    by : (os : List Owed) → steps ≡ steps_of os → IsOwing base cells es os owed_blanks bytes start line → IsDue base cells es s popped owed_blanks bytes start line
+    by [] q x = absurd (omega (arith, ap length (sym e ∙ q), length-append popped (s ∷ [])))
+    by (o ∷ os) q x =
         let same = snoc_same popped (steps_of os) s o.step (sym e ∙ q) in
-        record {
-          cs = o.cs;
-          owed = os;
-          seen = p.seen;
-          popped_is = same.0;
-          shown = subst (λ (x : Step). Shows base cells es x o.cs) (sym same.1) a.0;
-          chars = c;
-          bytes_are = p.bytes_are;
-          kept = p.kept;
-          each = a.1;
-          few = omega (arith, f, ap count same.1);
-        }
+        record { cs = o.cs; owed = os; popped_is = same.0; state = subst (λ (z : Step). IsOwing base cells es (record { step = z; cs = o.cs } ∷ os) owed_blanks bytes start line) (sym same.1) x }
 
 -- there is room for two steps in its stead
 pub due_room : {base : Forest} {cells : List Visit} {es : List Extent} {s : Step} {popped : List Step} {owed_blanks : ℕ} {bytes start line : List ℕ}
     → IsDue base cells es s popped owed_blanks bytes start line → length popped + 1 ≤ length cells
-due_room {base = base} {cells = cells} {es = es} {s = s} d = omega (arith, ap length d.popped_is, steps_few base cells es d.owed d.each, counts_one base cells es s d.cs d.shown, d.few)
+due_room {base = base} {cells = cells} {es = es} {s = s} d =
+    omega (arith, ap length d.popped_is, steps_few base cells es d.owed d.state.each.1, counts_one base cells es s d.cs d.state.each.0, d.state.few)
 
 -- ---- it is painted
 
@@ -156,46 +128,50 @@ stepped {base = base} {cells = cells} {es = es} {s = s} {popped = popped} {owed_
     let n = owed_blanks + o.blanks in
     let rest = chars_of d.owed in
     let tail = p.first ++ (p.second ++ rest) in
-    let together : d.seen ++ (((blanks owed_blanks ++ blanks o.blanks) ++ ink) ++ tail) ≡ line
-    = sym (spread d.seen (blanks owed_blanks) (blanks o.blanks) ink p.first p.second rest) ∙ ap (λ (x : List ℕ). d.seen ++ (blanks owed_blanks ++ (x ++ rest))) (sym p.whole) ∙ d.chars in
-    let as_blanks : d.seen ++ ((blanks n ++ ink) ++ tail) ≡ line = ap (λ (x : List ℕ). d.seen ++ ((x ++ ink) ++ tail)) (sym (replicate-append-replicate owed_blanks o.blanks 32)) ∙ together in
-    let whole : (d.seen ++ inked n ink) ++ (blanks (blanks_left n ink) ++ tail) ≡ line
-    = append_assoc d.seen (inked n ink) (blanks (blanks_left n ink) ++ tail) ∙ ap (λ (x : List ℕ). d.seen ++ x) (sym (append_assoc (inked n ink) (blanks (blanks_left n ink)) tail))
-    ∙ ap (λ (x : List ℕ). d.seen ++ (x ++ tail)) (sym (inked_all n ink)) ∙ as_blanks in
-    let (second, second_steps, second_chars, second_counts, second_shown) = shown_if base cells es o.second p.second d.owed p.second_shown d.each in
+    let together : d.state.seen ++ (((blanks owed_blanks ++ blanks o.blanks) ++ ink) ++ tail) ≡ line
+    = sym (spread d.state.seen (blanks owed_blanks) (blanks o.blanks) ink p.first p.second rest)
+    ∙ ap (λ (x : List ℕ). d.state.seen ++ (blanks owed_blanks ++ (x ++ rest))) (sym p.whole) ∙ d.state.chars in
+    let as_blanks : d.state.seen ++ ((blanks n ++ ink) ++ tail) ≡ line =
+    ap (λ (x : List ℕ). d.state.seen ++ ((x ++ ink) ++ tail)) (sym (replicate-append-replicate owed_blanks o.blanks 32)) ∙ together in
+    let whole : (d.state.seen ++ inked n ink) ++ (blanks (blanks_left n ink) ++ tail) ≡ line
+    = append_assoc d.state.seen (inked n ink) (blanks (blanks_left n ink) ++ tail) ∙ ap (λ (x : List ℕ). d.state.seen ++ x) (sym (append_assoc (inked n ink) (blanks (blanks_left n ink)) tail))
+    ∙ ap (λ (x : List ℕ). d.state.seen ++ (x ++ tail)) (sym (inked_all n ink)) ∙ as_blanks in
+    let (second, second_steps, second_chars, second_counts, second_shown) = shown_if base cells es o.second p.second d.owed p.second_shown d.state.each.1 in
     let (first, first_steps, first_chars, first_counts, first_shown) = shown_if base cells es o.first p.first second p.first_shown second_shown in
     let tail_is : chars_of first ≡ tail = first_chars ∙ ap (λ (x : List ℕ). p.first ++ x) second_chars in
     record {
       blanks_few = omega (
         arith,
         ap length as_blanks,
-        length-append d.seen ((blanks n ++ ink) ++ tail),
+        length-append d.state.seen ((blanks n ++ ink) ++ tail),
         length-append (blanks n ++ ink) tail,
         length-append (blanks n) ink,
         length-replicate {A = ℕ} n 32,
       );
-      start_few = omega (arith, ap length d.bytes_are, length-append start (encode_utf8_all d.seen));
+      start_few = omega (arith, ap length d.state.bytes_are, length-append start (encode_utf8_all d.state.seen));
       bytes_few = omega (
         arith,
         ap (λ (x : List ℕ). length (encode_utf8_all x)) whole,
-        ap length (encodes-append (d.seen ++ inked n ink) (blanks (blanks_left n ink) ++ tail)),
-        length-append (encode_utf8_all (d.seen ++ inked n ink)) (encode_utf8_all (blanks (blanks_left n ink) ++ tail)),
-        ap length (encodes-append d.seen (inked n ink)),
-        length-append (encode_utf8_all d.seen) (encode_utf8_all (inked n ink)),
-        ap length d.bytes_are,
-        length-append start (encode_utf8_all d.seen),
+        ap length (encodes-append (d.state.seen ++ inked n ink) (blanks (blanks_left n ink) ++ tail)),
+        length-append (encode_utf8_all (d.state.seen ++ inked n ink)) (encode_utf8_all (blanks (blanks_left n ink) ++ tail)),
+        ap length (encodes-append d.state.seen (inked n ink)),
+        length-append (encode_utf8_all d.state.seen) (encode_utf8_all (inked n ink)),
+        ap length d.state.bytes_are,
+        length-append start (encode_utf8_all d.state.seen),
       );
       goes_on = λ new steps e f. record {
         owed = first;
-        seen = d.seen ++ inked n ink;
         steps_are = f ∙ ap (λ (x : List Step). (x ++ option_to_list o.second) ++ option_to_list o.first) d.popped_is
             ∙ ap (λ (x : List Step). x ++ option_to_list o.first) (sym second_steps) ∙ sym first_steps;
-        chars = ap (λ (x : List ℕ). (d.seen ++ inked n ink) ++ (blanks (blanks_left n ink) ++ x)) tail_is ∙ whole;
-        bytes_are = e ∙ ap (λ (x : List ℕ). x ++ encode_utf8_all (inked n ink)) d.bytes_are ∙ append_assoc start (encode_utf8_all d.seen) (encode_utf8_all (inked n ink))
-            ∙ ap (λ (x : List ℕ). start ++ x) (sym (encodes-append d.seen (inked n ink)));
-        kept = seen_kept d.seen n ink d.kept (ink_black base o.ink p.ink_is);
-        each = first_shown;
-        few = omega (arith, d.few, p.fewer, first_counts, second_counts);
+        state = record {
+          seen = d.state.seen ++ inked n ink;
+          chars = ap (λ (x : List ℕ). (d.state.seen ++ inked n ink) ++ (blanks (blanks_left n ink) ++ x)) tail_is ∙ whole;
+          bytes_are = e ∙ ap (λ (x : List ℕ). x ++ encode_utf8_all (inked n ink)) d.state.bytes_are ∙ append_assoc start (encode_utf8_all d.state.seen) (encode_utf8_all (inked n ink))
+              ∙ ap (λ (x : List ℕ). start ++ x) (sym (encodes-append d.state.seen (inked n ink)));
+          kept = seen_kept d.state.seen n ink d.state.kept (ink_black base o.ink p.ink_is);
+          each = first_shown;
+          few = omega (arith, d.state.few, p.fewer, first_counts, second_counts);
+        };
       };
     }
 
@@ -208,13 +184,13 @@ lighter_steps steps popped new s first second e f h = grind (arith, weight-appen
 
 pub painted : {base : Forest} {cells : List Visit} {es : List Extent} {steps : List Step} {owed_blanks : ℕ} {bytes start line : List ℕ}
     → IsPainting base cells es steps owed_blanks bytes start line → length steps ≡ 0 → bytes ≡ start ++ encode_utf8_all (cut line)
-painted {steps = steps} {owed_blanks = owed_blanks} {bytes = bytes} {start = start} {line = line} p z = by p.owed p.steps_are p.chars
+painted {base = base} {cells = cells} {es = es} {steps = steps} {owed_blanks = owed_blanks} {bytes = bytes} {start = start} {line = line} p z = by p.owed p.steps_are p.state
   where
-    by : (os : List Owed) → steps ≡ steps_of os → p.seen ++ (blanks owed_blanks ++ chars_of os) ≡ line → bytes ≡ start ++ encode_utf8_all (cut line)
-    by (o ∷ os) q c = absurd (omega (arith, ap length q, length-append (steps_of os) (o.step ∷ []), z))
-    by [] q c =
-        let seen_is : p.seen ≡ cut line = sym p.kept ∙ sym (cut-append_blanks p.seen owed_blanks) ∙ ap (λ (x : List ℕ). cut (p.seen ++ x)) (sym (append-nil (blanks owed_blanks))) ∙ ap cut c in
-        p.bytes_are ∙ ap (λ (x : List ℕ). start ++ encode_utf8_all x) seen_is
+    by : (os : List Owed) → steps ≡ steps_of os → IsOwing base cells es os owed_blanks bytes start line → bytes ≡ start ++ encode_utf8_all (cut line)
+    by (o ∷ os) q x = absurd (omega (arith, ap length q, length-append (steps_of os) (o.step ∷ []), z))
+    by [] q x =
+        let seen_is : x.seen ≡ cut line = sym x.kept ∙ sym (cut-append_blanks x.seen owed_blanks) ∙ ap (λ (y : List ℕ). cut (x.seen ++ y)) (sym (append-nil (blanks owed_blanks))) ∙ ap cut x.chars in
+        x.bytes_are ∙ ap (λ (x : List ℕ). start ++ encode_utf8_all x) seen_is
 
 pub option_short : (o : Option Step) → length (option_to_list o) ≤ 1
 option_short o = grind arith

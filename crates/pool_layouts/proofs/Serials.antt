@@ -1,6 +1,6 @@
 -- What is written of a layout is its serial text.
 use Rattle.pool_layouts.proofs.Shared.{◌≡◌, ◌∙◌, ℕ, List, [], ◌++◌, nat_abs, nat_eq, codes, true, refl, sym, ap, arith, append_assoc, append-nil, lowest, decimal, eqb-true}
-use Rattle.pool_layouts.proofs.Shared.{root_sign, times_sign, Payload, rational, named, bare, kind_of_payload, IsPayload, numerator_is, Label, Forest, empty, tree, arity, AllNodes, drawn}
+use Rattle.pool_layouts.proofs.Shared.{root_sign, times_sign, Payload, rational, named, bare, kind_of_payload, IsPayload, numerator_is, Forest, empty, tree, arity, AllNodes, drawn}
 use Rattle.pool_layouts.proofs.Shared.{drawings, drawing, composes, AllComposed, serial, serials, IsValid, WholeText, first_place, kind_closing, leaf_bytes, parentheses, written}
 use Rattle.calc_terms.specs.declared.kind.Kind.TheVariants as kind
 
@@ -13,9 +13,6 @@ one_is a front close = simp (append-nil, append_assoc)
 no_part : (f : Forest) → nat_eq (arity f) 0 ≡ true → f ≡ empty
 no_part empty h = refl
 no_part (tree l k r) h = absurd (omega (arith, eqb-true (arity (tree l k r)) 0 h))
-
-more_than_one : (l m : Label) (a b r : Forest) {A : Type 0} → nat_eq (arity (tree l a (tree m b r))) 1 ≡ true → A
-more_than_one l m a b r h = absurd (omega (arith, eqb-true (arity (tree l a (tree m b r))) 1 h))
 
 -- what is written of a node behind the sign of its place, where it needs no parentheses
 abbrev body_of : Payload → Forest → List ℕ
@@ -42,14 +39,10 @@ body_is (bare kind.Times) k h p b = leaf_written (bare kind.Times) k times_sign 
 body_is (bare kind.Row) k h p b = row_is k b ∙ sym (append-nil (written WholeText k))
 body_is (bare kind.Fraction) (tree l a (tree m c empty)) h p b =
     (λ i. codes "((" ++ (b.0 i ++ (codes ")/(" ++ (b.1.0 i ++ codes "))")))) ∙ fraction_is (body_of l.payload a) (body_of m.payload c) (codes "((") (codes ")/(") (codes "))")
-body_is (bare kind.Fraction) (tree l a (tree m c (tree n d r))) h p b = absurd (omega (arith, eqb-true (arity (tree l a (tree m c (tree n d r)))) 2 h))
 body_is (bare kind.Raised) (tree l a empty) h p b = (λ i. codes "^(" ++ (b.0 i ++ codes ")")) ∙ one_is (body_of l.payload a) (codes "^(") (codes ")")
-body_is (bare kind.Raised) (tree l a (tree m c r)) h p b = more_than_one l m a c r h
 body_is (bare kind.Radical) (tree l a empty) h p b = (λ i. (root_sign ++ codes "(") ++ (b.0 i ++ codes ")")) ∙ one_is (body_of l.payload a) (root_sign ++ codes "(") (codes ")")
-body_is (bare kind.Radical) (tree l a (tree m c r)) h p b = more_than_one l m a c r h
 body_is (bare kind.Paren) (tree l a empty) h p b = (λ i. codes "(" ++ (b.0 i ++ codes ")")) ∙ one_is (body_of l.payload a) (codes "(") (codes ")")
-body_is (bare kind.Paren) (tree l a (tree m c r)) h p b = more_than_one l m a c r h
-body_is (bare k) f h p b = absurd cc
+body_is (bare k) f h p b = absurd (grind (arith, eqb-true))
 
 bodies_are : (f : Forest) → AllComposed f → AllNodes IsValid f → AreBodies f
 bodies_are empty c v = tt
@@ -59,6 +52,5 @@ pub written_serial : (t : Forest) → arity t ≡ 1 → AllComposed t → AllNod
 written_serial t one c v = sym (row_is t (bodies_are t c v)) ∙ by t one
   where
     by : (f : Forest) → arity f ≡ 1 → serials (drawings f) ≡ serial (drawing f)
-    by empty e = absurd (omega (arith, e))
     by (tree l k empty) e = append-nil (serial (drawn l.payload (drawings k)))
-    by (tree l k (tree m j r)) e = absurd (omega (arith, e))
+    by f e = absurd (omega (arith, e))

@@ -1,23 +1,17 @@
 -- What a place of the list shows.
 use Rattle.pool_layouts.proofs.Shared.{◌≡◌, ◌∙◌, ℕ, suc, ◌+◌, ◌<◌, List, ◌∷◌, length, drop, get_or, true, ap, arith, drop-cons, add-one, length-drop, State, Label}
-use Rattle.pool_layouts.proofs.Shared.{Forest, empty, tree, root_payload, AllNodes, holds, tree_at, payload_in, Stands, forest, found, Visit, AreFound}
+use Rattle.pool_layouts.proofs.Shared.{Forest, empty, tree, root_payload, AllNodes, holds, tree_at, payload_in, Stands, forest, found, AreFound}
 
 -- ---- the first of what is left
 
-pub inside_list : (xs ys : List Visit) (n : ℕ) (x : Visit) → drop n xs ≡ x ∷ ys → n < length xs
+pub inside_list : {A : Type 0} (xs ys : List A) (n : ℕ) (x : A) → drop n xs ≡ x ∷ ys → n < length xs
 inside_list xs ys n x e = omega (arith, ap length e, length-drop n xs)
 
-pub first_is : (xs ys : List Visit) (n : ℕ) (x d : Visit) → drop n xs ≡ x ∷ ys → get_or xs n d ≡ x
-first_is xs ys n x d e = by (drop-cons xs n d (inside_list xs ys n x e))
-  where
-    by : drop n xs ≡ get_or xs n d ∷ drop (suc n) xs → get_or xs n d ≡ x
-    by h = cc
+pub first_is : {A : Type 0} (xs ys : List A) (n : ℕ) (x d : A) → drop n xs ≡ x ∷ ys → get_or xs n d ≡ x
+first_is xs ys n x d e = let g : drop n xs ≡ get_or xs n d ∷ drop (suc n) xs = drop-cons xs n d (inside_list xs ys n x e) in cc
 
-pub others_are : (xs ys : List Visit) (n : ℕ) (x : Visit) → drop n xs ≡ x ∷ ys → drop (n + 1) xs ≡ ys
-others_are xs ys n x e = ap (λ (k : ℕ). drop k xs) (add-one n) ∙ by (drop-cons xs n x (inside_list xs ys n x e))
-  where
-    by : drop n xs ≡ get_or xs n x ∷ drop (suc n) xs → drop (suc n) xs ≡ ys
-    by h = cc
+pub others_are : {A : Type 0} (xs ys : List A) (n : ℕ) (x : A) → drop n xs ≡ x ∷ ys → drop (n + 1) xs ≡ ys
+others_are xs ys n x e = let g : drop n xs ≡ get_or xs n x ∷ drop (suc n) xs = drop-cons xs n x (inside_list xs ys n x e) in ap (λ (k : ℕ). drop k xs) (add-one n) ∙ cc
 
 -- ---- the nodes of a tree in a pool are found there
 

@@ -42,15 +42,12 @@ none_of (beside l ls) size h = absurd (omega (arith, eqb-true (count_parts (besi
 
 one_of : (ls : Layouts) (size : ℕ) (part : Layout) → nat_eq (count_parts ls) 1 ≡ true → ((l : Layout) → ls ≡ one_part l → part_sizes part ≡ part_sizes l ++ size ∷ [])
     → part_sizes part ≡ parts_sizes ls ++ size ∷ []
-one_of nothing size part h e = absurd cc
 one_of (beside l nothing) size part h e = e l refl ∙ ap (λ (x : List ℕ). x ++ size ∷ []) (sym (append-nil (part_sizes l)))
-one_of (beside l (beside m ls)) size part h e = absurd (omega (arith, eqb-true (count_parts (beside l (beside m ls))) 1 h))
+one_of ls size part h e = absurd (omega (arith, eqb-true (count_parts ls) 1 h))
 
 fraction_of : (ls : Layouts) → nat_eq (count_parts ls) 2 ≡ true → part_sizes (composed kind.Fraction ls) ≡ parts_sizes ls ++ size_of_payload (bare kind.Fraction) ∷ []
-fraction_of nothing h = absurd cc
-fraction_of (beside l nothing) h = absurd cc
 fraction_of (beside l (beside m nothing)) h = ap (λ (x : List ℕ). (part_sizes l ++ x) ++ size_of_payload (bare kind.Fraction) ∷ []) (sym (append-nil (part_sizes m)))
-fraction_of (beside l (beside m (beside n ls))) h = absurd (omega (arith, eqb-true (count_parts (beside l (beside m (beside n ls)))) 2 h))
+fraction_of ls h = absurd (omega (arith, eqb-true (count_parts ls) 2 h))
 
 composed_sizes : (k : Kind) (ls : Layouts) → composes_kind k (count_parts ls) ≡ true → part_sizes (composed k ls) ≡ parts_sizes ls ++ size_of_payload (bare k) ∷ []
 composed_sizes k ls h = grind (arith, none_of, fraction_of, one_of)

@@ -1,6 +1,6 @@
 -- The layout of a face under way: what was placed of it, and what is left.
 use Rattle.pool_layouts.proofs.Shared.{◌≡◌, ◌∙◌, nat_eq, get_or, ℕ, ◌+◌, ◌<◌, ◌≤◌, List, [], ◌∷◌, ◌++◌, length, map, drop, Option, None, Ok, Err, true, false, refl, sym, ap, subst, arith}
-use Rattle.pool_layouts.proofs.Shared.{append_assoc, append-nil, eqb-true, length-append, Kind, Node, Payload, rational, named, bare, kind_of_payload, Tree, Trees, none, more, count, root_kind, used}
+use Rattle.pool_layouts.proofs.Shared.{append_assoc, append-nil, eqb-true, length-append, Kind, Node, Payload, bare, kind_of_payload, Tree, Trees, none, more, count, root_kind, used}
 use Rattle.pool_layouts.proofs.Shared.{Full, State, free_of, taking, plain, plains, takes, AllExpressions, IsExpression, Label, Forest, empty, tree, join, arity, bytes_in, flatten, node_of, one_tree}
 use Rattle.pool_layouts.proofs.Shared.{last_trees, before_last, root_payload, Ends, Starts, KeepsFront, AllOnce, IsOnce, holds, tree_at, payload_in, Stands, forest, kids_of, kids, root_kind-plain}
 use Rattle.pool_layouts.proofs.Shared.{deciding, deciding_is, KeepsRefusals, Refuses, LacksBytes, found, join-empty, join_assoc, arity-join, all-join, keeps_after, keeps_none, refuses_after}
@@ -92,18 +92,13 @@ pub record IsUnderWay (l : Layout) (old now : State) (at : ℕ) (cells : List Vi
 
 -- it has the parts that its kind takes
 composes_before : (x : Payload) (ts : Trees) → takes x (count ts) ≡ true → composes (laid x) (count_parts (parts_from (first_place (kind_of_payload x)) ts)) ≡ true
-composes_before (rational r) none h = refl
-composes_before (rational r) (more t ts) h = absurd (omega (arith, eqb-true (count (more t ts)) 0 h))
-composes_before (named y) none h = refl
-composes_before (named y) (more t ts) h = absurd (omega (arith, eqb-true (count (more t ts)) 0 h))
 composes_before (bare kind.Div) (more a (more b none)) h = refl
-composes_before (bare kind.Div) none h = absurd cc
-composes_before (bare kind.Div) (more a none) h = absurd cc
-composes_before (bare kind.Div) (more a (more b (more d ts))) h = absurd (omega (arith, eqb-true (count (more a (more b (more d ts)))) 2 h))
+composes_before (bare kind.Div) ts h = absurd (omega (arith, eqb-true (count ts) 2 h))
 composes_before (bare kind.Root) (more a none) h = refl
-composes_before (bare kind.Root) none h = absurd cc
-composes_before (bare kind.Root) (more a (more b ts)) h = absurd (omega (arith, eqb-true (count (more a (more b ts))) 1 h))
+composes_before (bare kind.Root) ts h = absurd (omega (arith, eqb-true (count ts) 1 h))
 composes_before (bare k) ts h = refl
+composes_before x none h = refl
+composes_before x ts h = absurd (omega (arith, eqb-true (count ts) 0 h))
 
 stands_around : (p : Place) (k deciding : Kind) → IsAround (around_kind p k deciding)
 stands_around p k deciding = grind arith
@@ -196,54 +191,54 @@ started s face cells frames d begin st x e b f =
 abbrev owed_of : Frame → Payload → Forest → Forest → Owed
 owed_of frame source parts rest = record { frame = frame; source = source; parts = parts; rest = rest }
 
-pub record IsTop (l : Layout) (old now : State) (at : ℕ) (cells : List Visit) (popped : List Frame) (frame : Frame) : Type 0 where
+pub record IsTop (l : Layout) (old now : State) (at : ℕ) (cells : List Visit) (popped : List Frame) (frame : Frame) (rest : Forest) : Type 0 where
   pub source : Payload
   pub parts : Forest
-  pub rest : Forest
   pub outer : List Owed
   pub popped_is : popped ≡ frames_of outer
   pub state : IsState l old now at cells (owed_of frame source parts rest) outer
 
-pub top : {l : Layout} {old now : State} {at : ℕ} {cells : List Visit} {frames : List Frame} (popped : List Frame) (frame : Frame) → IsUnderWay l old now at cells frames
-    → frames ≡ popped ++ frame ∷ [] → IsTop l old now at cells popped frame
+top : {l : Layout} {old now : State} {at : ℕ} {cells : List Visit} {frames : List Frame} (popped : List Frame) (frame : Frame) → IsUnderWay l old now at cells frames
+    → frames ≡ popped ++ frame ∷ [] → (rest : Forest) × IsTop l old now at cells popped frame rest × (frame.left ≡ arity rest)
 top {l = l} {old = old} {now = now} {at = at} {cells = cells} popped frame u e =
     let same = snoc_same popped (frames_of u.outer) frame u.inner.frame (sym e ∙ u.frames_are) in
     let o = u.inner in
-    record { source = o.source; parts = o.parts; rest = o.rest; outer = u.outer; popped_is = same.0; state = subst (λ (f : Frame). IsState l old now at cells (owed_of f o.source o.parts o.rest) u.outer) (sym same.1) u.state }
+    let x = subst (λ (f : Frame). IsState l old now at cells (owed_of f o.source o.parts o.rest) u.outer) (sym same.1) u.state in
+    (o.rest, record { source = o.source; parts = o.parts; outer = u.outer; popped_is = same.0; state = x }, x.innermost.left)
 
--- ---- the next child is entered
+-- it has no children left
+pub closing : {l : Layout} {old now : State} {at : ℕ} {cells : List Visit} {frames : List Frame} (popped : List Frame) (frame : Frame) → IsUnderWay l old now at cells frames
+    → frames ≡ popped ++ frame ∷ [] → frame.left ≡ 0 → IsTop l old now at cells popped frame empty
+closing {l = l} {old = old} {now = now} {at = at} {cells = cells} popped frame u e z = let (rest, t, left) = top popped frame u e in by rest t left
+  where
+    by : (rest : Forest) → IsTop l old now at cells popped frame rest → frame.left ≡ arity rest → IsTop l old now at cells popped frame empty
+    by empty t left = t
+    by (tree m k r) t left = absurd (omega (arith, left, z))
 
+-- its next child is entered
 pub record IsNext (l : Layout) (old now : State) (at : ℕ) (cells : List Visit) (popped : List Frame) (frame : Frame) : Type 0 where
-  pub source : Payload
-  pub parts : Forest
   pub label : Label
   pub below : Forest
   pub rest : Forest
-  pub outer : List Owed
-  pub popped_is : popped ≡ frames_of outer
-  pub state : IsState l old now at cells (owed_of frame source parts (tree label below rest)) outer
-  pub cells_are : drop at cells ≡ visit_of (node_of label below) ∷ map visit_of (flatten below ++ (flatten rest ++ nodes_left outer))
+  pub node : IsTop l old now at cells popped frame (tree label below rest)
+  pub cells_are : drop at cells ≡ visit_of (node_of label below) ∷ map visit_of (flatten below ++ (flatten rest ++ nodes_left node.outer))
 
-pub next : {l : Layout} {old now : State} {at : ℕ} {cells : List Visit} {popped : List Frame} {frame : Frame} → IsTop l old now at cells popped frame → 0 < frame.left
-    → IsNext l old now at cells popped frame
-next {l = l} {old = old} {now = now} {at = at} {cells = cells} {popped = popped} {frame = frame} t some = by t.rest t.state
+pub next : {l : Layout} {old now : State} {at : ℕ} {cells : List Visit} {frames : List Frame} (popped : List Frame) (frame : Frame) → IsUnderWay l old now at cells frames
+    → frames ≡ popped ++ frame ∷ [] → 0 < frame.left → IsNext l old now at cells popped frame
+next {l = l} {old = old} {now = now} {at = at} {cells = cells} popped frame u e some = let (rest, t, left) = top popped frame u e in by rest t left
   where
-    by : (rest : Forest) → IsState l old now at cells (owed_of frame t.source t.parts rest) t.outer → IsNext l old now at cells popped frame
-    by empty x = absurd (omega (arith, x.innermost.left, some))
-    by (tree m k r) x = record {
-      source = t.source;
-      parts = t.parts;
+    by : (rest : Forest) → IsTop l old now at cells popped frame rest → frame.left ≡ arity rest → IsNext l old now at cells popped frame
+    by empty t left = absurd (omega (arith, left, some))
+    by (tree m k r) t left = record {
       label = m;
       below = k;
       rest = r;
-      outer = t.outer;
-      popped_is = t.popped_is;
-      state = x;
-      cells_are = x.cells_are ∙ ap (λ (ns : List Node). visit_of (node_of m k) ∷ map visit_of ns) (append_assoc (flatten k) (flatten r) (nodes_left t.outer));
+      node = t;
+      cells_are = t.state.cells_are ∙ ap (λ (ns : List Node). visit_of (node_of m k) ∷ map visit_of ns) (append_assoc (flatten k) (flatten r) (nodes_left t.outer));
     }
 
 pub next_inside : {l : Layout} {old now : State} {at : ℕ} {cells : List Visit} {popped : List Frame} {frame : Frame} → IsNext l old now at cells popped frame → at < length cells
-next_inside {at = at} {cells = cells} n = inside_list cells (map visit_of (flatten n.below ++ (flatten n.rest ++ nodes_left n.outer))) at (visit_of (node_of n.label n.below)) n.cells_are
+next_inside {at = at} {cells = cells} n = inside_list cells (map visit_of (flatten n.below ++ (flatten n.rest ++ nodes_left n.node.outer))) at (visit_of (node_of n.label n.below)) n.cells_are
 
 -- the child's node, seen in the pool
 module _ {l : Layout} {old now : State} {at : ℕ} {cells : List Visit} {popped : List Frame} {frame : Frame} (n : IsNext l old now at cells popped frame) (v : Visit)
@@ -252,14 +247,15 @@ module _ {l : Layout} {old now : State} {at : ℕ} {cells : List Visit} {popped 
   next_tree = tree n.label n.below empty
 
   next_is : v ≡ visit_of (node_of n.label n.below)
-  next_is = here ∙ first_is cells (map visit_of (flatten n.below ++ (flatten n.rest ++ nodes_left n.outer))) at (visit_of (node_of n.label n.below)) v n.cells_are
+  next_is = here ∙ first_is cells (map visit_of (flatten n.below ++ (flatten n.rest ++ nodes_left n.node.outer))) at (visit_of (node_of n.label n.below)) v n.cells_are
 
   tree_here : tree_at n.label.id (forest now) ≡ next_tree
-  tree_here = ap (tree_at n.label.id) n.state.whole ∙ tree_at-join_left n.label.id (forest old) (join (made_of n.outer) n.parts) n.state.innermost.known.0.0 ∙ n.state.innermost.known.0.1
+  tree_here = ap (tree_at n.label.id) n.node.state.whole ∙
+      tree_at-join_left n.label.id (forest old) (join (made_of n.node.outer) n.node.parts) n.node.state.innermost.known.0.0 ∙ n.node.state.innermost.known.0.1
 
   pub next_live : holds v.id (forest now) ≡ true
-  next_live = ap (λ (w : Visit). holds w.id (forest now)) next_is ∙ ap (holds n.label.id) n.state.whole
-      ∙ holds-left n.label.id (forest old) (join (made_of n.outer) n.parts) n.state.innermost.known.0.0
+  next_live = ap (λ (w : Visit). holds w.id (forest now)) next_is ∙ ap (holds n.label.id) n.node.state.whole
+      ∙ holds-left n.label.id (forest old) (join (made_of n.node.outer) n.node.parts) n.node.state.innermost.known.0.0
 
   pub next_seen : v ≡ visit_at v.id (forest now)
   next_seen =
@@ -272,14 +268,15 @@ module _ {l : Layout} {old now : State} {at : ℕ} {cells : List Visit} {popped 
       → around ≡ around_of frame.place (plain next_tree)
   next_around k around e f =
       let kind_is : v.kind ≡ root_kind (plain next_tree) = ap (λ (w : Visit). w.kind) next_is
-      ∙ sym (root_kind-plain next_tree refl (n.state.innermost.expressions.0, n.state.innermost.expressions.1, tt)) in
+      ∙ sym (root_kind-plain next_tree refl (n.node.state.innermost.expressions.0, n.node.state.innermost.expressions.1, tt)) in
       let decides : k ≡ deciding_kind frame.place (plain next_tree)
       = e ∙ ap (λ (w : Visit). deciding frame.place (tree_at w.id (forest now))) next_is ∙ ap (deciding frame.place) tree_here
-      ∙ deciding_is frame.place n.label n.below n.rest n.state.innermost.expressions in
+      ∙ deciding_is frame.place n.label n.below n.rest n.node.state.innermost.expressions in
       f ∙ (λ i. around_kind frame.place (kind_is i) (decides i))
 
 -- the parts of a node are few
-pub parts_are_few : {l : Layout} {old now : State} {at : ℕ} {cells : List Visit} {popped : List Frame} {frame : Frame} → IsTop l old now at cells popped frame → frame.parts ≤ 65535
+pub parts_are_few : {l : Layout} {old now : State} {at : ℕ} {cells : List Visit} {popped : List Frame} {frame : Frame} {rest : Forest}
+    → IsTop l old now at cells popped frame rest → frame.parts ≤ 65535
 parts_are_few {old = old} {now = now} t =
     omega (arith, few_trees now t.state.stands, ap arity t.state.whole, arity-join (forest old) (join (made_of t.outer) t.parts), arity-join (made_of t.outer) t.parts, t.state.innermost.number)
 
@@ -300,66 +297,67 @@ pub entered : {l : Layout} {old now : State} {at : ℕ} {cells : List Visit} {po
     → IsUnderWay l old after (at + 1) cells frames
 entered {l = l} {old = old} {now = now} {at = at} {cells = cells} {popped = popped} {frame = frame} after marks_placed around begin d frames n m kept room st a b f =
     let base = forest old in
-    let made = join (made_of n.outer) (join n.parts m.parts) in
+    let made = join (made_of n.node.outer) (join n.node.parts m.parts) in
     let t = tree n.label n.below empty in
-    let whole : forest after ≡ join base made = m.whole ∙ ap (λ (g : Forest). join g m.parts) n.state.whole ∙ marked base (made_of n.outer) n.parts m.parts in
-    let own = n.state.innermost in
+    let whole : forest after ≡ join base made = m.whole ∙ ap (λ (g : Forest). join g m.parts) n.node.state.whole ∙ marked base (made_of n.node.outer) n.node.parts m.parts in
+    let own = n.node.state.innermost in
     let c = visit_of (node_of n.label n.below) in
-    let first : get_or cells at d ≡ c = first_is cells (map visit_of (flatten n.below ++ (flatten n.rest ++ nodes_left n.outer))) at c d n.cells_are in
+    let first : get_or cells at d ≡ c = first_is cells (map visit_of (flatten n.below ++ (flatten n.rest ++ nodes_left n.node.outer))) at c d n.cells_are in
     let stands_in : IsAround around = subst IsAround (sym a) (stands_around frame.place (root_kind (plain t)) (deciding_kind frame.place (plain t))) in
     let x = fresh base made n.label n.below around begin (b ∙ used_forest after st ∙ ap bytes_in whole) (own.expressions.0, own.expressions.1, tt) (own.known.0, own.known.1, tt) stands_in in
     let behind = frame_behind frame marks_placed in
     let fresh_one = fresh_owed n.label n.below around begin in
     let face = within (around_of frame.place (plain t)) (layout (plain t)) in
-    let outer_owed : Owed = record { frame = behind; source = n.source; parts = join n.parts m.parts; rest = n.rest } in
+    let outer_owed : Owed = record { frame = behind; source = n.node.source; parts = join n.node.parts m.parts; rest = n.rest } in
     let rest_parts = parts_from (next_place frame.place) (plains n.rest) in
     let placed_marks = marks (mark_before frame.place) in
     let child : finished fresh_one (parts_left fresh_one) ≡ face = x.drawing ∙ ap (λ (y : Option Kind). within y (layout (plain t))) a in
     let mark_count : count_parts placed_marks ≡ arity m.parts = ap count_parts (sym m.drawings_are) ∙ count-drawings m.parts in
-    let long : arity n.parts + 0 + count_parts (parts_from frame.place (plains (tree n.label n.below n.rest))) ≡ arity (join n.parts m.parts) + 1 + count_parts rest_parts
-    = omega (arith, arity-join n.parts m.parts, count-join placed_marks (beside face rest_parts), mark_count) in
+    let long : arity n.node.parts + 0 + count_parts (parts_from frame.place (plains (tree n.label n.below n.rest))) ≡ arity (join n.node.parts m.parts) + 1 + count_parts rest_parts
+    = omega (arith, arity-join n.node.parts m.parts, count-join placed_marks (beside face rest_parts), mark_count) in
     let sizes : parts_sizes (parts_from frame.place (plains (tree n.label n.below n.rest))) ≡ around_sizes (mark_before frame.place) ++ (part_sizes face ++ parts_sizes rest_parts)
     = sizes-join placed_marks (beside face rest_parts) ∙ ap (λ (y : List ℕ). y ++ (part_sizes face ++ parts_sizes rest_parts)) (sizes-marks frame.place) in
     let child_sizes : part_sizes face ≡ parts_sizes (parts_left fresh_one) ++ root_sizes n.label.payload around
     = ap (λ (y : Option Kind). part_sizes (within y (layout (plain t)))) (sym a) ∙ x.sizes in
-    let tail = root_sizes n.source frame.around ++ sizes_left n.outer in
+    let tail = root_sizes n.node.source frame.around ++ sizes_left n.node.outer in
     record {
       inner = fresh_one;
-      outer = outer_owed ∷ n.outer;
-      frames_are = f ∙ ap (λ (y : Visit). (popped ++ behind ∷ []) ++ frame_of y around begin ∷ []) first ∙ ap (λ (y : List Frame). (y ++ behind ∷ []) ++ frame_of c around begin ∷ []) n.popped_is;
+      outer = outer_owed ∷ n.node.outer;
+      frames_are = f ∙ ap (λ (y : Visit). (popped ++ behind ∷ []) ++ frame_of y around begin ∷ []) first ∙ ap (λ (y : List Frame). (y ++ behind ∷ []) ++ frame_of c around begin ∷ []) n.node.popped_is;
       state = record {
         whole = whole ∙ ap (join base) (sym (join-empty made));
-        cells_are = others_are cells (map visit_of (flatten n.below ++ (flatten n.rest ++ nodes_left n.outer))) at c n.cells_are;
+        cells_are = others_are cells (map visit_of (flatten n.below ++ (flatten n.rest ++ nodes_left n.node.outer))) at c n.cells_are;
         innermost = x.owed;
         others = (
           record {
             left = omega (arith, own.left);
             begin = own.begin;
-            number = omega (arith, own.number, arity-join n.parts m.parts, m.number);
-            once = all-join IsOnce n.parts m.parts own.once m.once;
-            composed_parts = all-join IsComposed n.parts m.parts own.composed_parts m.composed_whole;
+            number = omega (arith, own.number, arity-join n.node.parts m.parts, m.number);
+            once = all-join IsOnce n.node.parts m.parts own.once m.once;
+            composed_parts = all-join IsComposed n.node.parts m.parts own.composed_parts m.composed_whole;
             expressions = own.expressions.2;
             known = own.known.2;
             live = own.live;
             source_is = own.source_is;
-            composed_whole = ap (composes (laid n.source)) (sym long) ∙ own.composed_whole;
+            composed_whole = ap (composes (laid n.node.source)) (sym long) ∙ own.composed_whole;
             around = own.around;
           },
-          n.state.others,
+          n.node.state.others,
         );
-        layout_is = ap (λ (y : Layouts). plugged n.outer (within frame.around (drawn (laid n.source) y)))
-            (ap (λ (y : Layouts). join_parts y (beside (finished fresh_one (parts_left fresh_one)) rest_parts)) (drawings-join n.parts m.parts ∙ ap (join_parts (drawings n.parts)) m.drawings_are)
-            ∙ join_parts-assoc (drawings n.parts) placed_marks (beside (finished fresh_one (parts_left fresh_one)) rest_parts)
-            ∙ ap (λ (y : Layout). join_parts (drawings n.parts) (join_parts placed_marks (beside y rest_parts))) child)
-            ∙ n.state.layout_is;
-        budget = n.state.budget ∙ ap (λ (y : List ℕ). taking (free_of now) (y ++ tail)) sizes
+        layout_is = ap (λ (y : Layouts). plugged n.node.outer (within frame.around (drawn (laid n.node.source) y)))
+            (ap (λ (y : Layouts). join_parts y (beside (finished fresh_one (parts_left fresh_one)) rest_parts))
+            (drawings-join n.node.parts m.parts ∙ ap (join_parts (drawings n.node.parts)) m.drawings_are)
+            ∙ join_parts-assoc (drawings n.node.parts) placed_marks (beside (finished fresh_one (parts_left fresh_one)) rest_parts)
+            ∙ ap (λ (y : Layout). join_parts (drawings n.node.parts) (join_parts placed_marks (beside y rest_parts))) child)
+            ∙ n.node.state.layout_is;
+        budget = n.node.state.budget ∙ ap (λ (y : List ℕ). taking (free_of now) (y ++ tail)) sizes
             ∙ ap (taking (free_of now)) (append_assoc (around_sizes (mark_before frame.place)) (part_sizes face ++ parts_sizes rest_parts) tail)
             ∙ taken_first (free_of now) (free_of after) (around_sizes (mark_before frame.place)) ((part_sizes face ++ parts_sizes rest_parts) ++ tail) room
             ∙ ap (λ (y : List ℕ). taking (free_of after) ((y ++ parts_sizes rest_parts) ++ tail)) child_sizes
             ∙ ap (taking (free_of after)) (regroup (parts_sizes (parts_left fresh_one)) (root_sizes n.label.payload around) (parts_sizes rest_parts) tail);
-        keeps = keeps_after old now after n.state.keeps kept;
+        keeps = keeps_after old now after n.node.state.keeps kept;
         stands = st;
-        short = omega (arith, length-append (frames_of n.outer) (behind ∷ []), n.state.short);
+        short = omega (arith, length-append (frames_of n.node.outer) (behind ∷ []), n.node.state.short);
       };
     }
 
@@ -396,23 +394,7 @@ keeps_starting f made g s = grind (arith, join_assoc)
 pub front_kept : {others new : Forest} {id : ℕ} {l : Layout} → GivesLayout others new id l → KeepsFront [] others new
 front_kept {others = others} {new = new} g = keeps_starting others g.tree new (record { behind = empty; whole = g.ends.whole ∙ sym (join-empty (join others g.tree)) })
 
--- what closing it wants
-pub record IsClosing (l : Layout) (old now : State) (popped : List Frame) (frame : Frame) (at : ℕ) (cells : List Visit) : Type 0 where
-  pub source : Payload
-  pub parts : Forest
-  pub outer : List Owed
-  pub popped_is : popped ≡ frames_of outer
-  pub state : IsState l old now at cells (owed_of frame source parts empty) outer
-
-pub closing : {l : Layout} {old now : State} {at : ℕ} {cells : List Visit} {popped : List Frame} {frame : Frame} → IsTop l old now at cells popped frame → frame.left ≡ 0
-    → IsClosing l old now popped frame at cells
-closing {l = l} {old = old} {now = now} {at = at} {cells = cells} {popped = popped} {frame = frame} t z = by t.rest t.state
-  where
-    by : (rest : Forest) → IsState l old now at cells (owed_of frame t.source t.parts rest) t.outer → IsClosing l old now popped frame at cells
-    by (tree m k r) x = absurd (omega (arith, x.innermost.left, z))
-    by empty x = record { source = t.source; parts = t.parts; outer = t.outer; popped_is = t.popped_is; state = x }
-
-module _ {l : Layout} {old now : State} {at : ℕ} {cells : List Visit} {popped : List Frame} {frame : Frame} (k : IsClosing l old now popped frame at cells) where
+module _ {l : Layout} {old now : State} {at : ℕ} {cells : List Visit} {popped : List Frame} {frame : Frame} (k : IsTop l old now at cells popped frame empty) where
   own : IsOwed (forest old) (made_of k.outer) 0 (owed_of frame k.source k.parts empty)
   own = k.state.innermost
 

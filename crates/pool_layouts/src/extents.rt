@@ -198,6 +198,7 @@ fn leaf_width(pool: &Pool, node: Id) -> u32
 }
 
 /// How many digits a numerator has.
+#[tactic(auto, using(line_text::proofs::Leaves::digits_are))]
 fn digits(number: Rat) -> u32
     ensures { result ≡ length (decimal (nat_abs (ratio_of number).num)) }
 {
@@ -206,6 +207,7 @@ fn digits(number: Rat) -> u32
 }
 
 /// The extent of the layout that is listed at a place.
+#[tactic(auto, using(crate::proofs::Measures::first_within, crate::proofs::Measures::first_read))]
 pub(crate) fn extent_at(extents: &[Extent], at: usize) -> Extent
     requires some { HasSomeFirst at extents.now }
     requires few { length extents.now ≤ 2 ^ 16 }

@@ -26,6 +26,7 @@ use tree_handles::{Handle, Visit, kind, name, node, node_over_last, number, rati
 
 /// The layout of a face as a new last root. Its nodes are placed in postfix order: the parts from
 /// left to right, and then what they are parts of.
+#[tactic(auto, using(crate::proofs::Measuring::nodes_served, tree_handles::proofs::Measures::few_in))]
 pub fn layout_of(pool: &mut Pool, face: Id, drafter: &mut Drafter) -> Result<Handle, Full>
     requires stands { Stands pool.old }
     requires expression { IsExpression face (forest pool.old) }
@@ -92,6 +93,7 @@ fn lay(
 }
 
 /// Places the mark before a tree at a place, where there is one; how many marks.
+#[tactic(auto, using(crate::proofs::Placing::no_mark, crate::proofs::Placing::some_mark, crate::proofs::Placing::takes_mark))]
 fn place_mark(pool: &mut Pool, place: Place) -> Result<u32, Full>
     requires stands { Stands pool.old }
     ensures ok { IfOk result (λ n. PlacesMark (mark_there place) (forest pool.old) (forest pool.new) n) }

@@ -19,6 +19,7 @@ use node_pool::{Id, Pool};
 use tree_handles::Visit;
 
 /// How many rows the picture of a layout has. Its nodes are listed and measured for all rows.
+#[tactic(auto, using(crate::proofs::Measuring::nodes_served, tree_handles::proofs::Measures::few_in, tree_handles::proofs::Visiting::visits_length))]
 pub fn rows(pool: &Pool, layout: Id, drafter: &mut Drafter) -> u32
     requires stands { Stands pool.now }
     requires layout { IsLayout layout (forest pool.now) }

@@ -11,6 +11,7 @@ use line_text::{Text, write_tree};
 use node_pool::{Id, Pool};
 
 /// Appends the serial text of a layout.
+#[tactic(auto, using(crate::proofs::Serials::written_serial, line_text::proofs::Valid::valid, tree_handles::proofs::Measures::one_at))]
 pub fn write_serial(pool: &Pool, layout: Id, text: &mut Text)
     requires stands { Stands pool.now }
     requires layout { IsLayout layout (forest pool.now) }

@@ -46,6 +46,7 @@ pub(crate) struct Opened {
 }
 
 /// What a step paints first, and what is left of it.
+#[tactic(auto, using(crate::proofs::Opening::blanks_opens, crate::proofs::Opening::close_opens))]
 pub(crate) fn open_step(cells: &[Visit], extents: &[Extent], step: Step) -> Opened
     requires shown { (base : Forest) × ShowsSome base cells.now extents.now step }
     requires few_cells { length cells.now < 2 ^ 16 }
@@ -74,6 +75,7 @@ pub(crate) fn open_step(cells: &[Visit], extents: &[Extent], step: Step) -> Open
 }
 
 /// A row of one layout.
+#[tactic(auto, using(crate::proofs::Opening::cell_inside))]
 fn open_part(cells: &[Visit], extents: &[Extent], span: Span, row: u32) -> Opened
     requires shown { (base : Forest) × ShowsSome base cells.now extents.now (Step.Part span row) }
     requires few_cells { length cells.now < 2 ^ 16 }

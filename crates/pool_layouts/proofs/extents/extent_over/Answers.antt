@@ -1,5 +1,5 @@
 use Rattle.pool_layouts.proofs.Shared.{◌∙◌, ap, refl, sym, empty, tree, payload_in, forest, Extent}
-use Rattle.pool_layouts.proofs.Measures.{over_one, over_two, pair_over, one_extent, two_extent, raised_is, radical_is, paren_is, fraction_is, row_is, leaf_extent}
+use Rattle.pool_layouts.proofs.Measures.{over_one, over_two, pair_over, one_extent, two_extent, raised_is, radical_is, paren_is, fraction_is, row_is, leaf_extent, has_parts, no_parts}
 use Rattle.calc_terms.specs.declared.kind.Kind.TheVariants as kind
 use Rattle.pool_layouts.proofs.extents.extent_over.Goals as goal
 
@@ -50,7 +50,7 @@ returns-in-Paren c = λ k o e.
 
 pub returns-in_default : goal.returns-in_default
 returns-in_default c = λ k o e.
+    let d = c.in_default in
     ap (λ w. let r : Extent = record { nodes = 1; width = w; above = 0; below = 0 } in r) c.leaf_width.ensures
-    ∙ leaf_extent (payload_in c.args.node (forest c.args.pool.now)) k o.payload o.composed_node (λ h. c.in_default.not-Row (c.kind.ensures.value ∙ h))
-    (λ h. c.in_default.not-Fraction (c.kind.ensures.value ∙ h)) (λ h. c.in_default.not-Raised (c.kind.ensures.value ∙ h))
-    (λ h. c.in_default.not-Radical (c.kind.ensures.value ∙ h)) (λ h. c.in_default.not-Paren (c.kind.ensures.value ∙ h))
+    ∙ leaf_extent (payload_in c.args.node (forest c.args.pool.now)) k o.payload o.composed_node
+    (ap has_parts (sym c.kind.ensures.value) ∙ no_parts c.kind.result d.not-Row d.not-Fraction d.not-Raised d.not-Radical d.not-Paren)

@@ -1,6 +1,6 @@
 use Rattle.pool_layouts.proofs.Shared.{rules, ◌≤◌, ◌∙◌, ℕ, length, replicate, encode_utf8_all, codes, ap, sym, subst, arith, length-append, length-replicate, root_sign, Content}
 use Rattle.pool_layouts.proofs.Shared.{extended, spare_of, payload_in, forest, Ink, IsInk, ink_characters, leaf_characters, inked, blanks_left, leaf_bytes, root_character}
-use Rattle.pool_layouts.proofs.{Inks.{leaf_inked, none_owed, bar_inked, character_inked, extended_twice}, Lines.{root_encoded, small_bytes}}
+use Rattle.pool_layouts.proofs.{Inks.{leaf_inked, none_owed, bar_inked, character_inked, extended_twice}, Characters.{root_encoded, small_bytes}}
 use Rattle.pool_layouts.specs.declared.ink.Ink.TheVariants as inks
 use Rattle.pool_layouts.proofs.ink.paint_ink.Goals as goal
 

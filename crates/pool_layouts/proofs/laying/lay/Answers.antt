@@ -1,7 +1,7 @@
-use Rattle.pool_layouts.proofs.Shared.{◌≡◌, ◌==◌, ℕ, None, ◌∙◌, ◌++◌, ◌∷◌, [], List, length, ap, sym, arith, rules, length-append, tree_at, forest, keeps_after}
-use Rattle.pool_layouts.proofs.{Shared.{Visit, Frame, frame_of, frame_behind, visits_length, layout, plain}, UnderWay.{first_inside, started, top, next, next_inside, next_live, next_seen}}
+use Rattle.pool_layouts.proofs.Shared.{◌≡◌, ◌<◌, empty, ◌==◌, ℕ, None, ◌∙◌, ◌++◌, ◌∷◌, [], List, length, ap, sym, arith, rules, length-append, tree_at, forest, keeps_after}
+use Rattle.pool_layouts.proofs.{Shared.{Visit, Frame, frame_of, frame_behind, visits_length, layout, plain}, UnderWay.{first_inside, started, next, next_inside, next_live, next_seen}}
 use Rattle.pool_layouts.proofs.UnderWay.{next_around, parts_are_few, entered, closing, close_live, close_few, close_begin, close_leaf, closed_all, closed_room, closed_one, close_stopped}
-use Rattle.pool_layouts.proofs.{UnderWay.{mark_stopped, front_kept, none_left, some_left, IsTop, IsClosing}, laying.lay.Goals.In-Some}
+use Rattle.pool_layouts.proofs.{UnderWay.{mark_stopped, front_kept, none_left, some_left, IsTop, IsNext}, laying.lay.Goals.In-Some}
 use Rattle.std.proofs.Common.{vec_len}
 use Rattle.pool_layouts.proofs.laying.lay.Goals as goal
 
@@ -23,28 +23,29 @@ loop-frame-init c = record {
   capacity = omega (arith, c.clear.ensures.capacity, c.append.ensures.capacity);
 }
 
--- the node that was taken from the list, and what closing it wants
-here : (c : In-Some) → IsTop (layout (plain (tree_at c.args.face (forest c.args.pool.now)))) c.args.pool.now c.loop-frame.pool c.loop-frame.at c.args.cells.now c.pop.new.self.items c.in-Some.frame
-here c = top c.pop.new.self.items c.in-Some.frame c.loop-frame.invariant.under_way c.in-Some.ensures.items
+-- the node that was taken from the list: its next child, or what closing it wants
+child : (c : In-Some) → 0 < c.in-Some.frame.left
+    → IsNext (layout (plain (tree_at c.args.face (forest c.args.pool.now)))) c.args.pool.now c.loop-frame.pool c.loop-frame.at c.args.cells.now c.pop.new.self.items c.in-Some.frame
+child c some = next c.pop.new.self.items c.in-Some.frame c.loop-frame.invariant.under_way c.in-Some.ensures.items some
 
 last : (c : In-Some) → c.in-Some.frame.left ≡ 0
-    → IsClosing (layout (plain (tree_at c.args.face (forest c.args.pool.now)))) c.args.pool.now c.loop-frame.pool c.pop.new.self.items c.in-Some.frame c.loop-frame.at c.args.cells.now
-last c z = closing (here c) z
+    → IsTop (layout (plain (tree_at c.args.face (forest c.args.pool.now)))) c.args.pool.now c.loop-frame.pool c.loop-frame.at c.args.cells.now c.pop.new.self.items c.in-Some.frame empty
+last c z = closing c.pop.new.self.items c.in-Some.frame c.loop-frame.invariant.under_way c.in-Some.ensures.items z
 
 pub returns-in_err-marks-clause-front : goal.returns-in_err-marks-clause-front
 returns-in_err-marks-clause-front c =
-    let n = next (here (goal.at.returns-in_err-marks-clause-front c).In-Some) c.if-frame-gt0.true in
+    let n = child (goal.at.returns-in_err-marks-clause-front c).In-Some c.if-frame-gt0.true in
     (mark_stopped c.place_mark.new.pool c.in_err-marks.field-0.0 n c.in_err-marks.ensures.full).front
 
 pub returns-in_err-marks-clause-full : goal.returns-in_err-marks-clause-full
 returns-in_err-marks-clause-full c =
-    let n = next (here (goal.at.returns-in_err-marks-clause-full c).In-Some) c.if-frame-gt0.true in
+    let n = child (goal.at.returns-in_err-marks-clause-full c).In-Some c.if-frame-gt0.true in
     let h = (mark_stopped c.place_mark.new.pool c.in_err-marks.field-0.0 n c.in_err-marks.ensures.full).full_is in
     search (rules, h)
 
 pub deciding_kind-deciding-requires : goal.deciding_kind-deciding-requires
 deciding_kind-deciding-requires c =
-    let n = next (here (goal.at.deciding_kind-deciding-requires c).In-Some) c.if-frame-gt0.true in
+    let n = child (goal.at.deciding_kind-deciding-requires c).In-Some c.if-frame-gt0.true in
     record {
       stands = c.loop-frame.invariant.under_way.state.stands;
       live = next_live n c.index-cells-at.result c.index-cells-at.is;
@@ -52,39 +53,61 @@ deciding_kind-deciding-requires c =
     }
 
 pub behind-requires-clause-few : goal.behind-requires-clause-few
-behind-requires-clause-few c = omega (arith, parts_are_few (here (goal.at.behind-requires-clause-few c).In-Some), c.in_ok-marks.ensures.ok.few)
+behind-requires-clause-few c = omega (arith, parts_are_few (child (goal.at.behind-requires-clause-few c).In-Some c.if-frame-gt0.true).node, c.in_ok-marks.ensures.ok.few)
 
 pub append-requires-then-frame-gt0 : goal.append-requires-then-frame-gt0
 append-requires-then-frame-gt0 c =
-    let n = next (here (goal.at.append-requires-then-frame-gt0 c).In-Some) c.if-frame-gt0.true in
-    omega (arith, next_inside n, n.state.short, ap length n.popped_is, ap length c.requires.cells, visits_length (tree_at c.args.face (forest c.args.pool.now)), c.requires.room, c.loop-frame.invariant.capacity, c.pop.ensures.capacity)
+    let n = child (goal.at.append-requires-then-frame-gt0 c).In-Some c.if-frame-gt0.true in
+    omega (
+      arith,
+      next_inside n,
+      n.node.state.short,
+      ap length n.node.popped_is,
+      ap length c.requires.cells,
+      visits_length (tree_at c.args.face (forest c.args.pool.now)),
+      c.requires.room,
+      c.loop-frame.invariant.capacity,
+      c.pop.ensures.capacity,
+    )
 
 pub offset_bounds-cells-at : goal.offset_bounds-cells-at
 offset_bounds-cells-at c =
-    let n = next (here (goal.at.offset_bounds-cells-at c).In-Some) c.if-frame-gt0.true in
+    let n = child (goal.at.offset_bounds-cells-at c).In-Some c.if-frame-gt0.true in
     record { fits = omega (arith, next_inside n, ap length c.requires.cells, visits_length (tree_at c.args.face (forest c.args.pool.now)), c.requires.few) }
 
 pub bounds-cells-at : goal.bounds-cells-at
-bounds-cells-at c = next_inside (next (here (goal.at.bounds-cells-at c).In-Some) c.if-frame-gt0.true)
+bounds-cells-at c = next_inside (child (goal.at.bounds-cells-at c).In-Some c.if-frame-gt0.true)
 
 pub append-requires-then-frame-gt0-2 : goal.append-requires-then-frame-gt0-2
 append-requires-then-frame-gt0-2 c =
-    let n = next (here (goal.at.append-requires-then-frame-gt0-2 c).In-Some) c.if-frame-gt0.true in
-    omega (arith, next_inside n, n.state.short, ap length n.popped_is, c.append-then-frame-gt0.ensures.len, c.append-then-frame-gt0.ensures.capacity, ap length c.requires.cells, visits_length (tree_at c.args.face (forest c.args.pool.now)), c.requires.room, c.loop-frame.invariant.capacity, c.pop.ensures.capacity)
+    let n = child (goal.at.append-requires-then-frame-gt0-2 c).In-Some c.if-frame-gt0.true in
+    omega (
+      arith,
+      next_inside n,
+      n.node.state.short,
+      ap length n.node.popped_is,
+      c.append-then-frame-gt0.ensures.len,
+      c.append-then-frame-gt0.ensures.capacity,
+      ap length c.requires.cells,
+      visits_length (tree_at c.args.face (forest c.args.pool.now)),
+      c.requires.room,
+      c.loop-frame.invariant.capacity,
+      c.pop.ensures.capacity,
+    )
 
 pub overflow_add-at : goal.overflow_add-at
 overflow_add-at c =
-    let n = next (here (goal.at.overflow_add-at c).In-Some) c.if-frame-gt0.true in
+    let n = child (goal.at.overflow_add-at c).In-Some c.if-frame-gt0.true in
     record { fits = omega (arith, next_inside n, ap length c.requires.cells, visits_length (tree_at c.args.face (forest c.args.pool.now)), c.requires.few) }
 
 pub loop-frame-smaller-then-frame-gt0 : goal.loop-frame-smaller-then-frame-gt0
 loop-frame-smaller-then-frame-gt0 c =
-    let n = next (here (goal.at.loop-frame-smaller-then-frame-gt0 c).In-Some) c.if-frame-gt0.true in
+    let n = child (goal.at.loop-frame-smaller-then-frame-gt0 c).In-Some c.if-frame-gt0.true in
     omega (arith, next_inside n, c.append-then-frame-gt0.ensures.len, c.append-then-frame-gt0-2.ensures.len, ap length c.in-Some.ensures.items, length-append c.pop.new.self.items (c.in-Some.frame ∷ []))
 
 pub loop-frame-preserved-then-frame-gt0 : goal.loop-frame-preserved-then-frame-gt0
 loop-frame-preserved-then-frame-gt0 c =
-    let n = next (here (goal.at.loop-frame-preserved-then-frame-gt0 c).In-Some) c.if-frame-gt0.true in
+    let n = child (goal.at.loop-frame-preserved-then-frame-gt0 c).In-Some c.if-frame-gt0.true in
     let popped = c.pop.new.self.items in
     record {
       under_way = entered c.place_mark.new.pool c.in_ok-marks.marks c.around-around.result c.used-then-frame-gt0.result c.index-cells-at.result c.append-then-frame-gt0-2.new.list.items n c.in_ok-marks.ensures.ok c.in_ok-marks.ensures.kept c.in_ok-marks.ensures.room c.place_mark.ensures.stands
@@ -118,25 +141,23 @@ returns-in_err-last-clause-full c =
     let h = (close_stopped k c.close.new.pool c.in_err-last.field-0.0 c.in_err-last.ensures.full).full_is in
     search (rules, h)
 
-pub returns-then-is_empty-clause-ok : goal.returns-then-is_empty-clause-ok
-returns-then-is_empty-clause-ok c =
-    let k = last (goal.at.returns-then-is_empty-clause-ok c).In-Some (omega (arith, c.if-frame-gt0.false)) in
-    closed_all k c.close.new.pool c.in_ok-last.last
-    (none_left c.pop.new.self.items (empty_as c.pop.new.self.items (vec_len c.pop.new.self) (omega (arith, c.pop.new.self.ok.0)) ∙ sym c.is_empty.ensures ∙ c.if-is_empty.true)) c.in_ok-last.ensures.ok
-
-pub returns-then-is_empty-clause-front : goal.returns-then-is_empty-clause-front
-returns-then-is_empty-clause-front c =
-    let k = last (goal.at.returns-then-is_empty-clause-front c).In-Some (omega (arith, c.if-frame-gt0.false)) in
-    front_kept (closed_all k c.close.new.pool c.in_ok-last.last (none_left c.pop.new.self.items (empty_as c.pop.new.self.items (vec_len c.pop.new.self) (omega (arith, c.pop.new.self.ok.0)) ∙ sym c.is_empty.ensures ∙ c.if-is_empty.true)) c.in_ok-last.ensures.ok)
-
-pub returns-then-is_empty-clause-kept : goal.returns-then-is_empty-clause-kept
-returns-then-is_empty-clause-kept c = keeps_after c.args.pool.now c.loop-frame.pool c.close.new.pool c.loop-frame.invariant.under_way.state.keeps c.in_ok-last.ensures.kept
-
-pub returns-then-is_empty-clause-room : goal.returns-then-is_empty-clause-room
-returns-then-is_empty-clause-room c =
-    let k = last (goal.at.returns-then-is_empty-clause-room c).In-Some (omega (arith, c.if-frame-gt0.false)) in
-    closed_room k c.close.new.pool
-    (none_left c.pop.new.self.items (empty_as c.pop.new.self.items (vec_len c.pop.new.self) (omega (arith, c.pop.new.self.ok.0)) ∙ sym c.is_empty.ensures ∙ c.if-is_empty.true)) c.in_ok-last.ensures.room
+pub returns-then-is_empty : goal.returns-then-is_empty
+returns-then-is_empty c =
+    let k = last (goal.at.returns-then-is_empty c).In-Some (omega (arith, c.if-frame-gt0.false)) in
+    let popped = c.pop.new.self.items in
+    let none = none_left popped (empty_as popped (vec_len c.pop.new.self) (omega (arith, c.pop.new.self.ok.0)) ∙ sym c.is_empty.ensures ∙ c.if-is_empty.true) in
+    let given = closed_all k c.close.new.pool c.in_ok-last.last none c.in_ok-last.ensures.ok in
+    record {
+      ok = given;
+      front = front_kept given;
+      kept = keeps_after c.args.pool.now c.loop-frame.pool c.close.new.pool c.loop-frame.invariant.under_way.state.keeps c.in_ok-last.ensures.kept;
+      room = closed_room k c.close.new.pool none c.in_ok-last.ensures.room;
+      full = tt;
+      refuses = tt;
+      caused = tt;
+      stands = search rules;
+      capacity = search rules;
+    }
 
 pub loop-frame-preserved : goal.loop-frame-preserved
 loop-frame-preserved c =

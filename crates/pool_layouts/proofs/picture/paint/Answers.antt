@@ -10,22 +10,22 @@ pub open_step-opened-requires-clause-shown : goal.open_step-opened-requires-clau
 open_step-opened-requires-clause-shown c =
     let (line, h, room) = c.requires.painting in
     let d = due c.in-Some.step c.pop.new.self.items (c.loop-step.invariant.painting line h) c.in-Some.ensures.items in
-    (forest c.args.pool.now, (d.cs, d.shown))
+    (forest c.args.pool.now, (d.cs, d.state.each.0))
 
 pub overflow_add-blanks : goal.overflow_add-blanks
 overflow_add-blanks c =
     let (line, h, room) = c.requires.painting in
     let d = due c.in-Some.step c.pop.new.self.items (c.loop-step.invariant.painting line h) c.in-Some.ensures.items in
-    let s = stepped d (c.open_step-opened.ensures (forest c.args.pool.now) d.cs d.shown) in
+    let s = stepped d (c.open_step-opened.ensures (forest c.args.pool.now) d.cs d.state.each.0) in
     record { fits = omega (arith, s.blanks_few, h.short) }
 
 pub paint_ink-blanks-requires : goal.paint_ink-blanks-requires
 paint_ink-blanks-requires c =
     let (line, h, room) = c.requires.painting in
     let d = due c.in-Some.step c.pop.new.self.items (c.loop-step.invariant.painting line h) c.in-Some.ensures.items in
-    let s = stepped d (c.open_step-opened.ensures (forest c.args.pool.now) d.cs d.shown) in
+    let s = stepped d (c.open_step-opened.ensures (forest c.args.pool.now) d.cs d.state.each.0) in
     record {
-      ink = (c.open_step-opened.ensures (forest c.args.pool.now) d.cs d.shown).ink_is;
+      ink = (c.open_step-opened.ensures (forest c.args.pool.now) d.cs d.state.each.0).ink_is;
       room = omega (arith, s.bytes_few, s.start_few, room, c.loop-step.invariant.capacity);
       stands = search rules;
     }
@@ -47,7 +47,7 @@ pub loop-step-smaller : goal.loop-step-smaller
 loop-step-smaller c =
     let (line, h, room) = c.requires.painting in
     let d = due c.in-Some.step c.pop.new.self.items (c.loop-step.invariant.painting line h) c.in-Some.ensures.items in
-    let o = c.open_step-opened.ensures (forest c.args.pool.now) d.cs d.shown in
+    let o = c.open_step-opened.ensures (forest c.args.pool.now) d.cs d.state.each.0 in
     lighter_steps c.loop-step.steps.items c.pop.new.self.items c.push_if-in-Some.new.steps.items c.in-Some.step c.open_step-opened.result.first c.open_step-opened.result.second c.in-Some.ensures.items
     (c.push_if-in-Some.ensures.items ∙ ap (λ (x : List Step). x ++ option_to_list c.open_step-opened.result.first) c.push_if.ensures.items) o.lighter
 
@@ -57,7 +57,7 @@ loop-step-preserved c =
     record {
       painting = λ line h.
           let d = due c.in-Some.step c.pop.new.self.items (c.loop-step.invariant.painting line h) c.in-Some.ensures.items in
-          let s = stepped d (c.open_step-opened.ensures base d.cs d.shown) in
+          let s = stepped d (c.open_step-opened.ensures base d.cs d.state.each.0) in
           subst (λ (n : ℕ). IsPainting base c.args.cells.now c.args.extents.now c.push_if-in-Some.new.steps.items n c.paint_ink-blanks.new.text.bytes c.args.text.now.bytes line)
           (sym c.paint_ink-blanks.ensures.blanks)
           (s.goes_on c.paint_ink-blanks.new.text.bytes c.push_if-in-Some.new.steps.items (ap (λ (x : Content). x.bytes) c.paint_ink-blanks.ensures.text) (c.push_if-in-Some.ensures.items ∙ ap (λ (x : List Step). x ++ option_to_list c.open_step-opened.result.first) c.push_if.ensures.items));

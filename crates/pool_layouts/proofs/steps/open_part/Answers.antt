@@ -1,17 +1,8 @@
-use Rattle.pool_layouts.proofs.{Shared.{rules, ◌∙◌, ap, refl, sym, subst, arith, empty, tree, Visit, Opens}, Measures.{over_one, over_two, pair_over}}
+use Rattle.pool_layouts.proofs.{Shared.{rules, refl, sym, subst, arith, empty, tree, Opens}, Measures.{over_one, over_two, pair_over, no_parts}}
 use Rattle.pool_layouts.proofs.Opening.{cell_inside, is_over, seen_kind, row_opens, raised_opens, radical_opens, paren_opens, fraction_opens, leaf_opens}
 use Rattle.calc_terms.specs.declared.kind.Kind.TheVariants as kind
 use Rattle.pool_layouts.specs.declared.steps.Step.TheVariants as step
 use Rattle.pool_layouts.proofs.steps.open_part.Goals as goal
-
-pub offset_bounds-cells-at : goal.offset_bounds-cells-at
-offset_bounds-cells-at c = let (base, (cs, p)) = c.requires.shown in record { fits = omega (arith, cell_inside p.label p.below empty p.listed, c.requires.few_cells) }
-
-pub bounds-cells-at : goal.bounds-cells-at
-bounds-cells-at c = let (base, (cs, p)) = c.requires.shown in cell_inside p.label p.below empty p.listed
-
-pub overflow_add-inner : goal.overflow_add-inner
-overflow_add-inner c = let (base, (cs, p)) = c.requires.shown in record { fits = omega (arith, cell_inside p.label p.below empty p.listed, c.requires.few_cells) }
 
 pub extent_at-requires-clause-some : goal.extent_at-requires-clause-some
 extent_at-requires-clause-some c = let (base, (cs, p)) = c.requires.shown in (p.label, p.below, empty, p.listed.small)
@@ -48,7 +39,7 @@ extent_at-requires-in-Radical-clause-some c =
 pub returns-in-Row : goal.returns-in-Row
 returns-in-Row c = λ base cs p.
     subst (Opens base c.args.cells.now c.args.extents.now (step.Part c.args.span c.args.row) cs) (sym c.open_row.ensures)
-    (row_opens p c.extent_at.result c.index-cells-at.result (sym (ap (λ (x : Visit). x.kind) c.index-cells-at.is) ∙ c.in-Row.is) (c.extent_at.ensures.value p.label p.below empty p.listed.small))
+    (row_opens p c.extent_at.result (seen_kind p kind.Row c.index-cells-at.result c.index-cells-at.is c.in-Row.is) (c.extent_at.ensures.value p.label p.below empty p.listed.small))
 
 pub returns-in-Fraction : goal.returns-in-Fraction
 returns-in-Fraction c = λ base cs p.
@@ -75,7 +66,5 @@ returns-in-Paren c = λ base cs p.
 
 pub returns-in_default : goal.returns-in_default
 returns-in_default c = λ base cs p.
-    leaf_opens p c.index-cells-at.result _ (ap (λ (x : Visit). x.id) c.index-cells-at.is)
-    (λ h. c.in_default.not-Row (ap (λ (x : Visit). x.kind) c.index-cells-at.is ∙ h)) (λ h. c.in_default.not-Fraction (ap (λ (x : Visit). x.kind) c.index-cells-at.is ∙ h))
-    (λ h. c.in_default.not-Raised (ap (λ (x : Visit). x.kind) c.index-cells-at.is ∙ h))
-    (λ h. c.in_default.not-Radical (ap (λ (x : Visit). x.kind) c.index-cells-at.is ∙ h)) (λ h. c.in_default.not-Paren (ap (λ (x : Visit). x.kind) c.index-cells-at.is ∙ h))
+    let d = c.in_default in
+    leaf_opens p c.index-cells-at.result c.index-cells-at.is (no_parts c.index-cells-at.result.kind d.not-Row d.not-Fraction d.not-Raised d.not-Radical d.not-Paren)
