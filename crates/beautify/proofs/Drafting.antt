@@ -1,5 +1,5 @@
 -- Nodes that are written one behind another, and become one tree.
-use Rattle.beautify.proofs.Shared.{inl, inr, ◌≡◌, ◌∙◌, ℕ, zero, suc, ◌≤◌, List, [], ◌∷◌, ◌++◌, length, Option, None, Some, refl, sym, ap, subst, arith, true, false}
+use Rattle.beautify.proofs.Shared.{inl, inr, ◌≡◌, ◌∙◌, ℕ, suc, ◌≤◌, List, [], ◌∷◌, ◌++◌, length, Option, None, Some, refl, sym, ap, subst, arith, true, false}
 use Rattle.beautify.proofs.Shared.{Bool, cond, eqb, length-append, eq-eqb, Payload, Tree, Trees, none, more, count, grown, takes, plains, State, Forest, Label, empty, tree, join, arity}
 use Rattle.beautify.proofs.Shared.{first_trees, rest_trees, one_tree, root_id, Ends, Gives, Represents, has_root, join_assoc, all-first_trees, all-rest_trees, gives, forest, IsDraft, Written}
 use Rattle.beautify.proofs.Shared.{Noted, AreNew, AreFound, alone_in, notes_of, spelled, with_written, first, behind, by_test, IsWhole, IsOnce, join-empty, count-plains}
@@ -25,14 +25,12 @@ no_nodes s ts = record { nodes = []; notes-are = refl; stand = sym (join-empty (
 -- ---- they take their children
 
 plains-first : (n : ℕ) (f : Forest) → plains (first_trees n f) ≡ first n (plains f)
-plains-first zero f = refl
-plains-first (suc n) empty = refl
 plains-first (suc n) (tree l k r) = ap (more (grown l.payload (plains k))) (plains-first n r)
+plains-first n f = refl
 
 plains-rest : (n : ℕ) (f : Forest) → plains (rest_trees n f) ≡ behind n (plains f)
-plains-rest zero f = refl
-plains-rest (suc n) empty = refl
 plains-rest (suc n) (tree l k r) = plains-rest n r
+plains-rest n f = refl
 
 adopted_there : (i n : ℕ) (f r k : Forest) (l : Label) → has_root i f ≡ false → l.id ≡ i → adopted i n (join f (tree l k r)) ≡ join f (tree l (join k (first_trees n r)) (rest_trees n r))
 adopted_there i n empty r k l h e = ap (λ (t : Bool). cond t (tree l (join k (first_trees n r)) (rest_trees n r)) (tree l k (adopted i n r))) (eq-eqb l.id i e)
@@ -71,13 +69,12 @@ started {base = base} d = record {
 
 snoc_same : (xs ys : List Noted) (x y : Noted) → xs ++ x ∷ [] ≡ ys ++ y ∷ [] → (xs ≡ ys) × (x ≡ y)
 snoc_same [] [] x y e = (refl, cc)
-snoc_same [] (b ∷ ys) x y e = absurd (omega (arith, ap length e, length-append ys (y ∷ [])))
-snoc_same (a ∷ xs) [] x y e = absurd (omega (arith, ap length e, length-append xs (x ∷ [])))
 snoc_same (a ∷ xs) (b ∷ ys) x y e =
     let tails : xs ++ x ∷ [] ≡ ys ++ y ∷ [] = cc in
     let heads : a ≡ b = cc in
     let same = snoc_same xs ys x y tails in
     (ap (λ (z : Noted). z ∷ xs) heads ∙ ap (λ (zs : List Noted). b ∷ zs) same.0, same.1)
+snoc_same xs ys x y e = absurd (omega (arith, ap length e, length-append xs (x ∷ []), length-append ys (y ∷ [])))
 
 no_root : (i : ℕ) (f g : Forest) → has_root i (join f g) ≡ false → has_root i f ≡ false
 no_root i f g h = by_test (λ (t : Bool). has_root i f ≡ t → t ≡ false) (has_root i f) (λ e q. absurd (cc (root-left i f g q, h))) (λ e q. refl) refl
@@ -98,7 +95,6 @@ joined_one base ts us ys n f made w ws e p new found spells r =
     let before = join base (alone_in ws) in
     let whole : f ≡ join before (tree l empty made) = p ∙ ap (join base) (join_assoc (alone_in ws) (one_tree w.id w.payload empty) made) ∙ sym (join_assoc base (alone_in ws) (tree l empty made)) in
     let clear : has_root n.node before ≡ false = subst (λ (i : ℕ). has_root i before ≡ false) id-is new.0 in
-    let first_is : first_trees n.children made ≡ first_trees w.children made = ap (λ (k : ℕ). first_trees k made) (sym many) in
     let fits : w.children ≤ arity made = omega (arith, found.1, ap count r.plain_trees, count-plains made) in
     let next-made = tree l (first_trees n.children made) (rest_trees n.children made) in
     record {

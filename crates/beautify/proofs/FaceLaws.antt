@@ -3,9 +3,9 @@ use Rattle.beautify.proofs.Shared.{◌≡◌, ℕ, zero, suc, ◌*◌, ◌<◌, 
 use Rattle.beautify.proofs.Shared.{append_assoc, append-nil, inl, inr, ⊤, int_is_negative, parts, diffs, eq_diff, Fraction, lowest, times, whole_fraction, minus_one_fraction, lowest_parts}
 use Rattle.beautify.proofs.Shared.{same_lowest, times_lowest, den_pos, mul_pos, Tree, num, symbol, undef, add, mult, power, root, neg, sub, div, Trees, none, more, AllParts, AllPartsOf, is_num}
 use Rattle.beautify.proofs.Shared.{whole_num, Surd, surd_of, surd_one, surd_scale, surd_times, surd_power, Assignment, Means, MeansSum, MeansProduct, IsPower, IsWholePower, SoFar, single}
-use Rattle.beautify.proofs.Shared.{summed, multiplied, as_tree, face, has_minus, with_minus, unsigned_face, unless_one, product_of, fraction_of, power_below, exponent_below, below_zero}
+use Rattle.beautify.proofs.Shared.{summed, as_tree, face, has_minus, with_minus, unsigned_face, unless_one, product_of, fraction_of, power_below, exponent_below, below_zero}
 use Rattle.beautify.proofs.Shared.{factor_above, factor_below, factors_above, factors_below, face_of_sum, next_term, next_terms, IsTerm, none_is, split_product, is_reduced, NoneIs, HasForm}
-use Rattle.beautify.proofs.{Shared.{IsReduced, reduced_words, AllParts-map, ints, and_parts, one_fraction, is_number}, FaceRewrites.sum_joined, Trees.{unless_one_test, power_below_test}}
+use Rattle.beautify.proofs.{Shared.{IsReduced, append, reduced_words, AllParts-map, ints, and_parts, one_fraction, is_number}, Trees.{unless_one_test, power_below_test}}
 use Rattle.std.proofs.Common.{◌*ℤ◌}
 use Rattle.calc_algebra.proofs.SurdLaws.{Agree, Agree-refl, Agree-sym, Agree-trans, Agree-eq, Agree-Same, Agree-append, Agree-surd_times, Agree-surd_times_right, surd_times_assoc}
 use Rattle.calc_algebra.proofs.{SurdLaws.{surd_times-surd_one, surd_times-one, surd_times_left_comm, surd_times-surd_of, inverse_times, inverse_power}, TermLaws.Same-refl}
@@ -15,6 +15,11 @@ use Rattle.calc_algebra.proofs.{SquareClassLaws.Same-Agree, MeaningLaws.Means-Sa
 abbrev pub LeadsOnly : Tree → Type 0
 LeadsOnly (mult (more t ts)) = none_is is_num ts ≡ true
 LeadsOnly _ = ⊤
+
+-- the children of two sums side by side
+sum_joined : (ts us : Trees) (f : Assignment) (v w : Surd) → MeansSum ts f v → MeansSum us f w → MeansSum (append ts us) f (v ++ w)
+sum_joined none us f v w h k = rw h k
+sum_joined (more t ts) us f v w (a, b, m, n, e) k = (a, b ++ w, m, sum_joined ts us f b w n k, ap (λ x. x ++ w) e ∙ append_assoc a b w)
 
 -- ---- one fraction
 
@@ -148,10 +153,8 @@ module _ (f : Assignment) where
   inverse_exponent (num q) n w x v h m i = exponent_is (negsuc n) w x v (Agree-Same (Agree-trans (Same-Agree m) (Agree-eq (ap surd_of q_is)))) i
     where
       parts_are : (z : ℤ) (d : ℕ) → below_zero z d ≡ suc n → (z ≡ negsuc n) × (d ≡ 1)
-      parts_are (pos p) d e = cc
-      parts_are (negsuc p) zero e = cc
       parts_are (negsuc p) (suc zero) e = (let g : p ≡ n = cc in ap negsuc g, refl)
-      parts_are (negsuc p) (suc (suc d)) e = cc
+      parts_are z d e = cc
 
       q_is : q ≡ whole_fraction (negsuc n)
       q_is = let (a, b) = parts_are q.num q.den h in lowest_parts q ∙ (λ i. lowest (a i) (b i))
@@ -192,10 +195,9 @@ module _ (f : Assignment) where
 
   one_more : (s : SoFar) (b : Bool) (t : Tree) (x a u : Surd) → Means (as_tree s) f x → Means t f u → Agree a (turned b u) → Means (as_tree (next_term s b t)) f (x ++ a)
   one_more s true t x a u m n e = (x, u, m, n, Agree-Same (Agree-append (Agree-refl x) e))
-  one_more (single p) false t x a u m n e = (x ++ (u ++ []), (x, u ++ [], m, (u, [], n, refl, refl), refl), Agree-Same (Agree-append (Agree-refl x) (Agree-trans e (Agree-eq (sym (append-nil u))))))
-  one_more (multiplied us) false t x a u m n e = (x ++ (u ++ []), (x, u ++ [], m, (u, [], n, refl, refl), refl), Agree-Same (Agree-append (Agree-refl x) (Agree-trans e (Agree-eq (sym (append-nil u))))))
   one_more (summed us) false t x a u (w, m, k) n e =
       (w ++ (u ++ []), sum_joined us (more t none) f w (u ++ []) m (u, [], n, refl, refl), Agree-Same (Agree-append (Same-Agree k) (Agree-trans e (Agree-eq (sym (append-nil u))))))
+  one_more s false t x a u m n e = (x ++ (u ++ []), (x, u ++ [], m, (u, [], n, refl, refl), refl), Agree-Same (Agree-append (Agree-refl x) (Agree-trans e (Agree-eq (sym (append-nil u))))))
 
   mutual
     unsigned : (t : Tree) → AllParts LeadsOnly t → (v : Surd) → Means t f v → Unsigned t v

@@ -2,7 +2,7 @@
 use Rattle.std.proofs.Common.{◌≡◌, ℕ, ◌≤◌, Bool, true, false, arith}
 use Rattle.std.specs.Prelude.{⊤}
 use Rattle.beautify.proofs.Shared.{is_reduced, face, face_of_sum, factor_above, factors_above, fraction_of, has_minus, next_term, next_terms, unless_one, unsigned_face, with_minus, SoFar, as_tree}
-use Rattle.beautify.proofs.{Shared.{Tree, add, power, Trees, none, more, append, AllParts, AllPartsOf, HasTwo, is_undef, size}, Showables.{reduced_showable}, Sizes.{sizes-append, some_size}}
+use Rattle.beautify.proofs.{Shared.{Tree, add, power, Trees, none, more, append, AllParts, AllPartsOf, HasTwo, is_undef, size, least_size}, Showables.{reduced_showable}, Sizes.sizes-append}
 use Rattle.beautify.proofs.Resolving.{own_part}
 use Rattle.beautify.specs.Showing.{AreFactors, IsFactor, IsShowable}
 use Rattle.calc_language.specs.Grammar.{plus_term}
@@ -13,13 +13,13 @@ signed_least b t h = grind arith
 -- ---- sums
 
 terms_least : (ts : Trees) (u : Tree) → 16 ≤ size (add (append ts (more u none)))
-terms_least ts u = omega (arith, sizes-append ts (more u none), some_size u)
+terms_least ts u = omega (arith, sizes-append ts (more u none), least_size u)
 
 plus_least : (s : SoFar) (u : Tree) → 16 ≤ size (as_tree (plus_term s u))
-plus_least s u = grind (arith, some_size, terms_least)
+plus_least s u = grind (arith, least_size, terms_least)
 
 term_least : (s : SoFar) (b : Bool) (u : Tree) → 16 ≤ size (as_tree (next_term s b u))
-term_least s b u = grind (arith, some_size, plus_least)
+term_least s b u = grind (arith, least_size, plus_least)
 
 terms_more : (s : SoFar) (ts : Trees) → 16 ≤ size (as_tree s) → 16 ≤ size (as_tree (next_terms s ts))
 terms_more s none h = h
@@ -42,10 +42,10 @@ fraction_large : (above below : Trees) → AreLarge above → 16 ≤ size (fract
 fraction_large above below h = grind arith
 
 power_above : (b e : Tree) (ts : Trees) → AreLarge ts → AreLarge (factor_above (power b e) ts)
-power_above b e ts h = grind (arith, some_size)
+power_above b e ts h = grind (arith, least_size)
 
 factor_large : (t : Tree) (ts : Trees) → IsFactor t → IsShowable t → AreLarge ts → AreLarge (factor_above t ts)
-factor_large t ts f s h = grind (arith, unless_large, sum_least, power_above, some_size)
+factor_large t ts f s h = grind (arith, unless_large, sum_least, power_above, least_size)
 
 factors_large : (ts : Trees) → AreFactors ts → AllPartsOf IsShowable ts → AreLarge (factors_above ts)
 factors_large none f s = tt
@@ -54,10 +54,10 @@ factors_large (more t ts) f s = factor_large t (factors_above ts) f.0 (own_part 
 -- ---- faces
 
 power_large : (b e : Tree) → 16 ≤ size (unsigned_face (power b e))
-power_large b e = grind (arith, some_size, fraction_large)
+power_large b e = grind (arith, least_size, fraction_large)
 
 unsigned_large : (t : Tree) → AllParts IsShowable t → 16 ≤ size (unsigned_face t)
-unsigned_large t h = grind (arith, fraction_large, unless_large, sum_least, factors_large, power_large, some_size)
+unsigned_large t h = grind (arith, fraction_large, unless_large, sum_least, factors_large, power_large, least_size)
 
 pub face_large : (t : Tree) → is_reduced t ≡ true → is_undef t ≡ false → 16 ≤ size (face t)
 face_large t r d = signed_least (has_minus t) (unsigned_face t) (unsigned_large t (reduced_showable t r d))

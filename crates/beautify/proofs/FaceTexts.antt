@@ -2,7 +2,7 @@
 use Rattle.std.proofs.Common.{◌≡◌, ℕ, zero, suc, nat_abs, inl, inr, List, [], ◌∷◌, Bool, true, false, refl, sym, ap, ◌∙◌, subst, arith}
 use Rattle.std.specs.Prelude.{Contains, ⊤}
 use Rattle.beautify.proofs.Shared.{Tree, num, symbol, undef, add, mult, power, root, neg, sub, div, Trees, none, more, append, AllParts, AllPartsOf, is_mult, is_undef, whole_num, HasTwo, IsComplete}
-use Rattle.beautify.proofs.Shared.{AreComplete, SoFar, single, summed, multiplied, as_tree, face, has_minus, with_minus, unsigned_face, unless_one, product_of, fraction_of, power_below}
+use Rattle.beautify.proofs.Shared.{AreComplete, SoFar, single, summed, as_tree, face, has_minus, with_minus, unsigned_face, unless_one, product_of, fraction_of, power_below}
 use Rattle.beautify.proofs.Shared.{exponent_below, factor_above, factor_below, factors_above, factors_below, face_of_sum, next_term, next_terms, IsTerm, is_reduced, NoneIs, HasForm, IsReduced}
 use Rattle.beautify.proofs.{Shared.{reduced_words, AllParts-zip}, Trees.{unless_one_by, power_below_by}}
 use Rattle.calc_terms.specs.{Name.{is_name}, Trees.{names, names_of}}
@@ -99,10 +99,9 @@ module _ (known : List (List ℕ)) where
 
   ready_next : (s : SoFar) (b : Bool) (t : Tree) → Ready (as_tree s) → Ready t → Ready (as_tree (next_term s b t))
   ready_next s true t h k = ready_sub (as_tree s) t h k
-  ready_next (single p) false t h k = ready_sum (more p (more t none)) tt (ready_pair p t h k)
-  ready_next (multiplied us) false t h k = ready_sum (more (mult us) (more t none)) tt (ready_pair (mult us) t h k)
   ready_next (summed us) false t h k =
       ready_sum (append us (more t none)) (two_appended us t h.complete.1) (ready_append us t (record { complete = h.complete.0; written = h.written; named = h.named }) k)
+  ready_next s false t h k = ready_sum (more (as_tree s) (more t none)) tt (ready_pair (as_tree s) t h k)
 
   signed : (t : Tree) → Ready (unsigned_face t) → Ready (face t)
   signed t r = ready_minus (has_minus t) (unsigned_face t) r

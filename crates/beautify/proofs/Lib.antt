@@ -8,11 +8,9 @@ pub mod Drafting
 pub mod Resolving
 pub mod Steps
 pub mod FaceTrees
-pub mod NodeKinds
 pub mod Showables
 pub mod Signs
 pub mod Examples
-pub mod FaceRewrites
 pub mod FaceLaws
 pub mod FaceTexts
 pub mod FaceSizes

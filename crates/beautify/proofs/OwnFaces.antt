@@ -2,7 +2,7 @@
 use Rattle.beautify.proofs.Shared.{◌≡◌, ℕ, ℤ, pos, negsuc, zero, suc, nat_abs, true, false, not, inl, inr, refl, sym, ap, ◌∙◌, arith, ⊤, is_natural, has_natural_numbers, reduced_words, IsTerm}
 use Rattle.beautify.proofs.Shared.{all_parts_of, none_is, is_reduced, HasForm, IsReduced, IsFrontForm, face, has_minus, with_minus, unsigned_face, unless_one, product_of, fraction_of, power_below}
 use Rattle.beautify.proofs.Shared.{exponent_below, below_zero, factor_above, factor_below, factors_above, factors_below, face_of_sum, next_terms, summed, as_tree, Fraction, whole_fraction}
-use Rattle.beautify.proofs.Shared.{int_is_negative, Tree, num, symbol, undef, add, mult, power, root, neg, sub, div, Trees, none, more, append, AllParts, AllPartsOf, HasTwo, is_num, whole_num}
+use Rattle.beautify.proofs.Shared.{int_is_negative, Tree, num, symbol, undef, add, mult, power, root, Trees, none, more, append, AllParts, AllPartsOf, HasTwo, is_num, whole_num}
 use Rattle.beautify.proofs.{Shared.{append-none, and_parts, eqb-true, one_fraction}, FaceLaws.form_leads, Showables.{first_part, formed, two_terms, two_factors}, Trees.{append_assoc, unless_one_test}}
 use Rattle.std.specs.Prelude.{◌≢◌}
 use Rattle.calc_algebra.proofs.NumberRewrites.{fraction_whole}
@@ -134,9 +134,7 @@ mutual
       let k = and_parts _ _ h in
       record { plus = refl; unsigned = raised b e (not_below e k.1) (own b f.1 k.0) (own e f.2 k.1) }
   own (root a) f h = record { plus = refl; unsigned = ap root (signed (own a f.1 h)) }
-  own (neg a) f h = absurd (formed (neg a) f.0)
-  own (sub a b) f h = absurd (formed (sub a b) f.0)
-  own (div a b) f h = absurd (formed (div a b) f.0)
+  own t f h = absurd (formed t f.0)
 
   sum : (ts : Trees) → HasTwo ts → AllPartsOf HasForm ts → all_parts_of is_natural ts ≡ true → face_of_sum ts ≡ add ts
   sum none w f h = absurd w
@@ -178,9 +176,7 @@ mutual
   factors (more (symbol x) ts) n f h = let l = factors ts n f.1 h in (ap (more (symbol x)) l.0, l.1)
   factors (more undef ts) n f h = let l = factors ts n f.1 h in (ap (more undef) l.0, l.1)
   factors (more (mult us) ts) n f h = let l = factors ts n f.1 (and_parts _ _ h).1 in (ap (more (mult us)) l.0, l.1)
-  factors (more (neg a) ts) n f h = absurd (formed (neg a) (first_part (neg a) f.0))
-  factors (more (sub a b) ts) n f h = absurd (formed (sub a b) (first_part (sub a b) f.0))
-  factors (more (div a b) ts) n f h = absurd (formed (div a b) (first_part (div a b) f.0))
+  factors (more t ts) n f h = absurd (formed t (first_part t f.0))
 
 pub own_face : (t : Tree) → is_reduced t ≡ true → has_natural_numbers t ≡ true → face t ≡ t
 own_face t r h = by (reduced_words t r)

@@ -1,6 +1,6 @@
 -- Lists of what is still to be written.
 use Rattle.beautify.proofs.Shared.{◌≡◌, ◌∙◌, ℕ, ◌+◌, ◌*◌, ◌≤◌, List, [], ◌∷◌, ◌++◌, length, refl, sym, ap, subst, arith, Tree, Trees, none, AllParts, plain}
-use Rattle.beautify.proofs.Shared.{IsExpression, Forest, join, tree_at, IsShowable, Form, Pending, Face, Unsigned, Divisor, Part, Over, One, Name, Numerator, Denominator, Owes, AreReady}
+use Rattle.beautify.proofs.Shared.{IsExpression, Forest, join, tree_at, IsShowable, Form, Pending, Divisor, Part, Over, One, Owes, AreReady}
 use Rattle.beautify.proofs.Shared.{IsReady, IsReadyPart, TakesForm, with_next, owed_before, next_room, form_room, rooms, least_size}
 use Rattle.tree_handles.proofs.Joins.{holds-left, tree_at-join_left}
 
@@ -58,24 +58,17 @@ owes_as o e h = record { trees = o.trees ∙ e; ready = o.ready; bytes = omega (
 
 -- ---- bytes
 
+pub some_room : (form : Form) (t : Tree) → 8 ≤ form_room form t
+some_room Divisor t = omega arith
+some_room _ t = omega (arith, least_size t)
+
 pub eight_next : (p : Pending) (f : Forest) → 8 ≤ next_room p f
-eight_next (Over k n) f = omega arith
-eight_next One f = omega arith
-eight_next (Name i) f = omega arith
-eight_next (Numerator i) f = omega arith
-eight_next (Denominator i) f = omega arith
-eight_next (Part Face i) f = omega (arith, least_size (plain (tree_at i f)))
-eight_next (Part Unsigned i) f = omega (arith, least_size (plain (tree_at i f)))
-eight_next (Part Divisor i) f = omega arith
+eight_next (Part form i) f = some_room form (plain (tree_at i f))
+eight_next _ f = omega arith
 
 pub eight_each : (ps : List Pending) (f : Forest) → 8 * length ps ≤ rooms ps f
 eight_each [] f = omega arith
 eight_each (p ∷ ps) f = omega (arith, eight_next p f, eight_each ps f)
-
-pub some_room : (form : Form) (t : Tree) → 8 ≤ form_room form t
-some_room Face t = omega (arith, least_size t)
-some_room Unsigned t = omega (arith, least_size t)
-some_room Divisor t = omega arith
 
 pub rooms-snoc : (ps : List Pending) (p : Pending) (f : Forest) → rooms (ps ++ p ∷ []) f ≡ rooms ps f + next_room p f
 rooms-snoc ps p f = omega (arith, rooms-append ps (p ∷ []) f)

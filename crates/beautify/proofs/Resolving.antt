@@ -1,10 +1,10 @@
 -- Faces of single nodes over the faces of their children, and their bytes.
 use Rattle.beautify.proofs.Shared.{◌≡◌, ◌∙◌, ◌==◌, if◌then◌else◌, None, Some, ℕ, zero, suc, ◌+◌, ◌*◌, ◌<◌, ◌≤◌, nat_abs, refl, sym, ap, subst, arith, true, false, Bool, Tree, Trees, Fraction}
-use Rattle.beautify.proofs.Shared.{has_minus, with_minus, is_symbol, symbol, face_of_sum, Part, Numerator, Denominator, num, power, root, mult, add, div, none, more, append, count, size, sizes, nth}
+use Rattle.beautify.proofs.Shared.{has_minus, with_minus, is_symbol, face_of_sum, Part, Numerator, Denominator, num, power, root, mult, add, div, none, more, append, count, size, sizes, nth}
 use Rattle.beautify.proofs.Shared.{plain, children_of, root_kind, whole_num, AllParts, AllPartsOf, HasTwo, is_num, num_least, IsExpression, Forest, tree_at, Form, Face, Unsigned, Divisor, IsReadyPart}
 use Rattle.beautify.proofs.Shared.{IsShowable, IsFactor, AreFactors, first, behind, face, unsigned_face, exponent_below, stands_below, divisor_of, product_of, fraction_of, unless_one, numerator_of}
 use Rattle.beautify.proofs.Shared.{denominator_of, factor_above, factor_below, factors_above, factors_below, form_room, part_room, part_above, part_below, share_room, Terms, Above, Below, least_size}
-use Rattle.beautify.proofs.{NodeKinds.{sum_parts, product_parts}, Sizes.eight_each, Trees.{unless_one_by, unless_one_test, first-append, behind-append}}
+use Rattle.beautify.proofs.{Sizes.eight_each, Trees.{unless_one_by, unless_one_test, first-append, behind-append}}
 use Rattle.calc_terms.specs.{Kind.size_by_form, Short.is_short}
 use Rattle.calc_terms.proofs.ShortForm.{short_whole}
 use Rattle.calc_terms.specs.declared.kind.Kind.TheVariants as kind
@@ -98,11 +98,8 @@ parted_size t q e d = ap size e ∙ long_by (is_short q) q refl d
 -- ---- products
 
 pub multiplied_is : (n : ℕ) (us : Trees) → 1 < n → n ≤ count us → mult (first n us) ≡ product_of (first n us)
-multiplied_is zero us o h = absurd (omega arith)
-multiplied_is (suc zero) us o h = absurd (omega arith)
-multiplied_is (suc (suc n)) none o h = absurd (omega arith)
-multiplied_is (suc (suc n)) (more t none) o h = absurd (omega arith)
 multiplied_is (suc (suc n)) (more t (more u us)) o h = refl
+multiplied_is n us o h = absurd (omega arith)
 
 -- ---- how many children
 
@@ -130,11 +127,7 @@ side_bound false t = omega (arith, least_size t)
 
 factor_bound : (t : Tree) → IsFactor t → part_room (part_above 0 t) t + part_room (part_below 0 t) t + 12 ≤ 4 * size t
 factor_bound (num q) h = number_bound (is_short q) q refl
-factor_bound (symbol x) h = side_bound false (symbol x)
-factor_bound (add ts) h = side_bound false (add ts)
-factor_bound (power b e) h = side_bound (stands_below (power b e)) (power b e)
-factor_bound (root a) h = side_bound false (root a)
-factor_bound t h = absurd h
+factor_bound t h = side_bound (stands_below t) t
 
 sides_bound : (ts : Trees) → AreFactors ts → share_room Above ts + share_room Below ts + 12 * count ts ≤ 4 * sizes ts
 sides_bound none h = omega arith
@@ -201,6 +194,9 @@ product_of_factors ts h =
       parted = fraction_parted (factors_above ts) (factors_below ts);
     }
 
+product_parts : (t : Tree) → root_kind t ≡ kind.Mult → t ≡ mult (children_of t)
+product_parts t h = grind arith
+
 pub product : (t : Tree) → root_kind t ≡ kind.Mult → AllParts IsShowable t → IsProduct t (children_of t)
 product t k h =
     let e = product_parts t k in
@@ -217,6 +213,9 @@ sum_of_terms : (ts : Trees) → HasTwo ts → IsSum (add ts) ts
 sum_of_terms none h = absurd h
 sum_of_terms (more t ts) h =
     record { some = two_or_more (more t ts) h; bytes = omega (arith, terms_bound ts, least_size t); slots = omega (arith, eight_each (more t ts)); face-is = refl }
+
+sum_parts : (t : Tree) → root_kind t ≡ kind.Add → t ≡ add (children_of t)
+sum_parts t h = grind arith
 
 pub sum : (t : Tree) → root_kind t ≡ kind.Add → AllParts IsShowable t → IsSum t (children_of t)
 sum t k h =

@@ -1,7 +1,7 @@
 -- What the children of a node put into its face, pushed one after another and turned round.
-use Rattle.beautify.proofs.Shared.{◌≡◌, ◌∙◌, ℕ, zero, suc, ◌+◌, ◌-◌, ◌<◌, ◌≤◌, ◌==◌, if◌then◌else◌, List, [], ◌∷◌, ◌++◌, length, Option, None, Some, refl, sym, ap, subst, arith, true, false, Bool}
+use Rattle.beautify.proofs.Shared.{◌≡◌, ◌∙◌, ℕ, suc, ◌+◌, ◌-◌, ◌<◌, ◌≤◌, ◌==◌, if◌then◌else◌, List, [], ◌∷◌, ◌++◌, length, Option, None, Some, refl, sym, ap, subst, arith, true, false, Bool}
 use Rattle.beautify.proofs.Shared.{nat_abs, append_assoc as list_assoc, append-nil, ⊤, length-append, append-none, children_of, TakesForm, in_form, IsReadyPart, divisor_of, numerator_of}
-use Rattle.beautify.proofs.Shared.{denominator_of, is_num, symbol, root_kind, form_room, Tree, Trees, num, power, root, add, none, more, append, count, nth, plain, AllParts, AllPartsOf, whole_num}
+use Rattle.beautify.proofs.Shared.{denominator_of, is_num, root_kind, form_room, Tree, Trees, num, none, more, append, count, nth, plain, AllParts, AllPartsOf, whole_num}
 use Rattle.beautify.proofs.Shared.{IsExpression, Forest, tree_at, unsigned_face, unsigned_faces, unless_one, factor_above, factor_below, factors_above, factors_below, behind, Share, Terms, Above}
 use Rattle.beautify.proofs.Shared.{Below, Pending, Part, Numerator, Denominator, Form, Unsigned, Divisor, Owes, IsReady, IsShowable, IsFactor, AreSharing, part_of, part_above, part_below, part_room}
 use Rattle.beautify.proofs.{Shared.{share_room, shared, stands_below, with_next, next_room, by_test}, Pushing.{pushed, owes_as}, Trees.{append_assoc, behind-next, behind-all}}
@@ -96,41 +96,31 @@ shared_none {share = share} {from = from} {i = i} {ids = ids} {old = old} {f = f
 abbrev Puts : Share → Tree → Forest → ℕ → Pending → Trees → Trees → Type 0
 Puts share t f room p ts us = (append (shared share (more t ts)) us ≡ with_next p f (append (shared share ts) us)) × IsReady p f (append (shared share ts) us) × (next_room p f ≤ room) × (count (with_next p f (append (shared share ts) us)) ≡ suc (count (append (shared share ts) us)))
 
-record IsPart (share : Share) (i : ℕ) (t : Tree) (f : Forest) (o : Option Pending) : Type 0 where
-  none-is : o ≡ None → (ts : Trees) → shared share (more t ts) ≡ shared share ts
-  some-is : (p : Pending) → o ≡ Some p → (ts us : Trees) → Puts share t f (part_room o t) p ts us
+abbrev IsPart : Share → Tree → Forest → Option Pending → Type 0
+IsPart share t f None = (ts : Trees) → shared share (more t ts) ≡ shared share ts
+IsPart share t f (Some p) = (ts us : Trees) → Puts share t f (part_room (Some p) t) p ts us
 
 ready_part : (form : Form) (i : ℕ) (t : Tree) (f : Forest) → plain (tree_at i f) ≡ t → IsExpression i f → AllParts IsShowable t → TakesForm form t → IsReadyPart form i f
 ready_part form i t f e x s k = record { expression = x; showable = subst (AllParts IsShowable) (sym e) s; takes-it = subst (TakesForm form) (sym e) k }
 
 -- a tree in some form
-form_part : (share : Share) (form : Form) (i : ℕ) (t : Tree) (f : Forest) → plain (tree_at i f) ≡ t → IsReadyPart form i f → ((ts : Trees) → shared share (more t ts) ≡ more (in_form form t) (shared share ts)) → IsPart share i t f (Some (Part form i))
-form_part share form i t f e r h = record {
-  none-is = λ q. absurd cc;
-  some-is = λ p q ts us. subst (λ (x : Pending). Puts share t f (part_room (Some (Part form i)) t) x ts us) (some_same q)
-      (ap (λ (x : Trees). append x us) (h ts) ∙ ap (λ (x : Tree). more (in_form form x) (append (shared share ts) us)) (sym e), r, omega (arith, ap (form_room form) e), refl);
-}
-  where
-    some_same : {x y : Pending} → Some x ≡ Some y → x ≡ y
-    some_same q = cc
+form_part : (share : Share) (form : Form) (i : ℕ) (t : Tree) (f : Forest) → plain (tree_at i f) ≡ t → IsReadyPart form i f
+    → ((ts : Trees) → shared share (more t ts) ≡ more (in_form form t) (shared share ts)) → IsPart share t f (Some (Part form i))
+form_part share form i t f e r h = λ ts us.
+    (ap (λ (x : Trees). append x us) (h ts) ∙ ap (λ (x : Tree). more (in_form form x) (append (shared share ts) us)) (sym e), r, omega (arith, ap (form_room form) e), refl)
 
 -- a whole number
-number_part : (share : Share) (p : Pending) (n : ℕ) (i : ℕ) (t : Tree) (f : Forest) → ((us : Trees) → with_next p f us ≡ more (whole_num n) us) → ((us : Trees) → IsReady p f us) → next_room p f ≡ part_room (Some p) t → ((ts : Trees) → shared share (more t ts) ≡ unless_one n (shared share ts))
-    → IsPart share i t f (if n == 1 then None else Some p)
-number_part share p n i t f w r b h = by_test (λ (c : Bool). (n == 1) ≡ c → IsPart share i t f (if c then None else Some p)) (n == 1)
-    (λ e q. record { none-is = λ z ts. h ts ∙ ap (λ (c : Bool). if c then shared share ts else more (whole_num n) (shared share ts)) q; some-is = λ x z. absurd cc })
-    (λ e q. record {
-      none-is = λ z. absurd cc;
-      some-is = λ x z ts us. subst (λ (y : Pending). Puts share t f (part_room (Some p) t) y ts us) (some_same z)
-          (ap (λ (x : Trees). append x us) (h ts ∙ ap (λ (c : Bool). if c then shared share ts else more (whole_num n) (shared share ts)) q) ∙ sym (w (append (shared share ts) us)), r (append (shared share ts) us), omega (arith, b), ap count (w (append (shared share ts) us)));
-    }) refl
-  where
-    some_same : {x y : Pending} → Some x ≡ Some y → x ≡ y
-    some_same q = cc
-
--- nothing
-no_part : (share : Share) (i : ℕ) (t : Tree) (f : Forest) → ((ts : Trees) → shared share (more t ts) ≡ shared share ts) → IsPart share i t f None
-no_part share i t f h = record { none-is = λ q ts. h ts; some-is = λ p q. absurd cc }
+number_part : (share : Share) (p : Pending) (n : ℕ) (t : Tree) (f : Forest) → ((us : Trees) → with_next p f us ≡ more (whole_num n) us) → ((us : Trees) → IsReady p f us)
+    → next_room p f ≡ part_room (Some p) t → ((ts : Trees) → shared share (more t ts) ≡ unless_one n (shared share ts))
+    → IsPart share t f (if n == 1 then None else Some p)
+number_part share p n t f w r b h = by_test (λ (c : Bool). (n == 1) ≡ c → IsPart share t f (if c then None else Some p)) (n == 1)
+    (λ e q ts. h ts ∙ ap (λ (c : Bool). if c then shared share ts else more (whole_num n) (shared share ts)) q)
+    (λ e q ts us. (
+      ap (λ (x : Trees). append x us) (h ts ∙ ap (λ (c : Bool). if c then shared share ts else more (whole_num n) (shared share ts)) q) ∙ sym (w (append (shared share ts) us)),
+      r (append (shared share ts) us),
+      omega (arith, b),
+      ap count (w (append (shared share ts) us)),
+    )) refl
 
 -- powers above and below the line
 stays : (t : Tree) → IsFactor t → (root_kind t ≡ kind.Num → ⊥) → stands_below t ≡ false → ((us : Trees) → factor_above t us ≡ more (unsigned_face t) us) × ((us : Trees) → factor_below t us ≡ us)
@@ -139,60 +129,46 @@ stays t f n h = grind arith
 goes : (t : Tree) → stands_below t ≡ true → ((us : Trees) → factor_above t us ≡ us) × ((us : Trees) → factor_below t us ≡ more (divisor_of t) us)
 goes t h = grind arith
 
-above_other : (i : ℕ) (t : Tree) (f : Forest) → plain (tree_at i f) ≡ t → IsExpression i f → AllParts IsShowable t → IsFactor t → (root_kind t ≡ kind.Num → ⊥) → IsPart Above i t f (if stands_below t then None else Some (Part Unsigned i))
-above_other i t f e x s h n = by_test (λ (c : Bool). stands_below t ≡ c → IsPart Above i t f (if c then None else Some (Part Unsigned i))) (stands_below t)
-    (λ y q. no_part Above i t f (λ ts. (goes t q).0 (factors_above ts)))
+above_other : (i : ℕ) (t : Tree) (f : Forest) → plain (tree_at i f) ≡ t → IsExpression i f → AllParts IsShowable t → IsFactor t → (root_kind t ≡ kind.Num → ⊥)
+    → IsPart Above t f (if stands_below t then None else Some (Part Unsigned i))
+above_other i t f e x s h n = by_test (λ (c : Bool). stands_below t ≡ c → IsPart Above t f (if c then None else Some (Part Unsigned i))) (stands_below t)
+    (λ y q ts. (goes t q).0 (factors_above ts))
     (λ y q. form_part Above Unsigned i t f e (ready_part Unsigned i t f e x s tt) (λ ts. (stays t h n q).0 (factors_above ts))) refl
 
-below_other : (i : ℕ) (t : Tree) (f : Forest) → plain (tree_at i f) ≡ t → IsExpression i f → AllParts IsShowable t → IsFactor t → (root_kind t ≡ kind.Num → ⊥) → IsPart Below i t f (if stands_below t then Some (Part Divisor i) else None)
-below_other i t f e x s h n = by_test (λ (c : Bool). stands_below t ≡ c → IsPart Below i t f (if c then Some (Part Divisor i) else None)) (stands_below t)
+below_other : (i : ℕ) (t : Tree) (f : Forest) → plain (tree_at i f) ≡ t → IsExpression i f → AllParts IsShowable t → IsFactor t → (root_kind t ≡ kind.Num → ⊥)
+    → IsPart Below t f (if stands_below t then Some (Part Divisor i) else None)
+below_other i t f e x s h n = by_test (λ (c : Bool). stands_below t ≡ c → IsPart Below t f (if c then Some (Part Divisor i) else None)) (stands_below t)
     (λ y q. form_part Below Divisor i t f e (ready_part Divisor i t f e x s q) (λ ts. (goes t q).1 (factors_below ts)))
-    (λ y q. no_part Below i t f (λ ts. (stays t h n q).1 (factors_below ts))) refl
+    (λ y q ts. (stays t h n q).1 (factors_below ts)) refl
 
-above_part : (i : ℕ) (t : Tree) (f : Forest) → plain (tree_at i f) ≡ t → IsExpression i f → AllParts IsShowable t → IsFactor t → IsPart Above i t f (part_above i t)
-above_part i (num q) f e x s h = number_part Above (Numerator i) (nat_abs q.num) i (num q) f (λ us. ap (λ (y : Tree). more (numerator_of y) us) e) (λ us. (x, ap is_num e)) refl (λ ts. refl)
-above_part i (symbol y) f e x s h = above_other i (symbol y) f e x s h (λ z. absurd cc)
-above_part i (add ts) f e x s h = above_other i (add ts) f e x s h (λ z. absurd cc)
-above_part i (power b c) f e x s h = above_other i (power b c) f e x s h (λ z. absurd cc)
-above_part i (root a) f e x s h = above_other i (root a) f e x s h (λ z. absurd cc)
-above_part i t f e x s h = absurd h
+above_part : (i : ℕ) (t : Tree) (f : Forest) → plain (tree_at i f) ≡ t → IsExpression i f → AllParts IsShowable t → IsFactor t → IsPart Above t f (part_above i t)
+above_part i (num q) f e x s h = number_part Above (Numerator i) (nat_abs q.num) (num q) f (λ us. ap (λ (y : Tree). more (numerator_of y) us) e) (λ us. (x, ap is_num e)) refl (λ ts. refl)
+above_part i t f e x s h = above_other i t f e x s h (λ z. absurd cc)
 
-below_part : (i : ℕ) (t : Tree) (f : Forest) → plain (tree_at i f) ≡ t → IsExpression i f → AllParts IsShowable t → IsFactor t → IsPart Below i t f (part_below i t)
-below_part i (num q) f e x s h = number_part Below (Denominator i) q.den i (num q) f (λ us. ap (λ (y : Tree). more (denominator_of y) us) e) (λ us. (x, ap is_num e)) refl (λ ts. refl)
-below_part i (symbol y) f e x s h = below_other i (symbol y) f e x s h (λ z. absurd cc)
-below_part i (add ts) f e x s h = below_other i (add ts) f e x s h (λ z. absurd cc)
-below_part i (power b c) f e x s h = below_other i (power b c) f e x s h (λ z. absurd cc)
-below_part i (root a) f e x s h = below_other i (root a) f e x s h (λ z. absurd cc)
-below_part i t f e x s h = absurd h
+below_part : (i : ℕ) (t : Tree) (f : Forest) → plain (tree_at i f) ≡ t → IsExpression i f → AllParts IsShowable t → IsFactor t → IsPart Below t f (part_below i t)
+below_part i (num q) f e x s h = number_part Below (Denominator i) q.den (num q) f (λ us. ap (λ (y : Tree). more (denominator_of y) us) e) (λ us. (x, ap is_num e)) refl (λ ts. refl)
+below_part i t f e x s h = below_other i t f e x s h (λ z. absurd cc)
 
-one_part : (share : Share) (i : ℕ) (f : Forest) (ts : Trees) → IsExpression i f → AllParts IsShowable (plain (tree_at i f)) → AreSharing share (more (plain (tree_at i f)) ts) → IsPart share i (plain (tree_at i f)) f (part_of share i (plain (tree_at i f)))
+one_part : (share : Share) (i : ℕ) (f : Forest) (ts : Trees) → IsExpression i f → AllParts IsShowable (plain (tree_at i f)) → AreSharing share (more (plain (tree_at i f)) ts)
+    → IsPart share (plain (tree_at i f)) f (part_of share i (plain (tree_at i f)))
 one_part Terms i f ts x s h = form_part Terms Unsigned i (plain (tree_at i f)) f refl (ready_part Unsigned i (plain (tree_at i f)) f refl x s tt) (λ us. refl)
 one_part Above i f ts x s h = above_part i (plain (tree_at i f)) f refl x s h.0
 one_part Below i f ts x s h = below_part i (plain (tree_at i f)) f refl x s h.0
 
 others_share : (share : Share) (t : Tree) (ts : Trees) → AreSharing share (more t ts) → AreSharing share ts
 others_share Terms t ts h = tt
-others_share Above t ts h = h.1
-others_share Below t ts h = h.1
+others_share share t ts h = h.1
 
 -- its room does not depend on its identifier
-room_above : (i j : ℕ) (t : Tree) → part_room (part_above i t) t ≡ part_room (part_above j t) t
-room_above i j t = grind arith
-
-room_below : (i j : ℕ) (t : Tree) → part_room (part_below i t) t ≡ part_room (part_below j t) t
-room_below i j t = grind arith
-
 same_room : (share : Share) (i j : ℕ) (t : Tree) → part_room (part_of share i t) t ≡ part_room (part_of share j t) t
 same_room Terms i j t = refl
-same_room Above i j t = room_above i j t
-same_room Below i j t = room_below i j t
+same_room Above i j t = grind arith
+same_room Below i j t = grind arith
 
 -- ---- all of them, turned round
 
 none_owed : (share : Share) (us : Trees) → append (shared share none) us ≡ us
-none_owed Terms us = refl
-none_owed Above us = refl
-none_owed Below us = refl
+none_owed share us = grind arith
 
 pub shares_owe : {old : List Pending} {f : Forest} {us : Trees} {r : ℕ} (share : Share) (ids : List ℕ) → AreExpressions ids f → AllPartsOf IsShowable (trees_at ids f) → AreSharing share (trees_at ids f) → Owes old f us r
     → Owes (old ++ reverse (parts_at share ids f)) f (append (shared share (trees_at ids f)) us) (r + share_room share (trees_at ids f))
@@ -204,44 +180,43 @@ shares_owe {old = old} {f = f} {us = us} {r = r} share (i ∷ is) x s h o =
     let rest = shares_owe share is x.1 s.1 (others_share share t ts h) o in
     by (part_of share i t) refl part rest
   where
-    by : (q : Option Pending) → part_of share i (plain (tree_at i f)) ≡ q → IsPart share i (plain (tree_at i f)) f q → Owes (old ++ reverse (parts_at share is f)) f (append (shared share (trees_at is f)) us) (r + share_room share (trees_at is f))
+    by : (q : Option Pending) → part_of share i (plain (tree_at i f)) ≡ q → IsPart share (plain (tree_at i f)) f q
+        → Owes (old ++ reverse (parts_at share is f)) f (append (shared share (trees_at is f)) us) (r + share_room share (trees_at is f))
         → Owes (old ++ reverse (one_of q ++ parts_at share is f)) f (append (shared share (more (plain (tree_at i f)) (trees_at is f))) us) (r + (part_room (part_of share 0 (plain (tree_at i f))) (plain (tree_at i f)) + share_room share (trees_at is f)))
-    by None e p rest = owes_as rest (ap (λ (x : Trees). append x us) (sym (p.none-is refl (trees_at is f)))) (omega arith)
+    by None e p rest = owes_as rest (ap (λ (x : Trees). append x us) (sym (p (trees_at is f)))) (omega arith)
     by (Some q) e p rest =
         let t = plain (tree_at i f) in
-        let k = p.some-is q refl (trees_at is f) us in
+        let k = p (trees_at is f) us in
         let all : old ++ reverse (q ∷ parts_at share is f) ≡ (old ++ reverse (parts_at share is f)) ++ q ∷ [] =
         ap (λ (xs : List Pending). old ++ xs) (reverse-append (q ∷ []) (parts_at share is f)) ∙ sym (list_assoc old (reverse (parts_at share is f)) (q ∷ [])) in
         subst (λ (ps : List Pending). Owes ps f (append (shared share (more t (trees_at is f))) us) (r + (part_room (part_of share 0 t) t + share_room share (trees_at is f)))) (sym all)
         (owes_as (pushed q rest k.1) (sym k.0) (omega (arith, k.2, ap (λ (o : Option Pending). part_room o t) e, same_room share i 0 t)))
 
 -- how many they are
-count_one : (share : Share) (i : ℕ) (t : Tree) (ts : Trees) (f : Forest) → IsPart share i t f (part_of share i t) → count (shared share (more t ts)) ≡ length (one_of (part_of share i t)) + count (shared share ts)
+count_one : (share : Share) (i : ℕ) (t : Tree) (ts : Trees) (f : Forest) → IsPart share t f (part_of share i t)
+    → count (shared share (more t ts)) ≡ length (one_of (part_of share i t)) + count (shared share ts)
 count_one share i t ts f p = by (part_of share i t) p
   where
-    by : (q : Option Pending) → IsPart share i t f q → count (shared share (more t ts)) ≡ length (one_of q) + count (shared share ts)
-    by None p = omega (arith, ap count (p.none-is refl ts))
-    by (Some q) p = let k = p.some-is q refl ts none in omega (arith, ap count (append-none (shared share (more t ts))), ap count (k.0), k.3, ap count (append-none (shared share ts)))
+    by : (q : Option Pending) → IsPart share t f q → count (shared share (more t ts)) ≡ length (one_of q) + count (shared share ts)
+    by None p = omega (arith, ap count (p ts))
+    by (Some q) p = let k = p ts none in omega (arith, ap count (append-none (shared share (more t ts))), ap count (k.0), k.3, ap count (append-none (shared share ts)))
 
 pub count-shared : (share : Share) (ids : List ℕ) (f : Forest) → AreExpressions ids f → AllPartsOf IsShowable (trees_at ids f) → AreSharing share (trees_at ids f) → count (shared share (trees_at ids f)) ≡ length (parts_at share ids f)
-count-shared Terms [] f x s h = refl
-count-shared Above [] f x s h = refl
-count-shared Below [] f x s h = refl
+count-shared share [] f x s h = grind arith
 count-shared share (i ∷ is) f x s h =
     let t = plain (tree_at i f) in
     let ts = trees_at is f in
     omega (arith, count_one share i t ts f (one_part share i f ts x.0 s.0 h), count-shared share is f x.1 s.1 (others_share share t ts h), length-append (one_of (part_of share i t)) (parts_at share is f))
 
-pub count-faces : (ts : Trees) → count (unsigned_faces ts) ≡ count ts
-count-faces none = refl
-count-faces (more t ts) = ap suc (count-faces ts)
+pub count_faces : (ts : Trees) → count (unsigned_faces ts) ≡ count ts
+count_faces none = refl
+count_faces (more t ts) = ap suc (count_faces ts)
 
 -- ---- the end of the loop
 
 all_below : (P : Tree → Type 0) (n : ℕ) (ts : Trees) → AllPartsOf P ts → AllPartsOf P (behind n ts)
-all_below P zero ts h = h
-all_below P (suc n) none h = h
 all_below P (suc n) (more t ts) h = all_below P n ts h.1
+all_below P n ts h = h
 
 children_parts : (t : Tree) → AllParts IsShowable t → AllPartsOf IsShowable (children_of t)
 children_parts t h = grind arith

@@ -53,9 +53,7 @@ mutual
   showable (mult ts) h = let p = two_factors ts h.0 in ((p.0, factors ts h.1 (p.1)), showables ts h.1)
   showable (power b e) h = (lone_base b e h.0, showable b h.1, showable e h.2)
   showable (root a) h = (tt, showable a h.1)
-  showable (neg a) h = absurd (formed (neg a) h.0)
-  showable (sub a b) h = absurd (formed (sub a b) h.0)
-  showable (div a b) h = absurd (formed (div a b) h.0)
+  showable t h = absurd (formed t h.0)
 
   showables : (ts : Trees) → AllPartsOf HasForm ts → AllPartsOf IsShowable ts
   showables none h = tt

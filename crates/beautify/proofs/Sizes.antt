@@ -1,12 +1,9 @@
 -- Bytes of trees.
-use Rattle.beautify.proofs.Shared.{◌≡◌, ◌+◌, ◌*◌, ◌≤◌, arith, Tree, Trees, none, more, append, count, size, sizes, least_size}
+use Rattle.beautify.proofs.Shared.{◌≡◌, ◌+◌, ◌*◌, ◌≤◌, arith, Trees, none, more, append, count, sizes, least_size}
 
 pub sizes-append : (xs ys : Trees) → sizes (append xs ys) ≡ sizes xs + sizes ys
 sizes-append none ys = omega arith
 sizes-append (more x xs) ys = omega (arith, sizes-append xs ys)
-
-pub some_size : (t : Tree) → 8 ≤ size t
-some_size t = least_size t
 
 pub eight_each : (ts : Trees) → 8 * count ts ≤ sizes ts
 eight_each none = omega arith

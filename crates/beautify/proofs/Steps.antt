@@ -1,6 +1,6 @@
 -- A face under way: what is written, and what is still owed.
 use Rattle.beautify.proofs.Shared.{◌≡◌, ◌∙◌, ℕ, ◌+◌, ◌-◌, ◌*◌, ◌<◌, ◌≤◌, List, [], ◌∷◌, ◌++◌, length, refl, sym, ap, subst, arith, eqb, cond, pos, Payload, rational, Ratio, whole, whole_size, One}
-use Rattle.beautify.proofs.Shared.{Over, Name, Numerator, Denominator, Tree, Trees, none, more, count, size, AllParts, grown, plain, IsExpression, State, free_of, Full, used, Forest, empty, tree}
+use Rattle.beautify.proofs.Shared.{Tree, Trees, none, more, count, size, AllParts, grown, plain, IsExpression, State, free_of, Full, used, Forest, empty, tree}
 use Rattle.beautify.proofs.Shared.{join, arity, bytes_in, tree_at, holds, one_tree, Ends, Starts, KeepsRefusals, IsRefused, Stands, forest, face, IsShowable, Form, Face, Pending, Part, Noted, Owes}
 use Rattle.beautify.proofs.Shared.{IsNode, IsReady, IsReadyPart, IsWritten, in_form, with_next, next_room, form_room, rooms, children_taken, IsDraft, first, behind, by_test, one_at, alone_in}
 use Rattle.beautify.proofs.Shared.{least_size, used_forest, kids, nodes_in, children_of, few_in, size-plain, bytes_in-join, keeps_after, join_assoc, join-empty, expression_children}
@@ -32,9 +32,6 @@ node_bytes {i = i} {x = x} s t st su k e =
     omega (arith, used_forest s st, used_forest t su, ap bytes_in e.whole, bytes_in-join (forest s) (one_tree i x empty), k.size, fits)
 
 -- ---- one node is placed
-
-pub behind_node : {i : ℕ} {x : Payload} {f g : Forest} → Ends i (one_tree i x empty) f g → Starts f g
-behind_node {i = i} {x = x} e = record { behind = one_tree i x empty; whole = e.whole }
 
 pub behind_none : {n : ℕ} {s t : State} {full : Full} → IsRefused n s t full → Starts (forest s) (forest t)
 behind_none {s = s} r = record { behind = empty; whole = r.same ∙ sym (join-empty (forest s)) }
@@ -170,11 +167,7 @@ few_children i s st e = omega (arith, few_in i s st, kids_nodes (tree_at i (fore
 
 pub is_node : (p : Pending) → ((form : Form) (i : ℕ) → p ≡ Part form i → ⊥) → IsNode p
 is_node (Part form i) h = absurd (h form i refl)
-is_node (Over k n) h = tt
-is_node One h = tt
-is_node (Name i) h = tt
-is_node (Numerator i) h = tt
-is_node (Denominator i) h = tt
+is_node _ h = tt
 
 pub stands_after : {f g h : Forest} → Starts f g → Starts g h → Starts f h
 stands_after {f = f} a b = record { behind = join a.behind b.behind; whole = b.whole ∙ ap (λ (x : Forest). join x b.behind) a.whole ∙ join_assoc f a.behind b.behind }

@@ -1,6 +1,6 @@
 -- The terms of a sum, joined from left to right.
 use Rattle.beautify.proofs.Shared.{◌≡◌, ◌∙◌, ℕ, zero, suc, ◌+◌, ◌-◌, ◌*◌, ◌<◌, ◌≤◌, List, length, refl, sym, ap, subst, arith, true, false, Bool, Tree, Trees, add, sub, none, more, append, count, nth}
-use Rattle.beautify.proofs.Shared.{Forest, first, behind, Pending, Owes, SoFar, single, summed, multiplied, as_tree, face, has_minus, unsigned_face, unsigned_faces, face_of_sum, next_term, next_terms}
+use Rattle.beautify.proofs.Shared.{Forest, first, behind, Pending, Owes, SoFar, single, summed, as_tree, face, has_minus, unsigned_face, unsigned_faces, face_of_sum, next_term, next_terms}
 use Rattle.beautify.proofs.{Pushing.owes_as, Trees.{append_assoc, behind-append, first-append, behind-next, behind-all, count-append}}
 use Rattle.calc_language.specs.Grammar.{plus_term, minus_term}
 
@@ -19,14 +19,10 @@ one_part : (t : Tree) → HasParts (single t) 1
 one_part t = record { count-is = refl; some = omega arith; lone = λ h. refl; many = λ h. absurd (omega arith) }
 
 plus_parts : (s : SoFar) (u : Tree) → parts (plus_term s u) ≡ append (parts s) (more u none)
-plus_parts (single t) u = refl
-plus_parts (summed ts) u = refl
-plus_parts (multiplied ts) u = refl
+plus_parts s u = grind arith
 
 plus_tree : (s : SoFar) (u : Tree) → as_tree (plus_term s u) ≡ add (parts (plus_term s u))
-plus_tree (single t) u = refl
-plus_tree (summed ts) u = refl
-plus_tree (multiplied ts) u = refl
+plus_tree s u = grind arith
 
 one_more : {s : SoFar} {n : ℕ} (u : Tree) → HasParts s n → HasParts (plus_term s u) (n + 1)
 one_more {s = s} u h = record {
@@ -132,6 +128,4 @@ signed_all {n = n} {terms = terms} {kids = kids} s w a us r o =
     owes_as (added a s.has here) (ap (λ (t : Tree). more t us) (ap (λ (ts : Trees). as_tree (next_terms s.so ts)) (sym end) ∙ s.whole)) (omega (arith, s.bytes, s.within, s.has.some))
 
 pub added_length : {old new : List Pending} (n : ℕ) → 1 ≤ n → (n ≤ 1 → new ≡ old) → (1 < n → length new ≡ length old + 1) → length new + 1 ≤ length old + n
-added_length zero s one some = absurd (omega arith)
-added_length (suc zero) s one some = omega (arith, ap length (one (omega arith)))
-added_length (suc (suc n)) s one some = omega (arith, some (omega arith))
+added_length n s one some = grind arith

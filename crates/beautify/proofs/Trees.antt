@@ -2,15 +2,9 @@
 use Rattle.beautify.proofs.Shared.{◌≡◌, ℕ, zero, suc, ◌+◌, ◌-◌, ◌<◌, ◌≤◌, refl, ap, ◌∙◌, arith, ◌==◌, if◌then◌else◌, Tree, Trees, none, more, append}
 use Rattle.beautify.proofs.Shared.{count, nth, first, behind, whole_num, power, unless_one, power_below, by_test, eqb-true}
 
-pub count-behind : (n : ℕ) (ts : Trees) → count (behind n ts) ≡ count ts - n
-count-behind zero ts = omega arith
-count-behind (suc n) none = omega arith
-count-behind (suc n) (more t ts) = count-behind n ts ∙ omega arith
-
-pub count-first : (n : ℕ) (ts : Trees) → n ≤ count ts → count (first n ts) ≡ n
-count-first zero ts h = refl
-count-first (suc n) none h = absurd (omega arith)
-count-first (suc n) (more t ts) h = ap suc (count-first n ts (omega arith))
+pub count_behind : (n : ℕ) (ts : Trees) → count (behind n ts) ≡ count ts - n
+count_behind (suc n) (more t ts) = count_behind n ts ∙ omega arith
+count_behind n ts = omega arith
 
 pub behind-append : (xs ys : Trees) → behind (count xs) (append xs ys) ≡ ys
 behind-append none ys = refl

@@ -23,6 +23,7 @@ pub(crate) struct Noted {
 }
 
 /// Places a node behind all others, and notes it.
+#[tactic(auto, using(crate::proofs::Steps::node_bytes, crate::proofs::Steps::with_node))]
 pub(crate) fn write_node(
     pool: &mut Pool,
     next: &Pending,
@@ -51,6 +52,7 @@ pub(crate) fn write_node(
 }
 
 /// A new last tree of one node.
+#[tactic(auto, using(crate::proofs::Steps::one_placed, crate::proofs::Steps::one_refused))]
 fn place_node(pool: &mut Pool, next: &Pending) -> Result<Handle, Full>
     requires stands { Stands pool.old }
     requires node { IsNode next.now }

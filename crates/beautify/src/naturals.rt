@@ -28,6 +28,7 @@ pub(crate) fn has_natural_numbers(pool: &Pool, tree: Id) -> bool
 }
 
 /// Whether a node holds no rational, or one that is whole and at least 0.
+#[tactic(auto, using(tree_handles::proofs::Readings::number_seen, crate::proofs::NaturalNodes::no_rational))]
 fn holds_natural(pool: &Pool, node: &Visit) -> bool
     requires stands { Stands pool.now }
     requires live { holds node.now.id (forest pool.now) ≡ true }
@@ -41,6 +42,7 @@ fn holds_natural(pool: &Pool, node: &Visit) -> bool
 }
 
 /// Whether a rational is whole and at least 0.
+#[tactic(auto, using(rational128::proofs::LowestTerms::ratio_parts, crate::proofs::NaturalNodes::natural_fraction, crate::proofs::NaturalNodes::natural_whole))]
 fn is_natural(value: Rat) -> bool
     ensures { result ≡ is_natural_tree (num (value_of value)) }
 {

@@ -24,6 +24,7 @@ pub(crate) enum Share {
 }
 
 /// What the children of a node from a place on put there comes first. Tells how many trees came.
+#[tactic(auto, using(tree_handles::proofs::Readings::expression_children))]
 pub(crate) fn push_shares(
     pool: &Pool,
     share: Share,

@@ -20,6 +20,7 @@ use node_pool::{Id, Pool};
 use tree_handles::{child_id, child_ids};
 
 /// The face of a sum comes first.
+#[tactic(auto, using(crate::proofs::Resolving::sum, crate::proofs::Sharing::count_faces, crate::proofs::Trees::count_behind, tree_handles::proofs::Readings::expression_children))]
 pub(crate) fn push_sum(pool: &Pool, sum: Id, pending: &mut Vec<Pending>)
     requires stands { Stands pool.now }
     requires ready { IsReadyPart Unsigned sum (forest pool.now) }
@@ -36,6 +37,7 @@ pub(crate) fn push_sum(pool: &Pool, sum: Id, pending: &mut Vec<Pending>)
 }
 
 /// The first trees, the faces of a sum's terms without the later ones' signs, are joined by the sum's rule.
+#[tactic(auto, using(tree_handles::proofs::Readings::expression_children))]
 fn push_signs(pool: &Pool, sum: Id, pending: &mut Vec<Pending>)
     requires stands { Stands pool.now }
     requires expression { IsExpression sum (forest pool.now) }

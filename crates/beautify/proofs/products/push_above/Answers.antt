@@ -1,11 +1,5 @@
-use Rattle.beautify.proofs.{Pushing.owes_as, Shared.{◌≡◌, ◌≤◌, arith, append, factors_above, children_of, plain, tree_at, forest, count}, Resolving.{product, product_first}, Trees.{count-append}}
+use Rattle.beautify.proofs.{Pushing.owes_as, Shared.{◌≡◌, ◌≤◌, arith, append, factors_above, children_of, plain, tree_at, forest, count}, Resolving.{product_first}, Trees.{count-append}}
 use Rattle.beautify.proofs.products.push_above.Goals as goal
-
-pub push_multiplied-requires : goal.push_multiplied-requires
-push_multiplied-requires c =
-    let ts = children_of (plain (tree_at c.args.product (forest c.args.pool.now))) in
-    let p = product (plain (tree_at c.args.product (forest c.args.pool.now))) c.requires.product c.requires.ready.showable in
-    record { room = omega (arith, c.requires.room, c.push_shares-above.ensures.length, c.push_shares-above.ensures.came, c.push_shares-above.ensures.capacity, p.few_above) }
 
 pub returns-clause-owed : goal.returns-clause-owed
 returns-clause-owed c us r o =
@@ -15,8 +9,3 @@ returns-clause-owed c us r o =
     let n : c.push_shares-above.result ≡ count (factors_above ts) = c.push_shares-above.ensures.came in
     let fits : c.push_shares-above.result ≤ count (append (factors_above ts) us) = omega (arith, n, count-append (factors_above ts) us) in
     owes_as (c.push_multiplied.ensures.owed f (append (factors_above ts) us) _ factors fits) (product_first c.push_shares-above.result (factors_above ts) us n) (omega arith)
-
-pub returns-clause-length : goal.returns-clause-length
-returns-clause-length c =
-    let p = product (plain (tree_at c.args.product (forest c.args.pool.now))) c.requires.product c.requires.ready.showable in
-    omega (arith, c.push_shares-above.ensures.length, c.push_shares-above.ensures.came, c.push_multiplied.ensures.length, p.few_above)

@@ -2,16 +2,6 @@ use Rattle.beautify.proofs.Shared.{◌≡◌, ◌+◌, ◌<◌, ◌∙◌, sym, 
 use Rattle.beautify.proofs.{Shared.count, Pushing.owes_as, Resolving.{product, product_first, no_trees}, Trees.count-append}
 use Rattle.beautify.proofs.products.push_product.Goals as goal
 
-pub push_shares-below-requires-clause-room : goal.push_shares-below-requires-clause-room
-push_shares-below-requires-clause-room c =
-    let p = product (plain (tree_at c.args.product (forest c.args.pool.now))) c.requires.product c.requires.ready.showable in
-    omega (arith, p.slots, p.some, c.requires.room)
-
-pub push_above-requires-clause-room : goal.push_above-requires-clause-room
-push_above-requires-clause-room c =
-    let p = product (plain (tree_at c.args.product (forest c.args.pool.now))) c.requires.product c.requires.ready.showable in
-    omega (arith, p.slots, p.some, c.requires.room, c.push_shares-below.ensures.length, c.push_shares-below.ensures.capacity, c.push_shares-below.ensures.came, p.few_below)
-
 pub returns-then-below-eq0-clause-owed : goal.returns-then-below-eq0-clause-owed
 returns-then-below-eq0-clause-owed c us r o =
     let t = plain (tree_at c.args.product (forest c.args.pool.now)) in
@@ -20,26 +10,6 @@ returns-then-below-eq0-clause-owed c us r o =
     let nothing = no_trees (factors_below ts) (sym c.push_shares-below.ensures.came ∙ c.if-below-eq0.true) in
     let below = owes_as {s = r + share_room Below ts} (c.push_shares-below.ensures.owed us r o) (ap (λ (vs : Trees). append vs us) nothing) (omega arith) in
     owes_as (c.push_above.ensures.owed us _ below) (ap (λ (u : Tree). more u us) (p.whole nothing)) (omega (arith, p.bytes))
-
-pub returns-then-below-eq0-clause-length : goal.returns-then-below-eq0-clause-length
-returns-then-below-eq0-clause-length c =
-    let p = product (plain (tree_at c.args.product (forest c.args.pool.now))) c.requires.product c.requires.ready.showable in
-    omega (arith, p.slots, p.some, c.push_shares-below.ensures.length, c.push_shares-below.ensures.came, c.push_above.ensures.length, p.few_below)
-
-pub push_multiplied-requires : goal.push_multiplied-requires
-push_multiplied-requires c =
-    let p = product (plain (tree_at c.args.product (forest c.args.pool.now))) c.requires.product c.requires.ready.showable in
-    record { room = omega (arith, p.slots, p.some, c.requires.room, c.push_shares-below.ensures.length, c.push_shares-below.ensures.capacity, c.push_shares-below.ensures.came, p.few_below) }
-
-pub push_above-requires-2-clause-room : goal.push_above-requires-2-clause-room
-push_above-requires-2-clause-room c =
-    let p = product (plain (tree_at c.args.product (forest c.args.pool.now))) c.requires.product c.requires.ready.showable in
-    omega (arith, p.slots, p.some, c.requires.room, c.push_shares-below.ensures.length, c.push_shares-below.ensures.capacity, c.push_shares-below.ensures.came, c.push_multiplied.ensures.length, c.push_multiplied.ensures.capacity, p.few_below)
-
-pub push_over-requires-clause-room : goal.push_over-requires-clause-room
-push_over-requires-clause-room c =
-    let p = product (plain (tree_at c.args.product (forest c.args.pool.now))) c.requires.product c.requires.ready.showable in
-    omega (arith, p.slots, p.some, c.requires.room, c.push_shares-below.ensures.length, c.push_shares-below.ensures.capacity, c.push_shares-below.ensures.came, c.push_multiplied.ensures.length, c.push_multiplied.ensures.capacity, c.push_above-2.ensures.length, c.push_above-2.ensures.capacity, p.few_below)
 
 pub returns-clause-owed : goal.returns-clause-owed
 returns-clause-owed c us r o =
@@ -54,8 +24,3 @@ returns-clause-owed c us r o =
     let below = owes_as {s = r + share_room Below ts + 8} joined (product_first c.push_shares-below.result (factors_below ts) us n) (omega arith) in
     let above = c.push_above-2.ensures.owed _ _ below in
     owes_as (c.push_over.ensures.owed f _ _ above (omega arith)) (ap (λ (u : Tree). more u us) (p.parted (omega (arith, n, some)))) (omega (arith, p.bytes))
-
-pub returns-clause-length : goal.returns-clause-length
-returns-clause-length c =
-    let p = product (plain (tree_at c.args.product (forest c.args.pool.now))) c.requires.product c.requires.ready.showable in
-    omega (arith, p.slots, p.some, c.push_shares-below.ensures.length, c.push_shares-below.ensures.came, c.push_multiplied.ensures.length, c.push_above-2.ensures.length, c.push_over.ensures.length, p.few_below)

@@ -1,9 +1,6 @@
 use Rattle.beautify.proofs.Shared.{◌≡◌, ◌∙◌, ◌∷◌, ◌++◌, [], ℕ, suc, ◌+◌, length, refl, sym, ap, arith, length-append, plain, rest_trees, tree_at, kids_of, forest}
-use Rattle.beautify.proofs.{Shared.{next_child, last_child, expression_children, root_ids}, Sharing.{few_shared, shared_more, shared_none, turned, turned_items}, Steps.few_children}
+use Rattle.beautify.proofs.{Shared.{next_child, last_child, root_ids}, Sharing.{few_shared, shared_more, shared_none, turned, turned_items}, Steps.few_children}
 use Rattle.beautify.proofs.shares.push_shares.Goals as goal
-
-pub child_ids-child-items-requires-clause-within : goal.child_ids-child-items-requires-clause-within
-child_ids-child-items-requires-clause-within c = omega (arith, c.requires.within, expression_children c.args.parent (forest c.args.pool.now) c.requires.expression)
 
 pub part_of-requires-clause-expression : goal.part_of-requires-clause-expression
 part_of-requires-clause-expression c = (next_child {n = c.args.from + length c.loop-child.yielded} c.requires.stands c.requires.expression c.loop-child.invariant.ids c.in-Some.ensures.steps).expression

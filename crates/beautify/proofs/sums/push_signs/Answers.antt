@@ -1,10 +1,7 @@
 use Rattle.beautify.proofs.Shared.{◌≡◌, ◌∙◌, ◌∷◌, ◌++◌, [], ℕ, suc, length, refl, sym, ap, arith, length-append, has_minus, children_of, plain, rest_trees, tree_at}
-use Rattle.beautify.proofs.{Shared.{kids_of, forest, next_child, last_child, expression_children, root_ids}, SumSigns.{signed_first, plus_next, minus_next, signed_all, added_length}}
-use Rattle.beautify.proofs.{Steps.few_children, Pushing.owes_as, Trees.count-behind}
+use Rattle.beautify.proofs.{Shared.{kids_of, forest, next_child, last_child, root_ids}, SumSigns.{signed_first, plus_next, minus_next, signed_all, added_length}}
+use Rattle.beautify.proofs.{Steps.few_children, Pushing.owes_as, Trees.count_behind}
 use Rattle.beautify.proofs.sums.push_signs.Goals as goal
-
-pub child_ids-term-items-requires-clause-within : goal.child_ids-term-items-requires-clause-within
-child_ids-term-items-requires-clause-within c = omega (arith, c.requires.some, expression_children c.args.sum (forest c.args.pool.now) c.requires.expression)
 
 pub loop-term-init : goal.loop-term-init
 loop-term-init c = record {
@@ -55,4 +52,4 @@ pub returns-clause-owed : goal.returns-clause-owed
 returns-clause-owed c us r o =
     let last = last_child c.requires.stands c.requires.expression c.loop-term.invariant.ids c.in-None.ensures.steps.0 in
     owes_as (signed_all c.loop-term.invariant.signed last (record { one = c.push_added-2.ensures.one; some = c.push_added-2.ensures.some }) us r o) refl
-    (omega (arith, count-behind 1 (children_of (plain (tree_at c.args.sum (forest c.args.pool.now))))))
+    (omega (arith, count_behind 1 (children_of (plain (tree_at c.args.sum (forest c.args.pool.now))))))

@@ -1,28 +1,6 @@
 use Rattle.beautify.proofs.Shared.{◌+◌, ap, arith, Tree, Terms, Face, share_room, form_room, nth, append, face, more, unsigned_faces, behind, children_of, plain, tree_at, forest}
-use Rattle.beautify.proofs.{Shared.expression_children, Pushing.owes_as, Resolving.{sum, ready_child}, Sharing.count-faces, Trees.count-behind}
+use Rattle.beautify.proofs.{Pushing.owes_as, Resolving.{sum, ready_child}}
 use Rattle.beautify.proofs.sums.push_sum.Goals as goal
-
-pub push_shares-requires-clause-room : goal.push_shares-requires-clause-room
-push_shares-requires-clause-room c =
-    let s = sum (plain (tree_at c.args.sum (forest c.args.pool.now))) c.requires.sum c.requires.ready.showable in
-    omega (arith, s.slots, s.some, c.requires.room)
-
-pub child_id-requires-clause-within : goal.child_id-requires-clause-within
-child_id-requires-clause-within c =
-    let s = sum (plain (tree_at c.args.sum (forest c.args.pool.now))) c.requires.sum c.requires.ready.showable in
-    omega (arith, s.some, expression_children c.args.sum (forest c.args.pool.now) c.requires.ready.expression)
-
-pub push-requires : goal.push-requires
-push-requires c =
-    let ts = children_of (plain (tree_at c.args.sum (forest c.args.pool.now))) in
-    let s = sum (plain (tree_at c.args.sum (forest c.args.pool.now))) c.requires.sum c.requires.ready.showable in
-    record { room = omega (arith, s.slots, s.some, c.requires.room, c.push_shares.ensures.length, c.push_shares.ensures.came, c.push_shares.ensures.capacity, count-faces (behind 1 ts), count-behind 1 ts) }
-
-pub push_signs-requires-clause-room : goal.push_signs-requires-clause-room
-push_signs-requires-clause-room c =
-    let ts = children_of (plain (tree_at c.args.sum (forest c.args.pool.now))) in
-    let s = sum (plain (tree_at c.args.sum (forest c.args.pool.now))) c.requires.sum c.requires.ready.showable in
-    omega (arith, s.slots, s.some, c.requires.room, c.push_shares.ensures.length, c.push_shares.ensures.came, c.push_shares.ensures.capacity, c.push.ensures.length, c.push.ensures.capacity, count-faces (behind 1 ts), count-behind 1 ts)
 
 pub returns-clause-owed : goal.returns-clause-owed
 returns-clause-owed c us r o =
@@ -36,9 +14,3 @@ returns-clause-owed c us r o =
     let all = c.push.ensures.owed f _ _ terms (ready_child {n = 0} c.requires.ready (omega (arith, s.some)) (c.child_id.ensures.expression x) is) in
     let here = owes_as {s = r + share_room Terms (behind 1 ts) + form_room Face (nth 0 ts)} all (ap (λ (u : Tree). more (face u) (append (unsigned_faces (behind 1 ts)) us)) is) (omega (arith, ap (form_room Face) is)) in
     owes_as (c.push_signs.ensures.owed us _ here) (ap (λ (u : Tree). more u us) s.face-is) (omega (arith, s.bytes))
-
-pub returns-clause-length : goal.returns-clause-length
-returns-clause-length c =
-    let ts = children_of (plain (tree_at c.args.sum (forest c.args.pool.now))) in
-    let s = sum (plain (tree_at c.args.sum (forest c.args.pool.now))) c.requires.sum c.requires.ready.showable in
-    omega (arith, s.slots, s.some, c.push_shares.ensures.length, c.push_shares.ensures.came, c.push.ensures.length, c.push_signs.ensures.length, count-faces (behind 1 ts), count-behind 1 ts)
