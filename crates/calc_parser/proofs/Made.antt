@@ -1,7 +1,7 @@
 -- The nodes of what a sum or a product has made so far.
 use Rattle.calc_parser.proofs.Shared.{ℕ, ◌+◌, ◌≡◌, ◌≤◌, List, [], ◌∷◌, ◌++◌, refl, sym, ap, ◌∙◌, arith, append_assoc, append-nil, Kind, Token, Tree, add, mult}
-use Rattle.calc_parser.proofs.Shared.{Trees, none, more, append, count, SoFar, single, summed, multiplied, as_tree, plus_term, times_factor, joined_tree, Sum, first_term, plus_more, minus_more}
-use Rattle.calc_parser.proofs.Shared.{Product, first_factor, times_more, over_more, Node, parent, postfix, postfixes, gathered}
+use Rattle.calc_parser.proofs.Shared.{Trees, none, more, append, count, SoFar, single, summed, multiplied, as_tree, plus_term, times_factor, joined_tree, Sum, plus_more}
+use Rattle.calc_parser.proofs.Shared.{Product, times_more, Node, parent, postfix, postfixes, gathered}
 use Rattle.calc_terms.specs.declared.kind.Kind.TheVariants as kind
 
 pub postfixes-append : (ts us : Trees) → postfixes (append ts us) ≡ postfixes ts ++ postfixes us
@@ -81,11 +81,9 @@ pub plus_has : (p : SoFar) (u : Tree) → HasTerms p → HasTerms (plus_term p u
 plus_has p u h = grind (arith, count-one_more)
 
 pub has_factors : {a : List Token} {p : SoFar} → Product a p → HasFactors p
-has_factors (first_factor d) = tt
 has_factors (times_more {s = p} {u} d e) = times_has p u (has_factors d)
-has_factors (over_more d e) = tt
+has_factors _ = tt
 
 pub has_terms : {a : List Token} {p : SoFar} → Sum a p → HasTerms p
-has_terms (first_term d) = tt
 has_terms (plus_more {s = p} {u} d e) = plus_has p u (has_terms d)
-has_terms (minus_more d e) = tt
+has_terms _ = tt

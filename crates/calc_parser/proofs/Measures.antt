@@ -1,8 +1,8 @@
 -- The depth of a tree, from its nodes in postfix order.
 use Rattle.calc_parser.proofs.Shared.{ℕ, suc, ◌+◌, ◌-◌, ◌≡◌, ◌≤◌, ◌<◌, List, [], ◌∷◌, ◌++◌, length, map, take, drop, refl, sym, ap, ◌∙◌, arith}
-use Rattle.calc_parser.proofs.Shared.{length-append, append_assoc, append-nil, get_or, drop-cons, add-one, drop_all, Kind, Tree, num, symbol, undef, add, mult, power, root, neg, sub, div, Trees}
+use Rattle.calc_parser.proofs.Shared.{length-append, append_assoc, append-nil, get_or, drop-cons, add-one, drop_all, Kind, Tree, add, mult, power, root, neg, sub, div, Trees}
 use Rattle.calc_parser.proofs.Shared.{none, more, count, depth, depths, Step, Node, parent, postfix, postfixes, deepest, with_node, with_nodes}
-use Rattle.std.specs.Prelude.{zero, max}
+use Rattle.std.specs.Prelude.{max}
 use Rattle.calc_terms.specs.declared.kind.Kind.TheVariants as kind
 
 -- ---- depths
@@ -57,9 +57,6 @@ over_two ds k a b xs ys e f =
 
 mutual
   pub depth_found : (t : Tree) (ds : List ℕ) → with_nodes ds (postfix t) ≡ ds ++ depth t ∷ []
-  depth_found (num q) ds = refl
-  depth_found (symbol x) ds = refl
-  depth_found undef ds = refl
   depth_found (add ts) ds = over_children ds kind.Add ts (postfixes ts) (depths_found ts ds)
   depth_found (mult ts) ds = over_children ds kind.Mult ts (postfixes ts) (depths_found ts ds)
   depth_found (power b e) ds = over_two ds kind.Pow b e (postfix b) (postfix e) (depth_found b ds) (depth_found e (ds ++ depth b ∷ []))
@@ -67,6 +64,7 @@ mutual
   depth_found (neg a) ds = over_one ds kind.Neg a (postfix a) (depth_found a ds)
   depth_found (sub a b) ds = over_two ds kind.Sub a b (postfix a) (postfix b) (depth_found a ds) (depth_found b (ds ++ depth a ∷ []))
   depth_found (div a b) ds = over_two ds kind.Div a b (postfix a) (postfix b) (depth_found a ds) (depth_found b (ds ++ depth a ∷ []))
+  depth_found _ ds = refl
 
   depths_found : (ts : Trees) (ds : List ℕ) → with_nodes ds (postfixes ts) ≡ ds ++ depth_list ts
   depths_found none ds = sym (append-nil ds)
@@ -81,14 +79,12 @@ deepest-append [] es = omega arith
 deepest-append (d ∷ ds) es = let rest : deepest (ds ++ es) ≡ max (deepest ds) (deepest es) = deepest-append ds es in omega arith
 
 pub deepest_take : (n : ℕ) (ds : List ℕ) → deepest (take n ds) ≤ deepest ds
-deepest_take zero ds = omega arith
-deepest_take (suc n) [] = omega arith
 deepest_take (suc n) (d ∷ ds) = let rest : deepest (take n ds) ≤ deepest ds = deepest_take n ds in omega arith
+deepest_take n ds = omega arith
 
 pub deepest_drop : (n : ℕ) (ds : List ℕ) → deepest (drop n ds) ≤ deepest ds
-deepest_drop zero ds = omega arith
-deepest_drop (suc n) [] = omega arith
 deepest_drop (suc n) (d ∷ ds) = let rest : deepest (drop n ds) ≤ deepest ds = deepest_drop n ds in omega arith
+deepest_drop n ds = omega arith
 
 pub with_node_small : (ds : List ℕ) (x : Node) → deepest (with_node ds x) ≤ deepest ds + 1
 with_node_small ds x = grind (arith, deepest-append, deepest_take, deepest_drop)

@@ -1,6 +1,6 @@
 -- What is read is a sum.
 use Rattle.calc_parser.proofs.Shared.{◌≡◌, List, [], ◌∷◌, ◌++◌, true, false, Option, Some, None, arith, refl, sym, ap, ◌∙◌, subst, append_assoc, append-nil, Token, literal}
-use Rattle.calc_parser.proofs.Shared.{name, undef_mark, root_mark, plus_mark, minus_mark, times_mark, slash_mark, caret_mark, left_mark, right_mark, arrow_mark, Tree, num, symbol, undef, root}
+use Rattle.calc_parser.proofs.Shared.{name, undef_mark, root_mark, plus_mark, minus_mark, times_mark, slash_mark, caret_mark, left_mark, right_mark, Tree, num, symbol, undef, root}
 use Rattle.calc_parser.proofs.Shared.{IsSum, SoFar, as_tree, joins, Sum, plain_power, Primary, a_literal, a_name, an_undef, parenthesized, a_root, Open, Operand, Parenthesis, Operator}
 use Rattle.calc_parser.proofs.Shared.{Expects, Node, parent, postfix, postfixes, State, state, Ended, gathered, end_power, end_powers, end_product, sum_nodes, begin_operand, at_operand}
 use Rattle.calc_parser.proofs.{Shared.{at_parenthesis, at_operator, join_power, minus_in, leave_parentheses, step, when_closed, finish, then_run, run, start}, Spots.{is_joined, JoinsWhere, Spot}}
@@ -47,18 +47,13 @@ not_joined s c h k = grind arith
 
 -- a minus sign where an operand is due
 minus_valid : {a : List Token} {s : List Open} {o : List Node} → Spot a s o → is_joined s ≡ false → Valid (a ++ minus_mark ∷ []) (state Operand (minus_in s ∷ s) o)
-minus_valid at_start h = (behind_term_sign at_start refl, refl)
-minus_valid (in_parentheses q) h = (behind_term_sign (in_parentheses q) refl, refl)
-minus_valid (in_root q) h = (behind_term_sign (in_root q) refl, refl)
-minus_valid (behind_plus q k x) h = (behind_term_sign (behind_plus q k x) refl, refl)
-minus_valid (behind_minus q k x) h = (behind_term_sign (behind_minus q k x) refl, refl)
-minus_valid (behind_term_sign q k) h = (behind_term_sign (behind_term_sign q k) refl, refl)
 minus_valid (behind_times q k x) h = (behind_factor_sign (behind_times q k x) refl, refl)
 minus_valid (behind_slash q k x) h = (behind_factor_sign (behind_slash q k x) refl, refl)
 minus_valid (behind_factor_sign q k) h = (behind_factor_sign (behind_factor_sign q k) refl, refl)
 minus_valid (behind_powers q k x) h = cc
 minus_valid (behind_base q x i) h = (behind_exponent_sign (behind_base q x i) refl, refl)
 minus_valid (behind_exponent_sign q k) h = (behind_exponent_sign (behind_exponent_sign q k) refl, refl)
+minus_valid q h = (behind_term_sign q refl, refl)
 
 leaf_valid : {a : List Token} {s : List Open} {o : List Node} (m : Token) (t : Tree) (n : List Node) → Spot a s o → Primary (m ∷ []) t → JoinsWhere s (m ∷ []) → n ≡ o ++ postfix t
     → Valid (a ++ m ∷ []) (state Operator s n)
@@ -71,22 +66,11 @@ begin_valid {a} {s} {o} (name x) st spot j e = valid_as (a ++ name x ∷ []) _ s
 begin_valid {a} {s} {o} undef_mark st spot j e = valid_as (a ++ undef_mark ∷ []) _ st e (leaf_valid undef_mark undef _ spot an_undef j refl)
 begin_valid {a} {s} {o} left_mark st spot j e = valid_as (a ++ left_mark ∷ []) (state Operand (opened.Parentheses ∷ s) o) st e (in_parentheses spot, refl)
 begin_valid {a} {s} {o} root_mark st spot j e = valid_as (a ++ root_mark ∷ []) (state Parenthesis s o) st e (record { before = a; split = refl; spot = spot })
-begin_valid plus_mark st spot j e = cc
-begin_valid minus_mark st spot j e = cc
-begin_valid times_mark st spot j e = cc
-begin_valid slash_mark st spot j e = cc
-begin_valid caret_mark st spot j e = cc
-begin_valid right_mark st spot j e = cc
-begin_valid arrow_mark st spot j e = cc
+begin_valid _ st spot j e = cc
 
 operand_valid : {a : List Token} {s : List Open} {o : List Node} (m : Token) (st : State) → Spot a s o → is_joined s ≡ false → at_operand m s o ≡ Some st → Valid (a ++ m ∷ []) st
 operand_valid {a} {s} {o} minus_mark st spot h e = valid_as (a ++ minus_mark ∷ []) (state Operand (minus_in s ∷ s) o) st e (minus_valid spot h)
-operand_valid {s = s} (literal q) st spot h e = begin_valid (literal q) st spot (not_joined s (literal q ∷ []) h) e
-operand_valid {s = s} (name x) st spot h e = begin_valid (name x) st spot (not_joined s (name x ∷ []) h) e
-operand_valid {s = s} undef_mark st spot h e = begin_valid undef_mark st spot (not_joined s (undef_mark ∷ []) h) e
-operand_valid {s = s} left_mark st spot h e = begin_valid left_mark st spot (not_joined s (left_mark ∷ []) h) e
-operand_valid {s = s} root_mark st spot h e = begin_valid root_mark st spot (not_joined s (root_mark ∷ []) h) e
-operand_valid _ st spot h e = cc
+operand_valid {s = s} m st spot h e = begin_valid m st spot (not_joined s (m ∷ []) h) e
 
 parenthesis_valid : {a : List Token} {s : List Open} {o : List Node} (m : Token) (st : State) → BehindRoot a s o → at_parenthesis m s o ≡ Some st → Valid (a ++ m ∷ []) st
 parenthesis_valid {a} {s} {o} left_mark st r e =
@@ -174,8 +158,7 @@ operator_valid {a} {s} {o} slash_mark st b e = valid_as (a ++ slash_mark ∷ [])
 operator_valid {a} {s} {o} plus_mark st b e = valid_as (a ++ plus_mark ∷ []) _ st e (plus_valid (end_product s o) (term_at b))
 operator_valid {a} {s} {o} minus_mark st b e = valid_as (a ++ minus_mark ∷ []) _ st e (difference_valid (end_product s o) (term_at b))
 operator_valid {a} {s} {o} right_mark st b e = right_valid (end_product s o) st (term_at b) e
-operator_valid (literal q) st b e = cc
-operator_valid arrow_mark st b e = cc
+operator_valid _ st b e = cc
 
 step_valid : (a : List Token) (st : State) (m : Token) (st' : State) → Valid a st → step st m ≡ Some st' → Valid (a ++ m ∷ []) st'
 unfolding step

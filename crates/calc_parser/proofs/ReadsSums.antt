@@ -2,7 +2,7 @@
 use Rattle.calc_parser.proofs.Shared.{arith, ℕ, ◌+◌, ◌≡◌, List, [], ◌∷◌, ◌++◌, Bool, true, false, Option, Some, None, refl, sym, ap, ◌∙◌, append_assoc, append-nil, Token, name, undef_mark, root_mark}
 use Rattle.calc_parser.proofs.Shared.{plus_mark, minus_mark, times_mark, slash_mark, caret_mark, left_mark, right_mark, Tree, Trees, count, IsSum, SoFar, as_tree, joined_tree, joins, Sum, first_term}
 use Rattle.calc_parser.proofs.Shared.{plus_more, minus_more, Signed, minus_signed, plain_signed, Product, first_factor, times_more, over_more, Right, minus_right, plain_right, Joined, one_power}
-use Rattle.calc_parser.proofs.Shared.{another_power, Power, plain_power, raised_power, Exponent, minus_exponent, plain_exponent, Primary, a_literal, a_name, an_undef, parenthesized, a_root, Open}
+use Rattle.calc_parser.proofs.Shared.{another_power, Power, plain_power, raised_power, Exponent, minus_exponent, plain_exponent, Primary, parenthesized, a_root, Open}
 use Rattle.calc_parser.proofs.Shared.{Operand, Operator, Node, parent, postfix, postfixes, state, Ended, ended, gathered, end_power, end_factor, end_term, sum_nodes, minus_in, leave_parentheses, step}
 use Rattle.calc_parser.proofs.{Shared.{when_closed, finish, then_run, run, start}, Contexts.{begins_sum, begins_term, begins_right, begins_exponent, begins_factor, sum_alone, term_alone}}
 use Rattle.calc_parser.proofs.{Contexts.{factor_alone, term_factor, sum_term, right_factor}, Made.{postfixes-one_more, count-one_more, alone_nodes, joined_nodes, product_nodes, product_count}}
@@ -186,9 +186,6 @@ mutual
   exponent_runs (plain_exponent d) s o c h e = power_runs d s o c e
 
   primary_runs : {a : List Token} {t : Tree} → Primary a t → (s : List Open) (o : List Node) (c : List Token) → run (state Operand s o) (a ++ c) ≡ run (state Operator s (o ++ postfix t)) c
-  primary_runs a_literal s o c = refl
-  primary_runs a_name s o c = refl
-  primary_runs an_undef s o c = refl
   primary_runs (parenthesized {a} {s = p} d) s o c =
       ap (run (state Operand (opened.Parentheses ∷ s) o)) (append_assoc a (right_mark ∷ []) c)
       ∙ sum_runs d (opened.Parentheses ∷ s) o (right_mark ∷ c) refl refl
@@ -197,6 +194,7 @@ mutual
       ap (run (state Operand (opened.Root ∷ s) o)) (append_assoc a (right_mark ∷ []) c)
       ∙ sum_runs d (opened.Root ∷ s) o (right_mark ∷ c) refl refl
       ∙ ap (λ n. run (state Operator s n) c) (unary_nodes o (sum_nodes_of p) (gathered kind.Add (sum_count p)) (postfix (as_tree p)) (parent kind.Root 1 ∷ []) (whole_sum p (has_terms d)))
+  primary_runs _ s o c = refl
 
 -- the nodes of a sum are found
 pub sum_found : {a : List Token} {p : SoFar} → Sum a p → run start a ≡ Some (postfix (as_tree p))

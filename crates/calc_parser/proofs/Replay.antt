@@ -1,5 +1,5 @@
 -- A tree from its nodes in postfix order.
-use Rattle.calc_parser.proofs.Shared.{◌≡◌, ◌+◌, List, [], ◌∷◌, ◌++◌, true, refl, sym, ap, ◌∙◌, subst, arith, append_assoc, append-nil, Tree, num, symbol, undef, add}
+use Rattle.calc_parser.proofs.Shared.{◌≡◌, ◌+◌, List, [], ◌∷◌, ◌++◌, true, refl, sym, ap, ◌∙◌, subst, arith, append_assoc, append-nil, Tree, add}
 use Rattle.calc_parser.proofs.Shared.{mult, power, root, neg, sub, div, Trees, none, more, append, count, append-none, Node, postfix, postfixes, children_in, tree_over, takes_children}
 
 -- the last of the trees become the children of the node
@@ -33,9 +33,6 @@ two n ts a b ns u e h m = subst (λ x. Makes x (n ∷ ns) u) (sym (append_trees 
 
 mutual
   pub replay : (t : Tree) (ts : Trees) (ns : List Node) (u : Tree) → Makes (append ts (more t none)) ns u → Makes ts (postfix t ++ ns) u
-  replay (num q) ts ns u m = leaf_over _ ts ns u refl refl m
-  replay (symbol x) ts ns u m = leaf_over _ ts ns u refl refl m
-  replay undef ts ns u m = leaf_over _ ts ns u refl refl m
   replay (add us) ts ns u m = subst (λ x. Makes ts x u) (sym (append_assoc (postfixes us) (_ ∷ []) ns)) (replays us ts (_ ∷ ns) u (over _ ts us ns u refl refl m))
   replay (mult us) ts ns u m = subst (λ x. Makes ts x u) (sym (append_assoc (postfixes us) (_ ∷ []) ns)) (replays us ts (_ ∷ ns) u (over _ ts us ns u refl refl m))
   replay (root a) ts ns u m = subst (λ x. Makes ts x u) (sym (append_assoc (postfix a) (_ ∷ []) ns)) (replay a ts (_ ∷ ns) u (over _ ts (more a none) ns u refl refl m))
@@ -43,6 +40,7 @@ mutual
   replay (power b e) ts ns u m = subst (λ x. Makes ts x u) (sym (regroup (postfix b) (postfix e) ns _)) (replay b ts (postfix e ++ _ ∷ ns) u (replay e (append ts (more b none)) (_ ∷ ns) u (two _ ts b e ns u refl refl m)))
   replay (sub a b) ts ns u m = subst (λ x. Makes ts x u) (sym (regroup (postfix a) (postfix b) ns _)) (replay a ts (postfix b ++ _ ∷ ns) u (replay b (append ts (more a none)) (_ ∷ ns) u (two _ ts a b ns u refl refl m)))
   replay (div a b) ts ns u m = subst (λ x. Makes ts x u) (sym (regroup (postfix a) (postfix b) ns _)) (replay a ts (postfix b ++ _ ∷ ns) u (replay b (append ts (more a none)) (_ ∷ ns) u (two _ ts a b ns u refl refl m)))
+  replay _ ts ns u m = leaf_over _ ts ns u refl refl m
 
   replays : (us : Trees) (ts : Trees) (ns : List Node) (u : Tree) → Makes (append ts us) ns u → Makes ts (postfixes us ++ ns) u
   replays none ts ns u m = subst (λ x. Makes x ns u) (append-none ts) m

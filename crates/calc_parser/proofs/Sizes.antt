@@ -1,5 +1,5 @@
 -- The room that the nodes of a tree take.
-use Rattle.calc_parser.proofs.Shared.{◌≡◌, ℕ, ◌+◌, ◌-◌, ◌≤◌, ◌↔◌, List, [], ◌∷◌, ◌++◌, if◌then◌else◌, Ok, Err, refl, ap, arith, leb, leb-true, Tree, num, symbol, undef, add, mult, power, root, neg}
+use Rattle.calc_parser.proofs.Shared.{◌≡◌, ℕ, ◌+◌, ◌-◌, ◌≤◌, ◌↔◌, List, [], ◌∷◌, ◌++◌, if◌then◌else◌, Ok, Err, refl, ap, arith, leb, leb-true, Tree, num, add, mult, power, root, neg}
 use Rattle.calc_parser.proofs.{Shared.{sub, div, Trees, none, more, count, size, sizes, by_test, Node, parent, postfix, postfixes, bytes_of_node, placing, building}, UnderWay.by_room}
 use Rattle.calc_terms.specs.declared.kind.Kind.TheVariants as kind
 
@@ -18,8 +18,6 @@ bytes_behind ns n = omega (arith, bytes_of-append ns (n ∷ []))
 mutual
   bytes_of-postfix : (t : Tree) → bytes_of (postfix t) ≡ size t
   bytes_of-postfix (num q) = omega arith
-  bytes_of-postfix (symbol x) = refl
-  bytes_of-postfix undef = refl
   bytes_of-postfix (add ts) = omega (arith, bytes_behind (postfixes ts) (parent kind.Add (count ts)), bytes_of-postfixes ts)
   bytes_of-postfix (mult ts) = omega (arith, bytes_behind (postfixes ts) (parent kind.Mult (count ts)), bytes_of-postfixes ts)
   bytes_of-postfix (power b e) = omega (arith, bytes_behind (postfix b ++ postfix e) (parent kind.Pow 2), bytes_of-append (postfix b) (postfix e), bytes_of-postfix b, bytes_of-postfix e)
@@ -27,6 +25,7 @@ mutual
   bytes_of-postfix (neg a) = omega (arith, bytes_behind (postfix a) (parent kind.Neg 1), bytes_of-postfix a)
   bytes_of-postfix (sub a b) = omega (arith, bytes_behind (postfix a ++ postfix b) (parent kind.Sub 2), bytes_of-append (postfix a) (postfix b), bytes_of-postfix a, bytes_of-postfix b)
   bytes_of-postfix (div a b) = omega (arith, bytes_behind (postfix a ++ postfix b) (parent kind.Div 2), bytes_of-append (postfix a) (postfix b), bytes_of-postfix a, bytes_of-postfix b)
+  bytes_of-postfix _ = refl
 
   bytes_of-postfixes : (ts : Trees) → bytes_of (postfixes ts) ≡ sizes ts
   bytes_of-postfixes none = refl

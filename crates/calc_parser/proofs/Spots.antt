@@ -104,15 +104,6 @@ exponent_sign_ends {a} {s} {o} k r = only_exponents (λ c t d.
     (r.exponents (minus_mark ∷ c) (neg t) (minus_exponent d) k))
 
 pub power_ends : {b : List Token} {s : List Open} {o : List Node} → Spot b s o → PowerEnds b s o
-power_ends at_start = alone_ends at_start refl refl (λ n. refl)
-power_ends (in_parentheses q) = alone_ends (in_parentheses q) refl refl (λ n. refl)
-power_ends (in_root q) = alone_ends (in_root q) refl refl (λ n. refl)
-power_ends (behind_plus q h x) = alone_ends (behind_plus q h x) refl refl (λ n. refl)
-power_ends (behind_minus q h x) = alone_ends (behind_minus q h x) refl refl (λ n. refl)
-power_ends (behind_term_sign q h) = alone_ends (behind_term_sign q h) refl refl (λ n. refl)
-power_ends (behind_times q h x) = alone_ends (behind_times q h x) refl refl (λ n. refl)
-power_ends (behind_slash q h x) = alone_ends (behind_slash q h x) refl refl (λ n. refl)
-power_ends (behind_factor_sign q h) = alone_ends (behind_factor_sign q h) refl refl (λ n. refl)
 power_ends (behind_powers {a} {b} {s} {o} {ts} q h x) = record {
   powers = λ c t d j. record {
     before = a;
@@ -130,6 +121,7 @@ power_ends (behind_powers {a} {b} {s} {o} {ts} q h x) = record {
 }
 power_ends (behind_base q x i) = base_ends x i (power_ends q)
 power_ends (behind_exponent_sign q k) = exponent_sign_ends k (power_ends q)
+power_ends q = alone_ends q refl refl (λ n. refl)
 
 -- ---- factors and terms
 
@@ -170,15 +162,7 @@ pub factor_ends : {b : List Token} {s : List Open} {o : List Node} → Spot b s 
 factor_ends (behind_times q h x) = times_ends q h x
 factor_ends (behind_slash q h x) = slash_ends q h x
 factor_ends (behind_factor_sign q k) = factor_sign_ends k (factor_ends q)
-factor_ends at_start = no_right refl
-factor_ends (in_parentheses q) = no_right refl
-factor_ends (in_root q) = no_right refl
-factor_ends (behind_plus q h x) = no_right refl
-factor_ends (behind_minus q h x) = no_right refl
-factor_ends (behind_term_sign q h) = no_right refl
-factor_ends (behind_powers q h x) = no_right refl
-factor_ends (behind_base q x i) = no_right refl
-factor_ends (behind_exponent_sign q k) = no_right refl
+factor_ends _ = no_right refl
 
 pub term_place : (s : List Open) → begins_factor s ≡ true → begins_right s ≡ false → begins_term s ≡ true
 term_place s h k = grind arith
@@ -221,12 +205,7 @@ term_ends (in_root q) = first_ends (in_root q) refl
 term_ends (behind_plus q h x) = plus_ends q h x
 term_ends (behind_minus q h x) = minus_ends q h x
 term_ends (behind_term_sign q k) = term_sign_ends k (term_ends q)
-term_ends (behind_times q h x) = no_term refl
-term_ends (behind_slash q h x) = no_term refl
-term_ends (behind_factor_sign q h) = no_term refl
-term_ends (behind_powers q h x) = no_term refl
-term_ends (behind_base q x i) = no_term refl
-term_ends (behind_exponent_sign q h) = no_term refl
+term_ends _ = no_term refl
 
 -- a product ends a term
 pub product_whole : (a : List Token) (e : Ended) (p : ProductAt a e) → e.nodes ++ gathered kind.Mult e.count ≡ p.nodes ++ postfix (as_tree p.made)

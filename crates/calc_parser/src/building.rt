@@ -26,6 +26,7 @@ use tree_handles::{Handle, node, node_over_last, number, symbol};
 
 /// The tree of a line as a new last root. Its nodes are placed in postfix order: the children from
 /// left to right, and then their parent.
+#[tactic(auto, using(std::proofs::lemmas::Grind::common_steps))]
 pub fn build(pool: &mut Pool, tokens: &Tokens) -> Result<Handle, Full>
     requires stands { Stands pool.old }
     requires line { (t : Tree) × IsTreeOf (bare (tokens_of tokens.now)) t }
@@ -74,6 +75,7 @@ pub(crate) fn place_line(
 
 /// The tree that these steps make, by the places of the trees that stand so far, which take the places of
 /// those in the list.
+#[tactic(auto, using(std::proofs::lemmas::Grind::common_steps, crate::proofs::UnderWay::some_root))]
 fn place_nodes(
     pool: &mut Pool,
     tokens: &[Token],
@@ -145,6 +147,7 @@ pub(crate) fn what_at(tokens: &[Token], at: u16) -> What
 }
 
 /// Places the leaf of a token behind all trees.
+#[tactic(auto, using(std::proofs::lemmas::Grind::common_steps, crate::proofs::Leaves::other, crate::proofs::Leaves::ok_as, crate::proofs::Leaves::other_grows))]
 fn place_leaf(pool: &mut Pool, what: What) -> Result<Handle, Full>
     requires stands { Stands pool.old }
     ensures ok { IfOk result (Grows (leaf (token_of what)) (forest pool.old) (forest pool.new)) }

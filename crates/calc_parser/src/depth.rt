@@ -24,6 +24,7 @@ pub(crate) fn depth(steps: &[Step], depths: &mut ArrayVec<u32, STEP_LIMIT>) -> u
 }
 
 /// Adds a leaf, or a parent in place of its children.
+#[tactic(auto, using(std::proofs::lemmas::Grind::common_steps, crate::proofs::Measures::deepest_take, crate::proofs::Measures::deepest_drop))]
 fn add(depths: &mut ArrayVec<u32, STEP_LIMIT>, step: Step)
     requires room { array_vec_len depths.old < step_limit }
     requires small { deepest depths.old.items < step_limit }

@@ -80,6 +80,7 @@ impl Parser {
     }
 
     /// Cuts a line into its tokens, the longest at each place, and says under which name it is stored, where there is one.
+    #[tactic(auto, using(std::proofs::lemmas::Grind::common_steps, crate::proofs::LineFaults::faults_exact))]
     pub fn read(&mut self, line: &[u8]) -> Result<Option<Name>, LineFault>
         requires { length line.now ≤ line_limit }
         ensures tokens { OnOk result (AreTokensOf (tokens_of self.new) line.now) }

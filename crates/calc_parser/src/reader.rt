@@ -85,6 +85,7 @@ impl Reader {
     }
 
     /// Reads the token at this place.
+    #[tactic(auto, using(std::proofs::lemmas::Grind::common_steps, crate::proofs::Finishes::operand_step, crate::proofs::Finishes::operator_step))]
     fn take(&mut self, at: u16, what: What) -> Result<(), NoSum>
         requires { room_in self.old + 2 ≤ step_limit }
         ensures step { (ts : List Mark) → token_in ts at ≡ token_of what → IsStep result (state_in ts self.new) (step (state_in ts self.old) (token_of what)) }
@@ -98,6 +99,7 @@ impl Reader {
     }
 
     /// Ends the whole sum, where nothing is open.
+    #[tactic(auto, using(crate::proofs::Finishes::not_finished))]
     fn finish(&mut self) -> Result<(), NoSum>
         requires { room_in self.old ≤ step_limit }
         ensures { (ts : List Mark) → MatchResult result (λ _. finished (state_in ts self.old) ≡ Some (nodes_in ts self.new.postfix)) (λ _. finished (state_in ts self.old) ≡ None) }
@@ -203,6 +205,7 @@ impl Reader {
     }
 
     /// Opens this; an operand comes next.
+    #[tactic(auto, using(crate::proofs::Room::length_weight))]
     fn enter(&mut self, part: Open)
         requires { room_in self.old < step_limit }
         ensures nesting { open_in self.new.nesting ≡ part ∷ open_in self.old.nesting }
@@ -295,6 +298,7 @@ impl Reader {
     }
 
     /// Where a part of this level stands in what was opened last.
+    #[tactic(auto, using(crate::proofs::Steps::some_place))]
     fn place(&self, level: Level) -> Option<Place>
         ensures { result ≡ innermost_place level (open_in self.now.nesting) }
     {

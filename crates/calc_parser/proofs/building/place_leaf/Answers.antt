@@ -1,4 +1,4 @@
-use Rattle.calc_parser.proofs.{Shared.{arith, common_steps, sym, subst, What, token_of, forest, Grows, leaf}, Leaves.{ok_as, number_grows, name_grows, other, other_grows}}
+use Rattle.calc_parser.proofs.{Shared.{sym, subst, What, token_of, forest, Grows, leaf}, Leaves.{ok_as, number_grows, name_grows}}
 use Rattle.calc_parser.proofs.building.place_leaf.Goals as goal
 
 pub returns-in-Number-clause-ok : goal.returns-in-Number-clause-ok
@@ -8,6 +8,3 @@ returns-in-Number-clause-ok c =
 pub returns-in-Name-clause-ok : goal.returns-in-Name-clause-ok
 returns-in-Name-clause-ok c =
     ok_as c.symbol.result c.symbol.ensures.ok (λ h e. subst (λ (w : What). Grows (leaf (token_of w)) (forest c.args.pool.now) (forest c.symbol.new.pool) h) (sym c.in-Name.is) (name_grows c.in-Name.name h (forest c.args.pool.now) (forest c.symbol.new.pool) e))
-
-pub returns-in_default : goal.returns-in_default
-returns-in_default c = grind (arith, common_steps, other, ok_as, other_grows)

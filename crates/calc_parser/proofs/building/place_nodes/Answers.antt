@@ -1,6 +1,6 @@
-use Rattle.calc_parser.proofs.Shared.{rules, common_steps, ◌≡◌, ◌+◌, ◌-◌, ◌++◌, ◌∷◌, [], ◌≤◌, ℕ, List, length, take, drop, map, refl, sym, ap, ◌∙◌, subst}
+use Rattle.calc_parser.proofs.Shared.{rules, ◌≡◌, ◌+◌, ◌-◌, ◌++◌, ◌∷◌, [], ◌≤◌, ℕ, List, length, take, drop, map, refl, sym, ap, ◌∙◌, subst}
 use Rattle.calc_parser.proofs.{Shared.{arith, length-take, free_of, forest, used_forest, Leaf, bytes_of_node, children_in, node_of, tokens_in}, UnderWay.{IsUnderWay, IsReady, begins, at_step}}
-use Rattle.calc_parser.proofs.UnderWay.{ready, placed, front, IsStopped, stopped, IsLast, last_of_grown, whole_tree, no_step, some_root, that_root, was_short}
+use Rattle.calc_parser.proofs.UnderWay.{ready, placed, front, IsStopped, stopped, IsLast, last_of_grown, whole_tree, no_step, that_root, was_short}
 use Rattle.std.specs.Prelude.{get_or}
 use Rattle.calc_parser.proofs.building.place_nodes.Goals as goal
 
@@ -57,9 +57,6 @@ loop-step-preserved c =
       omega (arith, few),
       last_of_grown n (forest c.loop-step.pool) (forest c.place.new.pool) c.in_ok-handle.handle c.in_ok-handle.ensures.ok,
     )
-
-pub unwrap-requires : goal.unwrap-requires
-unwrap-requires c = grind (arith, common_steps, some_root)
 
 pub returns-clause-ok : goal.returns-clause-ok
 returns-clause-ok c =

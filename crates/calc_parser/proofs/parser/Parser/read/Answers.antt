@@ -1,4 +1,4 @@
-use Rattle.calc_parser.proofs.{Shared.{arith, common_steps, Ok, Err, ap, bare, tokens_of, steps_in}, LineFaults.{faults_exact, line_accepted}, LineSteps.steps_of_nothing}
+use Rattle.calc_parser.proofs.{Shared.{Ok, Err, ap, bare, tokens_of, steps_in}, LineFaults.{faults_exact, line_accepted}, LineSteps.steps_of_nothing}
 use Rattle.calc_tokens.proofs.Outcomes.{fault_found}
 use Rattle.calc_parser.specs.declared.parser.LineFault.TheVariants as line_fault
 use Rattle.calc_parser.proofs.parser.Parser.read.Goals as goal
@@ -29,6 +29,3 @@ pub returns-in-Err-checked-clause-accepts : goal.returns-in-Err-checked-clause-a
 returns-in-Err-checked-clause-accepts c =
     line_accepted c.args.line.now (Err (line_fault.Parse c.in-Err-checked.fault))
     (tokens_of c.scan.new.tokens, c.in-Ok.ensures.tokens, c.in-Err-checked.ensures.found)
-
-pub returns-in-Err-checked-clause-refused : goal.returns-in-Err-checked-clause-refused
-returns-in-Err-checked-clause-refused c = grind (arith, common_steps, faults_exact)

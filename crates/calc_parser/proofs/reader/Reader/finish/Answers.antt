@@ -1,8 +1,5 @@
-use Rattle.calc_parser.proofs.{Shared.{open_in, nodes_in}, Finishes.{not_finished, nothing_open, something_open}}
+use Rattle.calc_parser.proofs.{Shared.{open_in, nodes_in}, Finishes.{nothing_open, something_open}}
 use Rattle.calc_parser.proofs.reader.Reader.finish.Goals as goal
-
-pub returns-in-Operand : goal.returns-in-Operand
-returns-in-Operand c = λ ts. not_finished c.args.self.now.expects (open_in c.args.self.now.nesting) (nodes_in ts c.args.self.now.postfix) c.in-Operand.is
 
 pub returns-in-None : goal.returns-in-None
 returns-in-None c = λ ts.
