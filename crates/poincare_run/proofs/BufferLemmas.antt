@@ -1,7 +1,7 @@
 -- Lemmas on what is kept of a line.
-use Rattle.std.proofs.Common.{◌≡◌, ◌∙◌, ℕ, ◌-◌, List, [], ◌∷◌, ◌++◌, length, true, false, cond, nat_eq, get_or, take, sym, ap, arith, append-nil, length-append}
-use Rattle.poincare_run.proofs.Shared.{eqb-true, strip_carriage_return, LineBuffer, Holds, StandsFor, return_if}
-use Rattle.std.proofs.Math.Seq.{get_or-append_seam, take-append_seam}
+use Rattle.std.proofs.{Common.{◌≡◌, ◌∙◌, ℕ, ◌-◌, List, [], ◌∷◌, ◌++◌, length, true, false, cond, nat_eq, get_or, take, ap, arith, append-nil, length-append}, Math.Seq.{get_or-append_seam}}
+use Rattle.std.proofs.Math.Seq.{take-append_seam}
+use Rattle.poincare_run.proofs.Shared.{eqb-true, strip_carriage_return, LineBuffer, Holds, StandsFor}
 
 -- a line that ends in no carriage return is left as it is
 pub strip-plain : (bytes : List ℕ) (b : ℕ) → nat_eq b 13 ≡ false → strip_carriage_return (bytes ++ b ∷ []) ≡ bytes ++ b ∷ []
@@ -12,12 +12,7 @@ strip-plain bytes b other =
 
 -- a byte that is no carriage return came, and all bytes so far are the line
 pub holds_all : (buffer : LineBuffer) (bytes : List ℕ) (b : ℕ) → nat_eq b 13 ≡ false → buffer.returned ≡ nat_eq b 13 → StandsFor buffer.kept.items (bytes ++ b ∷ []) → Holds buffer (bytes ++ b ∷ [])
-holds_all buffer bytes b other is stands = record {
-  line = bytes ++ b ∷ [];
-  bytes_are = sym (ap (λ r. (bytes ++ b ∷ []) ++ return_if r) (is ∙ other) ∙ append-nil (bytes ++ b ∷ []));
-  line_is = strip-plain bytes b other;
-  stands = stands;
-}
+holds_all buffer bytes b other is stands = grind (arith, append-nil, strip-plain)
 
 -- a line that ends in a carriage return loses it
 pub strip-return : (bytes : List ℕ) → strip_carriage_return (bytes ++ 13 ∷ []) ≡ bytes
@@ -29,11 +24,4 @@ strip-return bytes =
 
 -- a carriage return came, and waits
 pub holds_return : (buffer : LineBuffer) (bytes : List ℕ) (b : ℕ) → nat_eq b 13 ≡ true → buffer.returned ≡ nat_eq b 13 → StandsFor buffer.kept.items bytes → Holds buffer (bytes ++ b ∷ [])
-holds_return buffer bytes b is same stands =
-    let e : b ≡ 13 = eqb-true b 13 is in
-    record {
-      line = bytes;
-      bytes_are = ap (λ x. bytes ++ x ∷ []) e ∙ sym (ap (λ r. bytes ++ return_if r) (same ∙ is));
-      line_is = ap (λ x. strip_carriage_return (bytes ++ x ∷ [])) e ∙ strip-return bytes;
-      stands = stands;
-    }
+holds_return buffer bytes b is same stands = grind (arith, eqb-true, strip-return)

@@ -6,8 +6,8 @@ use Rattle.poincare_run.proofs.Shared.{fold, list_any, list_all, position_or_len
 use Rattle.poincare_run.proofs.Shared.{after_flag, after_step, arg_by_id, arg_by_long, at_row, bundle, bundle_met, bundle_step, has_row, idle, long_or_other, more_values, option, plain, plain_word}
 use Rattle.poincare_run.proofs.Shared.{positional, settled, settled_rows, short_or_plain, trailing, used, used_by_id, walked, with_values, without, built, filled, Kinds, or_else, bundle_fault}
 use Rattle.poincare_run.proofs.Shared.{bundle_step_fault, flag_word_fault, flags_fault, long_fault, settle_fault, step_fault, turn_fault, use_fault, walk_fault, Shape, AsWritten, CommandLine, Key}
-use Rattle.poincare_run.proofs.Shared.{Pool, Interrupt, Generated, IsSpelled, Setting, Spells, value, draw, name_of, command_line, option_named, is_digits, value_of}
-use Rattle.poincare_run.proofs.SettingLemmas.{of_both, of_test}
+use Rattle.poincare_run.proofs.{Shared.{Pool, Interrupt, Generated, IsSpelled, Setting, Spells, value, draw, name_of, command_line, option_named, is_digits, value_of}, SettingLemmas.{of_both}}
+use Rattle.poincare_run.proofs.SettingLemmas.{of_test}
 use Rattle.clap.specs.{Lexer.{has_byte, long_of, long_of_rest, name_and_value, short_of}, declared.builder.action.ArgAction.TheVariants.{Set, SetTrue}}
 use Rattle.clap.specs.declared.error.kind.ErrorKind.TheVariants as kind
 
@@ -81,13 +81,7 @@ has_none id (r ∷ rows) e = by (bytes_eq r.id id) refl (has_none id rows)
 -- a new option may get its row
 once_more : (s : Setting) (rows : List Row) → has_row (id_in s) rows ≡ false → Once rows → Once (rows ++ row_for s ∷ [])
 unfolding counted
-once_more s rows new once k = rw counted_append (by (bytes_eq (id_in s) (named_id k)) refl)
-  where
-    by : (b : Bool) → bytes_eq (id_in s) (named_id k) ≡ b → counted (named_id k) rows + counted (named_id k) (row_for s ∷ []) ≤ 1
-    by true p =
-        let none : counted (named_id k) rows ≡ 0 = not_counted (named_id k) rows (subst (λ t. has_row t rows ≡ false) ((bytes_eq-Decides (id_in s) (named_id k)).0 p) new) in
-        rw (p, none) (omega arith)
-    by false p = let few = once k in rw p (omega arith)
+once_more s rows new once k = grind (arith, counted_append, not_counted, bytes_eq-Decides)
 
 id_same : (s : Setting) → (k : Option Key) × (id_in s ≡ named_id k)
 id_same (value key text) = (Some key, refl)
@@ -130,6 +124,19 @@ rule_for key = filled (option_named (id_of key) Set)
 
 abbrev pub draw_rule : Rule
 draw_rule = filled (option_named (codes "draw") SetTrue)
+
+-- the rule of a setting's option, its value, and the one word that spells it
+abbrev rule_of : Setting → Rule
+rule_of (value key text) = rule_for key
+rule_of draw = draw_rule
+
+abbrev texts_in : Setting → List Text
+texts_in (value key text) = text ∷ []
+texts_in draw = []
+
+abbrev word_of : Setting → Text
+word_of (value key text) = name_of key ++ 61 ∷ text
+word_of draw = codes "--draw"
 
 abbrev dashes : Text
 dashes = 45 ∷ 45 ∷ []
@@ -202,24 +209,18 @@ name_walk Pool rows p q = walked_is rows p q (codes "--pool")
 name_walk Interrupt rows p q = walked_is rows p q (codes "--interrupt")
 name_walk Generated rows p q = walked_is rows p q (codes "--gen")
 
-attached_turn : (key : Key) (text : Text) (rows : List Row) (p : Option (Text × List Text)) (q : Waiting) → turn_fault shape [] (state rows p q) (name_of key ++ 61 ∷ text)
-    ≡ or_else (or_else (settle_fault four false (held rows p)) (use_fault false (rule_for key) (text ∷ []) (settle rows p))) []
-attached_turn Pool text rows p q = turn_is rows p q (codes "--pool" ++ 61 ∷ text)
-attached_turn Interrupt text rows p q = turn_is rows p q (codes "--interrupt" ++ 61 ∷ text)
-attached_turn Generated text rows p q = turn_is rows p q (codes "--gen" ++ 61 ∷ text)
+whole_turn : (s : Setting) (rows : List Row) (p : Option (Text × List Text)) (q : Waiting) → turn_fault shape [] (state rows p q) (word_of s)
+    ≡ or_else (or_else (settle_fault four false (held rows p)) (use_fault false (rule_of s) (texts_in s) (settle rows p))) []
+whole_turn (value Pool text) rows p q = turn_is rows p q (codes "--pool" ++ 61 ∷ text)
+whole_turn (value Interrupt text) rows p q = turn_is rows p q (codes "--interrupt" ++ 61 ∷ text)
+whole_turn (value Generated text) rows p q = turn_is rows p q (codes "--gen" ++ 61 ∷ text)
+whole_turn draw rows p q = turn_is rows p q (codes "--draw")
 
-attached_walk : (key : Key) (text : Text) (rows : List Row) (p : Option (Text × List Text)) (q : Waiting)
-    → walked four [] (state rows p q) (name_of key ++ 61 ∷ text) ≡ walk_at (used (rule_for key) (text ∷ []) (settle rows p)) free
-attached_walk Pool text rows p q = walked_is rows p q (codes "--pool" ++ 61 ∷ text)
-attached_walk Interrupt text rows p q = walked_is rows p q (codes "--interrupt" ++ 61 ∷ text)
-attached_walk Generated text rows p q = walked_is rows p q (codes "--gen" ++ 61 ∷ text)
-
-draw_turn : (rows : List Row) (p : Option (Text × List Text)) (q : Waiting) → turn_fault shape [] (state rows p q) (codes "--draw")
-    ≡ or_else (or_else (settle_fault four false (held rows p)) (use_fault false draw_rule [] (settle rows p))) []
-draw_turn rows p q = turn_is rows p q (codes "--draw")
-
-draw_walk : (rows : List Row) (p : Option (Text × List Text)) (q : Waiting) → walked four [] (state rows p q) (codes "--draw") ≡ walk_at (used draw_rule [] (settle rows p)) free
-draw_walk rows p q = walked_is rows p q (codes "--draw")
+whole_walk : (s : Setting) (rows : List Row) (p : Option (Text × List Text)) (q : Waiting) → walked four [] (state rows p q) (word_of s) ≡ walk_at (used (rule_of s) (texts_in s) (settle rows p)) free
+whole_walk (value Pool text) rows p q = walked_is rows p q (codes "--pool" ++ 61 ∷ text)
+whole_walk (value Interrupt text) rows p q = walked_is rows p q (codes "--interrupt" ++ 61 ∷ text)
+whole_walk (value Generated text) rows p q = walked_is rows p q (codes "--gen" ++ 61 ∷ text)
+whole_walk draw rows p q = walked_is rows p q (codes "--draw")
 
 -- `--draw` takes no value
 drawn_value : (text : Text) (rows : List Row) (p : Option (Text × List Text)) (q : Waiting) → turn_fault shape [] (state rows p q) (codes "--draw" ++ 61 ∷ text) ≡ kind.TooManyValues ∷ []
@@ -243,23 +244,17 @@ use_is : (s : Bool) → or_else (if s && true then kind.ArgumentConflict ∷ [] 
 use_is true e = absurd cc
 use_is false e = refl
 
-unused : (key : Key) (text : Text) (rows : List Row) → use_fault false (rule_for key) (text ∷ []) rows ≡ [] → has_row (id_of key) rows ≡ false
-unused key text rows e = use_is (has_row (id_of key) rows) e
+unused : (s : Setting) (rows : List Row) → use_fault false (rule_of s) (texts_in s) rows ≡ [] → has_row (id_in s) rows ≡ false
+unused (value key text) rows e = use_is (has_row (id_of key) rows) e
+unused draw rows e = use_is (has_row (codes "draw") rows) e
 
-usable : (key : Key) (text : Text) (rows : List Row) → has_row (id_of key) rows ≡ false → use_fault false (rule_for key) (text ∷ []) rows ≡ []
-usable key text rows e = ap (λ b. or_else (if b && true then kind.ArgumentConflict ∷ [] else []) []) e
+usable : (s : Setting) (rows : List Row) → has_row (id_in s) rows ≡ false → use_fault false (rule_of s) (texts_in s) rows ≡ []
+usable (value key text) rows e = ap (λ b. or_else (if b && true then kind.ArgumentConflict ∷ [] else []) []) e
+usable draw rows e = ap (λ b. or_else (if b && true then kind.ArgumentConflict ∷ [] else []) []) e
 
-not_drawn : (rows : List Row) → use_fault false draw_rule [] rows ≡ [] → has_row (codes "draw") rows ≡ false
-not_drawn rows e = use_is (has_row (codes "draw") rows) e
-
-drawable : (rows : List Row) → has_row (codes "draw") rows ≡ false → use_fault false draw_rule [] rows ≡ []
-drawable rows e = ap (λ b. or_else (if b && true then kind.ArgumentConflict ∷ [] else []) []) e
-
-used_row : (key : Key) (text : Text) (rows : List Row) → has_row (id_of key) rows ≡ false → used (rule_for key) (text ∷ []) rows ≡ rows ++ row_for (value key text) ∷ []
-used_row key text rows e = placed (id_of key) text rows e
-
-drawn_row : (rows : List Row) → has_row (codes "draw") rows ≡ false → used draw_rule [] rows ≡ rows ++ row_for draw ∷ []
-drawn_row rows e = placed (codes "draw") (codes "true") rows e
+used_row : (s : Setting) (rows : List Row) → has_row (id_in s) rows ≡ false → used (rule_of s) (texts_in s) rows ≡ rows ++ row_for s ∷ []
+used_row (value key text) rows e = placed (id_of key) text rows e
+used_row draw rows e = placed (codes "draw") (codes "true") rows e
 
 -- an option without its value is refused
 no_value : (key : Key) (rows : List Row) → settle_fault four false (held rows (Some (id_of key, []))) ≡ [] → ⊥
@@ -331,10 +326,10 @@ settled_at : (rows : List Row) (p : Place) → settle_fault four false (held row
 settled_at rows free e = record { base = rows; settles = refl; reads = λ words final r. r }
 settled_at rows (awaits key) e = absurd (no_value key rows e)
 settled_at rows (holds key text) e =
-    let new = unused key text rows (sym (settle_fault_is key (text ∷ []) rows) ∙ e) in
+    let new = unused (value key text) rows (sym (settle_fault_is key (text ∷ []) rows) ∙ e) in
     record {
       base = rows ++ row_for (value key text) ∷ [];
-      settles = settle_is key (text ∷ []) rows ∙ used_row key text rows new;
+      settles = settle_is key (text ∷ []) rows ∙ used_row (value key text) rows new;
       reads = λ words final r. read_more (value key text) (name_of key ∷ text ∷ []) words rows final (inl refl) new r;
     }
 
@@ -352,6 +347,18 @@ spelling (Some key) (Some text) = name_of key ++ 61 ∷ text
 spelling None None = codes "--draw"
 spelling None (Some text) = codes "--draw" ++ 61 ∷ text
 
+whole_step : (s : Setting) (rows : List Row) (p : Place) → IsSpelled s (word_of s ∷ []) → turn_fault shape [] (walk_at rows p) (word_of s) ≡ [] → StepsTo rows p (word_of s)
+whole_step s rows p spelled e =
+    let parts = of_else _ _ (of_else _ _ (sym (whole_turn s rows (pending_at p) (waiting_at p)) ∙ e)).0 in
+    let at = settled_at rows p parts.0 in
+    let new = unused s at.base (subst (λ rs. use_fault false (rule_of s) (texts_in s) rs ≡ []) at.settles parts.1) in
+    record {
+      behind = at.base ++ row_for s ∷ [];
+      place = free;
+      walks = whole_walk s rows (pending_at p) (waiting_at p) ∙ ap (λ rs. walk_at (used (rule_of s) (texts_in s) rs) free) at.settles ∙ ap (λ rs. walk_at rs free) (used_row s at.base new);
+      reads = λ rest final r. at.reads (word_of s ∷ rest) final (read_more s (word_of s ∷ []) rest at.base final spelled new r);
+    }
+
 option_step : (k : Option Key) (v : Option Text) (rows : List Row) (p : Place) → turn_fault shape [] (walk_at rows p) (spelling k v) ≡ [] → StepsTo rows p (spelling k v)
 option_step (Some key) None rows p e =
     let s = settled_at rows p (of_else _ _ (sym (name_turn key rows (pending_at p) (waiting_at p)) ∙ e)).0 in
@@ -361,26 +368,8 @@ option_step (Some key) None rows p e =
       walks = name_walk key rows (pending_at p) (waiting_at p) ∙ ap (λ rs. walk_at rs (awaits key)) s.settles;
       reads = λ rest final r. s.reads (name_of key ∷ rest) final r;
     }
-option_step (Some key) (Some text) rows p e =
-    let parts = of_else _ _ (of_else _ _ (sym (attached_turn key text rows (pending_at p) (waiting_at p)) ∙ e)).0 in
-    let s = settled_at rows p parts.0 in
-    let new = unused key text s.base (subst (λ rs. use_fault false (rule_for key) (text ∷ []) rs ≡ []) s.settles parts.1) in
-    record {
-      behind = s.base ++ row_for (value key text) ∷ [];
-      place = free;
-      walks = attached_walk key text rows (pending_at p) (waiting_at p) ∙ ap (λ rs. walk_at (used (rule_for key) (text ∷ []) rs) free) s.settles ∙ ap (λ rs. walk_at rs free) (used_row key text s.base new);
-      reads = λ rest final r. s.reads ((name_of key ++ 61 ∷ text) ∷ rest) final (read_more (value key text) ((name_of key ++ 61 ∷ text) ∷ []) rest s.base final (inr refl) new r);
-    }
-option_step None None rows p e =
-    let parts = of_else _ _ (of_else _ _ (sym (draw_turn rows (pending_at p) (waiting_at p)) ∙ e)).0 in
-    let s = settled_at rows p parts.0 in
-    let new = not_drawn s.base (subst (λ rs. use_fault false draw_rule [] rs ≡ []) s.settles parts.1) in
-    record {
-      behind = s.base ++ row_for draw ∷ [];
-      place = free;
-      walks = draw_walk rows (pending_at p) (waiting_at p) ∙ ap (λ rs. walk_at (used draw_rule [] rs) free) s.settles ∙ ap (λ rs. walk_at rs free) (drawn_row s.base new);
-      reads = λ rest final r. s.reads (codes "--draw" ∷ rest) final (read_more draw (codes "--draw" ∷ []) rest s.base final refl new r);
-    }
+option_step (Some key) (Some text) rows p e = whole_step (value key text) rows p (inr refl) e
+option_step None None rows p e = whole_step draw rows p refl e
 option_step None (Some text) rows p e = let bad : kind.TooManyValues ∷ [] ≡ [] = sym (drawn_value text rows (pending_at p) (waiting_at p)) ∙ e in absurd cc
 
 -- ---- the parts of a word
@@ -393,11 +382,7 @@ abbrev parted : ℕ → ℕ → Bool → Text → Text
 parted k j has text = take k text ++ tail_of (if has then Some (drop j text) else None)
 
 part_more : (x n k j : ℕ) (has : Bool) (xs : Text) → k ≡ suc n → j ≡ suc (n + 1) → xs ≡ parted n (n + 1) has xs → x ∷ xs ≡ parted k j has (x ∷ xs)
-part_more x n k j has xs e f same = rw (e, f) (by has same)
-  where
-    by : (b : Bool) → xs ≡ parted n (n + 1) b xs → x ∷ xs ≡ parted (suc n) (suc (n + 1)) b (x ∷ xs)
-    by true h = ap (λ t. x ∷ t) h
-    by false h = ap (λ t. x ∷ t) h
+part_more x n k j has xs e f same = grind (arith)
 
 -- a text is its name, and `=` and its value
 whole : (text : Text) → text ≡ (name_and_value text).0 ++ tail_of (name_and_value text).1
@@ -582,6 +567,12 @@ take_more w next word words e is t =
 abbrev At : List Row → Place → List Row → Type 0
 At rows p base = (settle_fault four false (held rows (pending_at p)) ≡ []) × (settle rows (pending_at p) ≡ base)
 
+take_whole : (s : Setting) (rest : List Text) (rows : List Row) (p : Place) (base : List Row) → At rows p base → has_row (id_in s) base ≡ false → Takes (walk_at (base ++ row_for s ∷ []) free) rest → Takes (walk_at rows p) (word_of s ∷ rest)
+take_whole s rest rows p base at new on =
+    take_more _ (walk_at (base ++ row_for s ∷ []) free) (word_of s) rest
+    (whole_turn s rows (pending_at p) (waiting_at p) ∙ ap₂ (λ k rs. or_else (or_else k (use_fault false (rule_of s) (texts_in s) rs)) []) at.0 at.1 ∙ ap (λ k. or_else k []) (usable s base new))
+    (whole_walk s rows (pending_at p) (waiting_at p) ∙ ap (λ rs. walk_at (used (rule_of s) (texts_in s) rs) free) at.1 ∙ ap (λ rs. walk_at rs free) (used_row s base new)) on
+
 -- settings with numbers, each option once, have no fault
 pub take_settings : (ss : List Setting) (words : List Text) (rows : List Row) (p : Place) (base : List Row) → At rows p base → Spells words ss → Once (base ++ rows_for ss) → AllNumbers ss → Takes (walk_at rows p) words
 unfolding walk_fault
@@ -590,42 +581,30 @@ take_settings (value key text ∷ more) words rows p base at (first, rest, is, i
     let plain_text = number_is_plain text numbers.0.0 numbers.0.1 in
     let new = new_in (value key text) base (rows_for more) once in
     let here : At base (holds key text) (base ++ row_for (value key text) ∷ []) =
-    (settle_fault_is key (text ∷ []) base ∙ usable key text base new, settle_is key (text ∷ []) base ∙ used_row key text base new) in
+    (settle_fault_is key (text ∷ []) base ∙ usable (value key text) base new, settle_is key (text ∷ []) base ∙ used_row (value key text) base new) in
     let on = take_settings more rest base (holds key text) (base ++ row_for (value key text) ∷ []) here sp (subst Once (sym (append_assoc base (row_for (value key text) ∷ []) (rows_for more))) once) numbers.1 in
     subst (Takes (walk_at rows p)) (sym (is ∙ ap (λ f. f ++ rest) s))
     (take_more _ (walk_at base (awaits key)) (name_of key) (text ∷ rest) (name_turn key rows (pending_at p) (waiting_at p) ∙ ap (λ k. or_else k []) at.0)
     (name_walk key rows (pending_at p) (waiting_at p) ∙ ap (λ rs. walk_at rs (awaits key)) at.1)
     (take_more _ (walk_at base (holds key text)) text rest (value_turn key text base plain_text) (value_held key text base plain_text) on))
 take_settings (value key text ∷ more) words rows p base at (first, rest, is, inr s, sp) once numbers =
-    let new = new_in (value key text) base (rows_for more) once in
     let on = take_settings more rest (base ++ row_for (value key text) ∷ []) free (base ++ row_for (value key text) ∷ []) (refl, refl) sp (subst Once (sym (append_assoc base (row_for (value key text) ∷ []) (rows_for more))) once) numbers.1 in
-    subst (Takes (walk_at rows p)) (sym (is ∙ ap (λ f. f ++ rest) s))
-    (take_more _ (walk_at (base ++ row_for (value key text) ∷ []) free) (name_of key ++ 61 ∷ text) rest
-    (attached_turn key text rows (pending_at p) (waiting_at p) ∙ ap₂ (λ k rs. or_else (or_else k (use_fault false (rule_for key) (text ∷ []) rs)) []) at.0 at.1 ∙ ap (λ k. or_else k []) (usable key text base new))
-    (attached_walk key text rows (pending_at p) (waiting_at p) ∙ ap (λ rs. walk_at (used (rule_for key) (text ∷ []) rs) free) at.1 ∙ ap (λ rs. walk_at rs free) (used_row key text base new)) on)
+    subst (Takes (walk_at rows p)) (sym (is ∙ ap (λ f. f ++ rest) s)) (take_whole (value key text) rest rows p base at (new_in (value key text) base (rows_for more) once) on)
 take_settings (draw ∷ more) words rows p base at (first, rest, is, s, sp) once numbers =
-    let new = new_in draw base (rows_for more) once in
     let on = take_settings more rest (base ++ row_for draw ∷ []) free (base ++ row_for draw ∷ []) (refl, refl) sp (subst Once (sym (append_assoc base (row_for draw ∷ []) (rows_for more))) once) numbers in
-    subst (Takes (walk_at rows p)) (sym (is ∙ ap (λ f. f ++ rest) s))
-    (take_more _ (walk_at (base ++ row_for draw ∷ []) free) (codes "--draw") rest
-    (draw_turn rows (pending_at p) (waiting_at p) ∙ ap₂ (λ k rs. or_else (or_else k (use_fault false draw_rule [] rs)) []) at.0 at.1 ∙ ap (λ k. or_else k []) (drawable base new))
-    (draw_walk rows (pending_at p) (waiting_at p) ∙ ap (λ rs. walk_at (used draw_rule [] rs) free) at.1 ∙ ap (λ rs. walk_at rs free) (drawn_row base new)) on)
+    subst (Takes (walk_at rows p)) (sym (is ∙ ap (λ f. f ++ rest) s)) (take_whole draw rest rows p base at (new_in draw base (rows_for more) once) on)
+
+named_alone : (key : Key) → is_separator (name_of key) ≡ false
+named_alone key = grind arith
+
+named_with : (key : Key) (text : Text) → is_separator (name_of key ++ 61 ∷ text) ≡ false
+named_with key text = grind arith
 
 -- no word of such settings is `--`
 pub no_separator : (ss : List Setting) (words : List Text) → Spells words ss → AllNumbers ss → list_any is_separator words ≡ false
 no_separator [] words sp numbers = rw sp refl
 no_separator (value key text ∷ more) words (first, rest, is, inl s, sp) numbers =
     let plain_text = number_is_plain text numbers.0.0 numbers.0.1 in
-    rw (is, s, named key, plain_text.single) (no_separator more rest sp numbers.1)
-  where
-    named : (k : Key) → is_separator (name_of k) ≡ false
-    named Pool = refl
-    named Interrupt = refl
-    named Generated = refl
-no_separator (value key text ∷ more) words (first, rest, is, inr s, sp) numbers = rw (is, s, named key) (no_separator more rest sp numbers.1)
-  where
-    named : (k : Key) → is_separator (name_of k ++ 61 ∷ text) ≡ false
-    named Pool = refl
-    named Interrupt = refl
-    named Generated = refl
+    rw (is, s, named_alone key, plain_text.single) (no_separator more rest sp numbers.1)
+no_separator (value key text ∷ more) words (first, rest, is, inr s, sp) numbers = rw (is, s, named_with key text) (no_separator more rest sp numbers.1)
 no_separator (draw ∷ more) words (first, rest, is, s, sp) numbers = rw (is, s) (no_separator more rest sp numbers)

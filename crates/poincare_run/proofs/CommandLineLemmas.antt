@@ -183,8 +183,9 @@ unfolding options_of
 taken_words words o e =
     let v = of_then options_with _ o e in
     let r = reads words no_values v.0 v.1 in
-    let numbers = numbers_of r.0 no_values v.0 r.2 in
-    (no_separator r.0 words r.1 numbers, takes_all words (take_settings r.0 words [] free [] (refl, refl) r.1 (once_of r.0 v.0 r.2) numbers))
+    let f = followed r.0 words no_values v.0 r.1 v.1 in
+    let numbers = numbers_of r.0 no_values v.0 f in
+    (no_separator r.0 words r.1 numbers, takes_all words (take_settings r.0 words [] free [] (refl, refl) r.1 (once_of r.0 v.0 f) numbers))
 
 -- ---- what the texts give
 
@@ -223,22 +224,10 @@ parts_of (Some a) (Some b) (Some c) d w e =
     (ap (λ (x : Values). Some x.pool) same, ap (λ (x : Values). Some x.interrupt) same, ap (λ (x : Values). Some x.generated) same, ap (λ (x : Values). x.draw) same)
 
 follow : (ss : List Setting) (w : Values) → Once (rows_for ss) → given_by ss ≡ Some w → Follows no_values ss w
-follow ss w once e =
-    let t = parts_of (number_in (first_text (texts_of Pool ss))) (number_in (first_text (texts_of Interrupt ss))) (number_in (first_text (texts_of Generated ss))) (nat_lt 0 (draws_of ss)) w e in
-    record {
-      pool = (number_joined (texts_of Pool ss) w.pool (texts_once Pool ss once)).0 t.0;
-      interrupt = (number_joined (texts_of Interrupt ss) w.interrupt (texts_once Interrupt ss once)).0 t.1;
-      generated = (number_joined (texts_of Generated ss) w.generated (texts_once Generated ss once)).0 t.2;
-      draws = (draw_joined (draws_of ss) w.draw (draws_once ss once)).0 t.3;
-    }
+follow ss w once e = grind (arith, parts_of, number_joined, texts_once, draw_joined, draws_once)
 
 give : (ss : List Setting) (w : Values) → Once (rows_for ss) → Follows no_values ss w → given_by ss ≡ Some w
-give ss w once f =
-    let p = (number_joined (texts_of Pool ss) w.pool (texts_once Pool ss once)).1 f.pool in
-    let i = (number_joined (texts_of Interrupt ss) w.interrupt (texts_once Interrupt ss once)).1 f.interrupt in
-    let g = (number_joined (texts_of Generated ss) w.generated (texts_once Generated ss once)).1 f.generated in
-    let d = (draw_joined (draws_of ss) w.draw (draws_once ss once)).1 f.draws in
-    rw (p, i, g, d) refl
+give ss w once f = grind (arith, number_joined, texts_once, draw_joined, draws_once)
 
 settings_give : (ss : List Setting) (words : List Text) → Spells words ss → Once (rows_for ss) → options_of words ≡ option_and_then options_with (given_by ss)
 unfolding options_of

@@ -75,9 +75,4 @@ module _ (start : Moment) (t t' k k' : Option (List ℕ)) (left : ℕ) (dialog :
   }
 
   pub limit_reached : left ≡ 0 → ReadsLimit start t t' k k'
-  limit_reached none = record {
-    input = h.input;
-    read = h.read;
-    all = omega (arith, h.limit);
-    written = record { out = h.out; transcript = (dialog.now, h.answered.steps); appended = h.appended };
-  }
+  limit_reached none = grind (arith)

@@ -1,5 +1,5 @@
 -- Lemmas on what is written of pictures.
-use Rattle.std.proofs.Common.{◌≡◌, ℕ, List, Bool, true, Option, Result, Ok, Err, sym, ap, subst}
+use Rattle.std.proofs.Common.{◌≡◌, ℕ, List, Bool, true, Option, Result, Ok, Err, sym, ap, subst, arith}
 use Rattle.poincare_run.proofs.Shared.{Appends, AppendsPart, IsDrawnInPart, rows_in, full, refused, text_of, State, Full, AnswersLine, FailsAtLine, Place, TakesLine, picture_if, picture_text}
 use Rattle.poincare_run.proofs.Shared.{with_newline, written, LineAnswer}
 use Rattle.calc_session.specs.Drawing.{IsDrawn}
@@ -8,18 +8,10 @@ abbrev text_for : Result (List ℕ) Full → List ℕ
 text_for r = elim r [ Ok rows ↦ rows | Err refusal ↦ with_newline (text_of (refused (full refusal))) ]
 
 pub drawn_whole : (s : State) (a b : Option (List ℕ)) → IsDrawn (rows_in s) a b → Appends a b (picture_text s)
-drawn_whole s a b h = by (rows_in s) h
-  where
-    by : (r : Result (List ℕ) Full) → IsDrawn r a b → Appends a b (text_for r)
-    by (Ok rows) h = h
-    by (Err lack) h = absurd h
+drawn_whole s a b h = grind (arith)
 
 pub drawn_part : (s : State) (a b : Option (List ℕ)) → IsDrawnInPart (rows_in s) a b → AppendsPart a b (picture_text s)
-drawn_part s a b h = by (rows_in s) h
-  where
-    by : (r : Result (List ℕ) Full) → IsDrawnInPart r a b → AppendsPart a b (text_for r)
-    by (Ok rows) h = h
-    by (Err lack) h = absurd h
+drawn_part s a b h = grind (arith)
 
 module _ (old mid : Place) (bytes : List ℕ) (answer : LineAnswer) (text : List ℕ) (t : TakesLine old mid bytes answer text) (a b : Option (List ℕ)) (out : List ℕ) (is : written t.reply mid.now ≡ out) where
   pub answers_so : (new : Place) → new ≡ mid → Appends a b out → AnswersLine old new bytes a b

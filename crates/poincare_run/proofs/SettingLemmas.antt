@@ -1,6 +1,6 @@
 -- The options of words are those that the words ask for.
-use Rattle.std.proofs.Common.{◌≡◌, ◌∙◌, ◌↔◌, ℕ, zero, suc, ◌<◌, ◌^◌, ◌&&◌, List, [], ◌∷◌, ◌++◌, length, drop, Bool, true, false, Option, Some, None, is_some, if◌then◌else◌, refl, sym, ap, subst, inl}
-use Rattle.std.proofs.{Common.{inr, codes, arith}, lemmas.Bool.Decides.{Decides-eqb}}
+use Rattle.std.proofs.Common.{◌≡◌, ◌⊎◌, ◌∙◌, ◌↔◌, ℕ, zero, suc, ◌<◌, ◌^◌, ◌&&◌, List, [], ◌∷◌, ◌++◌, length, drop, Bool, true, false, Option, Some, None, is_some, if◌then◌else◌, refl, sym, ap, subst}
+use Rattle.std.proofs.{Common.{inl, inr, codes, arith}, lemmas.Bool.Decides.{Decides-eqb}}
 use Rattle.std.specs.Prelude.{eqb, unwrap_or, IfSome}
 use Rattle.poincare_run.proofs.Shared.{starts_with, option_and_then, option_map, bytes_eq, append_assoc, bytes_eq-Decides, starts_is, value_of, Key, Pool, Interrupt, Generated, Reading, is_pool_size}
 use Rattle.poincare_run.proofs.Shared.{is_session_number, key_of, named_in, no_values, options_of, options_with, read, size_in, with_draw, with_generated, with_interrupt, with_number, with_pool}
@@ -86,14 +86,10 @@ added Generated text n v u w more h e f =
     record { pool = g.pool; interrupt = g.interrupt; generated = joined_cons v.generated text (texts_of Generated more) n w.generated k.0 h g.generated; draws = g.draws }
 
 valued : (key : Key) (text : List ℕ) (v u w : Values) (more : List Setting) → with_value key text v ≡ Some u → Follows u more w → Follows v (value key text ∷ more) w
-valued key text v u w more e f =
-    let k = of_then (λ n. with_number key n v) (value_of text) u e in
-    added key text k.0 v u w more k.1 k.2 f
+valued key text v u w more e f = grind (arith, of_then, added)
 
 drawn : (v u w : Values) (more : List Setting) → v.draw ≡ false → record v { draw = true } ≡ u → Follows u more w → Follows v (draw ∷ more) w
-drawn v u w more h e f =
-    let g = subst (λ (x : Values). Follows x more w) (sym e) f in
-    record { pool = g.pool; interrupt = g.interrupt; generated = g.generated; draws = drawn_cons v.draw (draws_of more) w.draw h g.draws }
+drawn v u w more h e f = grind (arith, drawn_cons)
 
 -- an option that a first setting names may be given its number
 pub taken : (key : Key) (text : List ℕ) (v w : Values) (more : List Setting) → Follows v (value key text ∷ more) w → (u : Values) × (with_value key text v ≡ Some u) × Follows u more w
@@ -119,51 +115,36 @@ front_is : (word name : List ℕ) → starts_with eqb word name ≡ true → wor
 front_is word name e = (starts_is Decides-eqb word name (starts_with eqb word name) refl).0 e
 
 named : (word : List ℕ) (key : Key) → key_of word ≡ Some key → word ≡ name_of key
-named word key e = by_pool (bytes_eq word (codes "--pool")) (bytes_eq word (codes "--interrupt")) (bytes_eq word (codes "--gen")) refl refl refl
-  where
-    by_pool : (a b c : Bool) → bytes_eq word (codes "--pool") ≡ a → bytes_eq word (codes "--interrupt") ≡ b → bytes_eq word (codes "--gen") ≡ c → word ≡ name_of key
-    by_pool true b c p q r = let is : Some Pool ≡ Some key = rw p at e in let same : Pool ≡ key = cc in subst (λ k. word ≡ name_of k) same (word_is word (codes "--pool") p)
-    by_pool false true c p q r = let is : Some Interrupt ≡ Some key = rw (p, q) at e in let same : Interrupt ≡ key = cc in subst (λ k. word ≡ name_of k) same (word_is word (codes "--interrupt") q)
-    by_pool false false true p q r = let is : Some Generated ≡ Some key = rw (p, q, r) at e in let same : Generated ≡ key = cc in subst (λ k. word ≡ name_of k) same (word_is word (codes "--gen") r)
-    by_pool false false false p q r = let is : None ≡ Some key = rw (p, q, r) at e in absurd cc
+named word key e = grind (arith, word_is)
 
--- a word is the setting, and what is named follows
-abbrev IsSetting : List ℕ → Values → Values → Type 0
-IsSetting word v u = (s : Setting) × IsSpelled s (word ∷ []) × ((more : List Setting) (w : Values) → Follows u more w → Follows v (s ∷ more) w)
+-- a word is a setting
+abbrev IsSetting : List ℕ → Type 0
+IsSetting word = (s : Setting) × IsSpelled s (word ∷ [])
 
-attached : (key : Key) (word text : List ℕ) (v u : Values) → word ≡ name_of key ++ 61 ∷ text → with_value key text v ≡ Some u → IsSetting word v u
-attached key word text v u is e = (value key text, inr (ap (λ t. t ∷ []) is), λ more w f. valued key text v u w more e f)
-
-generated_word : (word : List ℕ) (v u : Values) → with_generated word v ≡ Some u → IsSetting word v u
-generated_word word v u e = by (starts_with eqb word (codes "--gen=")) refl
-  where
-    by : (b : Bool) → starts_with eqb word (codes "--gen=") ≡ b → IsSetting word v u
-    by true p = let k : with_value Generated (drop 6 word) v ≡ Some u = rw p at e in attached Generated word (drop 6 word) v u (front_is word (codes "--gen=") p) k
-    by false p = let k : ◌≡◌ {A = Option Values} None (Some u) = rw p at e in absurd cc
-
-interrupt_word : (word : List ℕ) (v u : Values) → with_interrupt word v ≡ Some u → IsSetting word v u
-interrupt_word word v u e = by (starts_with eqb word (codes "--interrupt=")) refl
-  where
-    by : (b : Bool) → starts_with eqb word (codes "--interrupt=") ≡ b → IsSetting word v u
-    by true p = let k : with_value Interrupt (drop 12 word) v ≡ Some u = rw p at e in attached Interrupt word (drop 12 word) v u (front_is word (codes "--interrupt=") p) k
-    by false p = let k : with_generated word v ≡ Some u = rw p at e in generated_word word v u k
-
-pool_word : (word : List ℕ) (v u : Values) → with_pool word v ≡ Some u → IsSetting word v u
-pool_word word v u e = by (starts_with eqb word (codes "--pool=")) refl
-  where
-    by : (b : Bool) → starts_with eqb word (codes "--pool=") ≡ b → IsSetting word v u
-    by true p = let k : with_value Pool (drop 7 word) v ≡ Some u = rw p at e in attached Pool word (drop 7 word) v u (front_is word (codes "--pool=") p) k
-    by false p = let k : with_interrupt word v ≡ Some u = rw p at e in interrupt_word word v u k
+attached : (key : Key) (word text : List ℕ) → word ≡ name_of key ++ 61 ∷ text → IsSetting word
+attached key word text is = (value key text, inr (ap (λ t. t ∷ []) is))
 
 draw_word : (v u w : Values) (more : List Setting) → with_draw v ≡ Some u → Follows u more w → Follows v (draw ∷ more) w
 draw_word v u w more e f = let k = of_choice v.draw _ u e in drawn v u w more k.0 k.1 f
 
-setting_word : (word : List ℕ) (v u : Values) → with_word word v ≡ Some u → IsSetting word v u
-setting_word word v u e = by (bytes_eq word (codes "--draw")) refl
-  where
-    by : (b : Bool) → bytes_eq word (codes "--draw") ≡ b → IsSetting word v u
-    by true p = let k : with_draw v ≡ Some u = rw p at e in (draw, ap (λ t. t ∷ []) (word_is word (codes "--draw") p), λ more w f. draw_word v u w more k f)
-    by false p = let k : with_pool word v ≡ Some u = rw p at e in pool_word word v u k
+chosen : {X : Type 0} (b : Bool) (x y z : X) → (if b then x else y) ≡ z → (b ≡ true) ⊎ (y ≡ z)
+chosen true x y z e = inl refl
+chosen false x y z e = inr e
+
+setting_word : (word : List ℕ) (v u : Values) → with_word word v ≡ Some u → IsSetting word
+setting_word word v u e = elim (chosen (bytes_eq word (codes "--draw")) (with_draw v) (with_pool word v) (Some u) e) [
+  | inl p ↦ (draw, ap (λ t. t ∷ []) (word_is word (codes "--draw") p))
+  | inr f ↦ elim (chosen (starts_with eqb word (codes "--pool=")) (with_value Pool (drop 7 word) v) (with_interrupt word v) (Some u) f) [
+    | inl p ↦ attached Pool word (drop 7 word) (front_is word (codes "--pool=") p)
+    | inr g ↦ elim (chosen (starts_with eqb word (codes "--interrupt=")) (with_value Interrupt (drop 12 word) v) (with_generated word v) (Some u) g) [
+      | inl p ↦ attached Interrupt word (drop 12 word) (front_is word (codes "--interrupt=") p)
+      | inr h ↦ elim (chosen (starts_with eqb word (codes "--gen=")) (with_value Generated (drop 6 word) v) None (Some u) h) [
+        | inl p ↦ attached Generated word (drop 6 word) (front_is word (codes "--gen=") p)
+        | inr none ↦ absurd cc
+      ]
+    ]
+  ]
+]
 
 -- ---- all words
 
@@ -194,10 +175,10 @@ between None words w e = absurd cc
 between (Some u) words w e = (u, refl, e)
 
 abbrev pub Given : List (List ℕ) → Type 0
-Given words = (v w : Values) → option_and_then named_in (read (settled v) words) ≡ Some w → (ss : List Setting) × Spells words ss × Follows v ss w
+Given words = (v w : Values) → option_and_then named_in (read (settled v) words) ≡ Some w → (ss : List Setting) × Spells words ss
 
 reads_none : Given []
-reads_none v w e = let same : v ≡ w = cc in ([], refl, subst (λ (x : Values). Follows v [] x) same (record { pool = refl; interrupt = refl; generated = refl; draws = refl }))
+reads_none v w e = ([], refl)
 
 -- a word that is the name of no option is a setting
 reads_setting : (word : List ℕ) (words : List (List ℕ)) → key_of word ≡ None → Given words → Given (word ∷ words)
@@ -206,7 +187,7 @@ reads_setting word words p later v w e =
     let t = between (with_word word v) words w (read_on word words v w None p e) in
     let set = setting_word word v t.0 t.1 in
     let rest = later t.0 w t.2 in
-    (set.0 ∷ rest.0, (word ∷ [], words, refl, set.1, rest.1), set.2 rest.0 w rest.2)
+    (set.0 ∷ rest.0, (word ∷ [], words, refl, set.1, rest.1))
 
 -- the word behind the name of an option is its value
 reads_value : (key : Key) (word text : List ℕ) (words : List (List ℕ)) → key_of word ≡ Some key → Given words → Given (word ∷ text ∷ words)
@@ -214,7 +195,7 @@ unfolding after
 reads_value key word text words p later v w e =
     let t = between (with_value key text v) words w (read_on word (text ∷ words) v w (Some key) p e) in
     let rest = later t.0 w t.2 in
-    (value key text ∷ rest.0, (word ∷ text ∷ [], words, refl, inl (ap (λ x. x ∷ text ∷ []) (named word key p)), rest.1), valued key text v t.0 w rest.0 t.1 rest.2)
+    (value key text ∷ rest.0, (word ∷ text ∷ [], words, refl, inl (ap (λ x. x ∷ text ∷ []) (named word key p)), rest.1))
 
 reads_last : (key : Key) (word : List ℕ) → key_of word ≡ Some key → Given (word ∷ [])
 unfolding after
@@ -295,11 +276,7 @@ drawn_once (suc (suc n)) d = (λ j. j, λ j. j)
 
 -- the size is that of the pool which is named, or else the default
 size_named : (v : Values) → size_in v ≡ unwrap_or v.pool 32768
-size_named v = by v.pool refl
-  where
-    by : (o : Option ℕ) → v.pool ≡ o → size_in v ≡ unwrap_or v.pool 32768
-    by None e = rw e refl
-    by (Some n) e = rw e refl
+size_named v = grind (arith)
 
 sized : (n : ℕ) → is_pool_size n ≡ true → IsPoolSize n
 sized n e = record { least = grind (arith, e); most = grind (arith, e); eights = grind (arith, e) }
@@ -378,10 +355,7 @@ number_exchanged (q ∷ []) (x ∷ a) (y ∷ b) c n h = absurd h
 number_exchanged (q ∷ r ∷ p) (x ∷ a) (y ∷ b) c n h = absurd h
 
 texts_exchanged : (key : Key) (before behind : List Setting) (s t : Setting) (n : Option ℕ) → IsNumber (texts_of key (before ++ s ∷ t ∷ behind)) n → IsNumber (texts_of key (before ++ t ∷ s ∷ behind)) n
-texts_exchanged key before behind s t n h =
-    subst (λ ts. IsNumber ts n) (sym (texts_append key before (t ∷ s ∷ behind)))
-    (number_exchanged (texts_of key before) (text_in key s) (text_in key t) (texts_of key behind) n
-    (subst (λ ts. IsNumber ts n) (texts_append key before (s ∷ t ∷ behind)) h))
+texts_exchanged key before behind s t n h = grind (arith, texts_append, number_exchanged)
 
 draws_exchanged : (before behind : List Setting) (s t : Setting) → draws_of (before ++ s ∷ t ∷ behind) ≡ draws_of (before ++ t ∷ s ∷ behind)
 draws_exchanged [] behind draw draw = refl

@@ -15,10 +15,10 @@ pub use Rattle.clap.specs.{Walk.{used_by_id, walk, with_default, with_values, wi
 pub use Rattle.clap.specs.declared.parser.matches.ValueSource.TheVariants.{CommandLine, DefaultValue}
 unfoldable pub use Rattle.clap.specs.{Faults.{defaults_fault, flags_fault, walk_fault}, Walk.{bundle_met, walked}}
 pub use Rattle.node_pool.specs.declared.full.Full.{Full}
-pub use Rattle.poincare_run.specs.{Beginnings.{Beginning, IfGenerates, IfReads, beginning_of, beginning_with, begun, generates, reads}, Buffer.{Holds, StandsFor, return_if}}
+pub use Rattle.poincare_run.specs.{Beginnings.{Beginning, IfGenerates, IfReads, beginning_of, beginning_with, begun, generates, reads}, Buffer.{Holds, StandsFor}}
 pub use Rattle.poincare_run.specs.{CommandLine.{command_line, number_in, option_named, values_named}, Endings.{ReadsAll, ReadsLimit, ReadsPart, SumsUp, SumsUpInPart, WriteStops, Writes, WritesPart}}
 pub use Rattle.poincare_run.specs.{Endings.{session_limit}, Generated.{digits_for, first_number, line_of, next_seed, pattern, second_number, with_digits}, Lines.{all_but_last, is_newline, last_of}}
-pub use Rattle.poincare_run.specs.{Lines.{line_of_rest, lines_of, parts}, Options.{Generated, Interrupt, Key, Pool, Reading, is_pool_size, is_session_number, key_of, named_in, no_values}}
+pub use Rattle.poincare_run.specs.{Lines.{lines_of, parts}, Options.{Generated, Interrupt, Key, Pool, Reading, is_pool_size, is_session_number, key_of, named_in, no_values}}
 pub use Rattle.poincare_run.specs.{Options.{options_with, read, size_in, with_draw, with_generated, with_interrupt, with_next, with_number, with_pool, with_value, with_word}, Progress.{Answered}}
 pub use Rattle.poincare_run.specs.Progress.{AnswersLine, Breaks, Continues, EndsAs, EndsFrom, FailsAtLine, Goes, IfNoMemory, IsSummed, IsUnderWay, Place, StopsReading, StopsWriting, SumsUpAs}
 pub use Rattle.poincare_run.specs.{Progress.{TakesLine, Tallied, place_of, status}, Settings.{Asks, IsDrawn, IsNumber, IsSpelled, OptionsAreAsked, OrderIsFree, Setting, Spells, draw, draws_of}}

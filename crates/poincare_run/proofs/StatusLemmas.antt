@@ -1,5 +1,5 @@
 -- Lemmas on the status of the program, and what it says.
-use Rattle.std.proofs.Common.{◌≡◌, ◌≢◌, ◌∙◌, ◌⊎◌, ℕ, ◌≤◌, List, [], ◌∷◌, ◌++◌, length, Bool, Option, Some, None, Contains, inl, inr, refl, sym, ap, subst, arith, length-append}
+use Rattle.std.proofs.Common.{◌≡◌, ◌≢◌, ◌∙◌, ◌⊎◌, ℕ, ◌≤◌, List, [], ◌∷◌, ◌++◌, length, Bool, Option, Some, None, Contains, inl, inr, refl, sym, ap, arith, length-append}
 use Rattle.poincare_run.proofs.Shared.{append_cancel_right, Consumes, State, Beginning, reads, generates, IfReads, IfGenerates, Moment, session_limit, ReadsAll, ReadsPart, ReadsLimit, WriteStops}
 use Rattle.poincare_run.proofs.Shared.{SumsUp, SumsUpInPart, EndsAs, EndsFrom, IfNoMemory, IsSummed, StopsReading, StopsWriting, SumsUpAs, status}
 use Rattle.calc_edges.specs.{Faults.{IsCalm, Rose, StopsAtFailure}, declared.failures.Failures.{Failures}}
@@ -8,13 +8,7 @@ use Rattle.breakers.specs.State.{State as Breaker}
 
 -- what was consumed is known where the source tells its bytes
 consumed : (t u : Option (List ℕ)) (bytes input rest : List ℕ) → Consumes t u bytes → t ≡ Some (input ++ rest) → u ≡ Some rest → length input ≡ length bytes
-consumed t u bytes input rest h before after =
-    ap length (append_cancel_right input bytes rest (known (input ++ rest) rest t u before after h))
-  where
-    known : (xs ys : List ℕ) (a b : Option (List ℕ)) → a ≡ Some xs → b ≡ Some ys → Consumes a b bytes → xs ≡ bytes ++ ys
-    known xs ys None b p q c = cc
-    known xs ys (Some a) None p q c = cc
-    known xs ys (Some a) (Some b) p q c = let x : a ≡ xs = cc in let y : b ≡ ys = cc in sym x ∙ c ∙ ap (λ l. bytes ++ l) y
+consumed t u bytes input rest h before after = grind (arith, append_cancel_right)
 
 -- nothing was read
 pub nothing_read : (t : Option (List ℕ)) (input rest : List ℕ) (status : ℕ) → t ≡ Some (input ++ rest) → t ≡ Some rest → (length input ≤ session_limit) × (length input ≡ session_limit → (status ≡ 6) ⊎ (status ≡ 4))
@@ -158,18 +152,10 @@ not_read NoMemory h = (λ e. omega arith, λ e. omega arith)
 
 module _ (o : Option Beginning) (b : Beginning) (is : o ≡ Some b) (ending : Ending) (t t' k k' : Option (List ℕ)) (h : EndsFrom ending b t t' k k') where
   if_reads : (P : Moment → Type 0) → ((start : Moment) → EndsAs ending start t t' k k' → P start) → IfReads o P
-  if_reads P f = subst (λ p. IfReads p P) (sym is) (by b h)
-    where
-      by : (c : Beginning) → EndsFrom ending c t t' k k' → IfReads (Some c) P
-      by (reads start) e = f start e
-      by (generates start n) e = tt
+  if_reads P f = grind (arith)
 
   if_generates : (P : Moment → ℕ → Type 0) → ((start : Moment) (n : ℕ) → SumsUpAs ending start n k k' → IsSummed ending → P start n) → IfGenerates o P
-  if_generates P f = subst (λ p. IfGenerates p P) (sym is) (by b h)
-    where
-      by : (c : Beginning) → EndsFrom ending c t t' k k' → IfGenerates (Some c) P
-      by (reads start) e = tt
-      by (generates start n) e = f start n e.0 e.2
+  if_generates P f = grind (arith)
 
   pub all_read_if : status ending ≡ 0 → IfReads o (λ start. ReadsAll start t t' k k')
   all_read_if s = if_reads (λ start. ReadsAll start t t' k k') (λ start e. all_read start t t' k k' ending e s)
@@ -190,11 +176,7 @@ module _ (o : Option Beginning) (b : Beginning) (is : o ≡ Some b) (ending : En
   summed_up_in_part_if s = if_generates (λ start n. SumsUpInPart start n k k') (λ start n e _. summed_up_in_part start n k k' ending e s)
 
   pub unread_if : (P : Type 0) → IfGenerates (Some b) (λ start n. P) → IfGenerates o (λ start n. P × (status ending ≢ 3) × (status ending ≢ 6))
-  unread_if P p = subst (λ q. IfGenerates q (λ start n. P × (status ending ≢ 3) × (status ending ≢ 6))) (sym is) (by b h p)
-    where
-      by : (c : Beginning) → EndsFrom ending c t t' k k' → IfGenerates (Some c) (λ start n. P) → IfGenerates (Some c) (λ start n. P × (status ending ≢ 3) × (status ending ≢ 6))
-      by (reads start) e p = tt
-      by (generates start n) e p = let other = not_read ending e.2 in (p, other.0, other.1)
+  unread_if P p = grind (arith, not_read)
 
   pub within_limit_if : (input rest : List ℕ) → t ≡ Some (input ++ rest) → t' ≡ Some rest → (length input ≤ session_limit) × (length input ≡ session_limit → (status ending ≡ 6) ⊎ (status ending ≡ 4))
   within_limit_if input rest before after = by b h
@@ -204,9 +186,7 @@ module _ (o : Option Beginning) (b : Beginning) (is : o ≡ Some b) (ending : En
       by (generates start n) e = nothing_read t input rest (status ending) before (sym e.1 ∙ after)
 
 pub begins_at : (m : Moment) (s : State) (bs : List Breaker) (draws : Bool) → m.state ≡ s → m.breakers ≡ bs → m.draws ≡ draws → record { state = s; breakers = bs; draws = draws } ≡ m
-begins_at m s bs draws e f g =
-    ap (λ (x : State). record { state = x; breakers = bs; draws = draws }) (sym e) ∙ ap (λ (ys : List Breaker). record { state = m.state; breakers = ys; draws = draws }) (sym f)
-    ∙ ap (λ (b : Bool). record { state = m.state; breakers = m.breakers; draws = b }) (sym g)
+begins_at m s bs draws e f g = grind (arith)
 
 pub never_early : (ending : Ending) (P : Type 0) → IfNoMemory ending ⊥ → IfNoMemory ending P
 never_early ReadToEnd P h = tt

@@ -1,9 +1,9 @@
 -- Lemmas on the steps of a session, and on how far it has come.
-use Rattle.std.proofs.Common.{◌≡◌, ◌∙◌, ◌⊎◌, inl, inr, ℕ, List, [], ◌∷◌, ◌++◌, length, ◌<◌, Bool, true, false, nat_le, Option, refl, sym, ap, subst, arith, append_assoc, append-nil}
+use Rattle.std.proofs.Common.{◌≡◌, ◌∙◌, ◌⊎◌, inl, inr, ℕ, List, [], ◌∷◌, ◌++◌, length, ◌<◌, Bool, true, false, Option, refl, sym, ap, subst, arith, append_assoc, append-nil}
 use Rattle.poincare_run.proofs.Shared.{leb-true, leb-false, strip_carriage_return, LineAnswer, Blank, Shown, Stored, Undef, Report, Draw, Refused, Answers, IsAnswer, IsReport, printed, Reason, Reply}
-use Rattle.poincare_run.proofs.Shared.{report, forgot, State, IsReply, asks_in_vain, is_replied, LineBuffer, is_newline, lines_of, line_of_rest, whole_lines, rest_of, all_written, bits, Chain}
-use Rattle.poincare_run.proofs.Shared.{LineStep, Moment, Turn, is_drawn, picture_if, picture_text, replies_of, room, Steps, with_newline, written, Holds, StandsFor, Answered, AnswersLine, FailsAtLine}
-use Rattle.poincare_run.proofs.{Shared.{Continues, Breaks, Goes, TakesLine, Place, Appends-nil, Appends-trans, AppendsPart-after}, LineLemmas.{whole_lines-newline, rest_of-newline, whole_lines-other}}
+use Rattle.poincare_run.proofs.Shared.{report, forgot, State, IsReply, asks_in_vain, is_replied, LineBuffer, is_newline, lines_of, whole_lines, rest_of, all_written, bits, Chain, LineStep, Moment}
+use Rattle.poincare_run.proofs.Shared.{Turn, is_drawn, picture_if, picture_text, replies_of, room, Steps, with_newline, written, Holds, StandsFor, Answered, AnswersLine, FailsAtLine, Continues}
+use Rattle.poincare_run.proofs.{Shared.{Breaks, Goes, TakesLine, Place, Appends-nil, Appends-trans, AppendsPart-after}, LineLemmas.{whole_lines-newline, rest_of-newline, whole_lines-other}}
 use Rattle.poincare_run.proofs.LineLemmas.{rest_of-other, whole_lines-front}
 use Rattle.breakers.specs.{Breakers.{kept}, State.{State as Breaker}}
 use Rattle.calc_session.specs.Asking.{AsksInVain, is_long, is_no_line, is_no_command}
@@ -19,25 +19,10 @@ long_reply line k h (asks_in_vain v same) = asks_in_vain (long_vain line k h v) 
 long_reply line k h (is_replied short a r) = absurd (omega arith)
 
 same_reply : (s : State) (before after : List Breaker) (kept line : List ℕ) (reply : Reply) → StandsFor kept line → IsReply room bits s before after kept reply → IsReply room bits s before after line reply
-same_reply s before after kept line reply h r = by (nat_le (length line) 1024) refl
-  where
-    by : (b : Bool) → nat_le (length line) 1024 ≡ b → IsReply room bits s before after line reply
-    by true e = let same : kept ≡ line = h.same (let short = leb-true (length line) 1024 e in omega arith) in subst (λ l. IsReply room bits s before after l reply) same r
-    by false e =
-        let long = leb-false (length line) 1024 e in
-        let full : length kept ≡ 1025 = h.long (omega arith) in
-        long_reply line (omega arith) (omega arith) r
+same_reply s before after kept line reply h r = grind (arith, leb-true, leb-false, long_reply)
 
 pub step_of_line : (buffer : LineBuffer) (bytes : List ℕ) (s t : Moment) (reply : Reply) → Holds buffer bytes → LineStep s buffer.kept.items reply t → LineStep s (strip_carriage_return bytes) reply t
-step_of_line buffer bytes s t reply h step = record {
-  checked = step.checked;
-  step = record {
-    reply_is = subst (λ l. IsReply room bits s.state s.breakers step.checked l reply) (sym h.line_is) (same_reply s.state s.breakers step.checked buffer.kept.items h.line reply h.stands step.step.reply_is);
-    state_is = step.step.state_is;
-  };
-  swept = step.swept;
-  same = step.same;
-}
+step_of_line buffer bytes s t reply h step = grind (arith, same_reply)
 
 -- a line was answered, and then the breakers were swept
 pub takes : (buffer : LineBuffer) (bytes : List ℕ) (old new : Place) (checked : List Breaker) (answer : LineAnswer) (text : List ℕ) → Holds buffer bytes
@@ -74,9 +59,7 @@ drawn_is draws (Refused r) reply h = ap (is_drawn draws) h
 
 module _ (old new : Place) (bytes : List ℕ) (answer : LineAnswer) (text : List ℕ) (t : TakesLine old new bytes answer text) where
   written_for : written t.reply new.now ≡ with_newline (printed answer text) ++ picture_if (draws_for new.now.draws answer) new.now.state
-  written_for =
-      ap (λ (told : Option (List ℕ)). with_newline told ++ picture_if (is_drawn new.now.draws t.reply) new.now.state) (sym t.text_is)
-      ∙ ap (λ (b : Bool). with_newline (printed answer text) ++ picture_if b new.now.state) (drawn_is new.now.draws answer t.reply t.answer_is)
+  written_for = grind (arith, drawn_is)
 
   as_for : (a : LineAnswer) → answer ≡ a → written t.reply new.now ≡ with_newline (printed a text) ++ picture_if (draws_for new.now.draws a) new.now.state
   as_for a e = written_for ∙ ap (λ (x : LineAnswer). with_newline (printed x text) ++ picture_if (draws_for new.now.draws x) new.now.state) e
@@ -135,15 +118,7 @@ steps_more s t u lines out line reply h step = record {
 module _ (start : Moment) (before out : List ℕ) (old : Place) (h : Answered start before out old) where
   -- a line that ends is answered
   pub goes_by_line : (new : Place) (a b : Option (List ℕ)) → AnswersLine old new (rest_of before) a b → Holds new.line [] → Goes start before (10 ∷ []) out new a b
-  goes_by_line new a b line empty = record {
-    more = written line.reply new.now;
-    answered = record {
-      steps = subst (λ ls. Steps start ls (out ++ written line.reply new.now) new.now) (sym (whole_lines-newline before))
-          (steps_more start old.now new.now (whole_lines before) out _ line.reply h.steps line.step);
-      rest = subst (Holds new.line) (sym (rest_of-newline before)) empty;
-    };
-    appended = line.appended;
-  }
+  goes_by_line new a b line empty = grind (arith, whole_lines-newline, steps_more, rest_of-newline)
 
   pub breaks_at_line : (a b : Option (List ℕ)) → FailsAtLine old (rest_of before) a b → Breaks start (whole_lines (before ++ 10 ∷ [])) out a b
   breaks_at_line a b line = record {
@@ -157,14 +132,7 @@ module _ (start : Moment) (before out : List ℕ) (old : Place) (h : Answered st
 
   -- another byte is kept
   pub goes_by_byte : (new : Place) (a : Option (List ℕ)) (b : ℕ) → is_newline b ≡ false → new.now ≡ old.now → Holds new.line (rest_of before ++ b ∷ []) → Goes start before (b ∷ []) out new a a
-  goes_by_byte new a b other same rest = record {
-    more = [];
-    answered = record {
-      steps = rw (append-nil, same, whole_lines-other before b other) h.steps;
-      rest = subst (Holds new.line) (sym (rest_of-other before b other)) rest;
-    };
-    appended = Appends-nil a;
-  }
+  goes_by_byte new a b other same rest = grind (arith, append-nil, whole_lines-other, rest_of-other)
 
 -- ---- one stretch of bytes after the other
 pub goes_nowhere : (start : Moment) (before out : List ℕ) (dialog : Place) (a : Option (List ℕ)) → Answered start before out dialog → Goes start before [] out dialog a a
@@ -198,18 +166,10 @@ module _ (start : Moment) (before bytes out : List ℕ) (middle : Place) (a b c 
 -- ---- the end of the input
 module _ (start : Moment) (input out : List ℕ) (old : Place) (h : Answered start input out old) where
   pub ends_in_newline : (a : Option (List ℕ)) → rest_of input ≡ [] → Continues start (lines_of input) out a a
-  ends_in_newline a none = record {
-    out = [];
-    transcript = (old.now, rw (none, append-nil, append-nil) h.steps);
-    appended = Appends-nil a;
-  }
+  ends_in_newline a none = grind (arith, append-nil)
 
   lines_with_rest : (rest_of input ≡ [] → ⊥) → lines_of input ≡ whole_lines input ++ strip_carriage_return (rest_of input) ∷ []
-  lines_with_rest some = ap (λ ls. whole_lines input ++ ls) (by (rest_of input) refl)
-    where
-      by : (rest : List ℕ) → rest_of input ≡ rest → line_of_rest rest ≡ strip_carriage_return rest ∷ []
-      by [] e = absurd (some e)
-      by (b ∷ bs) e = refl
+  lines_with_rest some = grind (arith)
 
   pub ends_in_line : (new : Place) (a b : Option (List ℕ)) → (rest_of input ≡ [] → ⊥) → AnswersLine old new (rest_of input) a b → Continues start (lines_of input) out a b
   ends_in_line new a b some line = record {

@@ -1,9 +1,9 @@
 -- Lemmas on counts of answers.
-use Rattle.std.proofs.{Common.{◌≡◌, ◌∙◌, ◌⊎◌, inl, inr, ℕ, ◌+◌, ◌≤◌, List, [], ◌∷◌, ◌++◌, length, false, refl, sym, ap, subst, arith, length-append}, lemmas.List.Sums.{sum_by_push}}
+use Rattle.std.proofs.{Common.{◌≡◌, ◌∙◌, ◌⊎◌, inl, inr, ℕ, ◌+◌, ◌≤◌, List, [], ◌∷◌, ◌++◌, false, refl, sym, ap, subst, arith, length-append}, lemmas.List.Sums.{sum_by_push}}
 use Rattle.poincare_run.proofs.Shared.{LineAnswer, Blank, Shown, Stored, Undef, Report, Draw, Refused, IsAnswer, IsReport, Reply, report, forgot, Holds, is_newline, rest_of, whole_lines, Place}
 use Rattle.poincare_run.proofs.Shared.{TakesLine, Tallied, Chain, Moment, replies_of, Sort, as_shown, as_stored, as_undefined, as_refusal, as_other, sort_of, one_shown, one_stored, one_undefined}
-use Rattle.poincare_run.proofs.{Shared.{one_refusal, how_many, text_length, tally_of}, LineLemmas.{whole_lines-newline, rest_of-newline, whole_lines-other, rest_of-other}}
-use Rattle.poincare_run.proofs.StepLemmas.{chain_more, replies-more}
+use Rattle.poincare_run.proofs.{Shared.{one_refusal, how_many, text_length, tally_of}, LineLemmas.{whole_lines-newline, rest_of-newline, whole_lines-other, rest_of-other}, StepLemmas.{chain_more}}
+use Rattle.poincare_run.proofs.StepLemmas.{replies-more}
 use Rattle.poincare_run.specs.declared.tally.Tally.{Tally}
 
 -- the sort that an answer tells
@@ -40,13 +40,7 @@ tally_with l s o u r b = record { lines = l; shown = s; stored = o; undefined = 
 
 same_tally : (a b : Tally) → a.lines ≡ b.lines → a.shown ≡ b.shown → a.stored ≡ b.stored → a.undefined ≡ b.undefined → a.refused ≡ b.refused → a.bytes ≡ b.bytes → a ≡ b
 unfolding tally_with
-same_tally a b l s o u r n =
-    ap (λ x. tally_with x a.shown a.stored a.undefined a.refused a.bytes) l
-    ∙ ap (λ x. tally_with b.lines x a.stored a.undefined a.refused a.bytes) s
-    ∙ ap (λ x. tally_with b.lines b.shown x a.undefined a.refused a.bytes) o
-    ∙ ap (λ x. tally_with b.lines b.shown b.stored x a.refused a.bytes) u
-    ∙ ap (λ x. tally_with b.lines b.shown b.stored b.undefined x a.bytes) r
-    ∙ ap (λ x. tally_with b.lines b.shown b.stored b.undefined b.refused x) n
+same_tally a b l s o u r n = grind (arith, tally_with)
 
 -- one reply more
 pub record Counts (old new : Tally) (sort : Sort) (size : ℕ) : Type 0 where
@@ -63,25 +57,13 @@ one_more one replies reply sort old new is before e =
 
 pub counted : (old new : Tally) (replies : List Reply) (reply : Reply) (sort : Sort) (bytes : ℕ) → old ≡ tally_of replies → sort_of reply ≡ sort → bytes ≡ text_length reply → Counts old new sort bytes → new ≡ tally_of (replies ++ reply ∷ [])
 unfolding tally_of
-counted old new replies reply sort bytes e is many c =
-    same_tally new (tally_of (replies ++ reply ∷ []))
-    (let l : old.lines ≡ length replies = ap (λ (t : Tally). t.lines) e in let more = c.lines in omega (arith, length-append replies (reply ∷ [])))
-    (one_more one_shown replies reply sort old.shown new.shown is (ap (λ (t : Tally). t.shown) e) c.shown)
-    (one_more one_stored replies reply sort old.stored new.stored is (ap (λ (t : Tally). t.stored) e) c.stored)
-    (one_more one_undefined replies reply sort old.undefined new.undefined is (ap (λ (t : Tally). t.undefined) e) c.undefined)
-    (one_more one_refusal replies reply sort old.refused new.refused is (ap (λ (t : Tally). t.refused) e) c.refused)
-    (c.bytes ∙ ap (λ n. n + bytes) (ap (λ (t : Tally). t.bytes) e) ∙ ap (λ n. (tally_of replies).bytes + n) many ∙ sym (sum_by_push text_length replies reply))
+counted old new replies reply sort bytes e is many c = grind (arith, same_tally, length-append, one_more, sum_by_push)
 
 -- ---- bytes of lines
 
 module _ (start : Moment) (before : List ℕ) (old new : Place) (tally : Tally) (h : Tallied start before tally old) where
   pub tallied_by_byte : (b : ℕ) → is_newline b ≡ false → new.now ≡ old.now → Holds new.line (rest_of before ++ b ∷ []) → Tallied start (before ++ b ∷ []) tally new
-  tallied_by_byte b other same rest = record {
-    turns = h.turns;
-    chain = rw (same, whole_lines-other before b other) h.chain;
-    tally_is = h.tally_is;
-    rest = subst (Holds new.line) (sym (rest_of-other before b other)) rest;
-  }
+  tallied_by_byte b other same rest = grind (arith, whole_lines-other, rest_of-other)
 
   pub tallied_by_line : (more : Tally) (answer : LineAnswer) (text : List ℕ) → (t : TakesLine old new (rest_of before) answer text) → Holds new.line []
       → more ≡ tally_of (replies_of h.turns ++ t.reply ∷ []) → Tallied start (before ++ 10 ∷ []) more new

@@ -34,56 +34,24 @@ start_is g c =
     (begins_at (place_of g.B.Breaker.state c.new-dialog.result).now _ _ _ (ap (λ (s : Seen). s.state) (c.new-dialog.ensures.session ∙ c.in-Ok.ensures))
     (ap (states g.B.Breaker.state) c.new-dialog.ensures.watch ∙ c.armed-watch.ensures) c.new-dialog.ensures.draws)
 
-pub returns-clause-status : goal.returns-clause-status
-returns-clause-status g c = subst (Contains (0 ∷ 2 ∷ 3 ∷ 4 ∷ 5 ∷ 6 ∷ [])) (sym c.status_of.ensures) (is_status c.answer.result)
-
-pub returns-clause-usage : goal.returns-clause-usage
-returns-clause-usage g c = λ e. absurd (no_usage c.answer.result (sym c.status_of.ensures ∙ e))
-
-pub returns-clause-usage_or_no_memory : goal.returns-clause-usage_or_no_memory
-returns-clause-usage_or_no_memory g c = λ none. absurd (not_there _ _ (start_is g c) none)
-
-pub returns-clause-untouched : goal.returns-clause-untouched
-returns-clause-untouched g c = λ e. early c.answer.result _ (subst (λ s. (s ≡ 2) ⊎ (s ≡ 5)) c.status_of.ensures e) c.answer.ensures.untouched
-
-pub returns-clause-answered : goal.returns-clause-answered
-returns-clause-answered g c = λ e. all_read_if _ _ (start_is g c) c.answer.result _ _ _ _ c.answer.ensures.ends (sym c.status_of.ensures ∙ e)
-
-pub returns-clause-read_failed : goal.returns-clause-read_failed
-returns-clause-read_failed g c = λ e. stopped_rose _ _ _ _ (read_stops _ _ _ _ c.answer.result c.answer.ensures.reads (sym c.status_of.ensures ∙ e))
-
-pub returns-clause-read_stops : goal.returns-clause-read_stops
-returns-clause-read_stops g c = λ e. read_stops _ _ _ _ c.answer.result c.answer.ensures.reads (sym c.status_of.ensures ∙ e)
-
-pub returns-clause-reads_calm : goal.returns-clause-reads_calm
-returns-clause-reads_calm g c = λ e. reads_calm _ _ _ _ c.answer.result c.answer.ensures.reads (λ s. e (c.status_of.ensures ∙ s))
-
-pub returns-clause-read_in_part : goal.returns-clause-read_in_part
-returns-clause-read_in_part g c = λ e. read_in_part_if _ _ (start_is g c) c.answer.result _ _ _ _ c.answer.ensures.ends (sym c.status_of.ensures ∙ e)
-
-pub returns-clause-write_failed : goal.returns-clause-write_failed
-returns-clause-write_failed g c = λ e. stopped_rose _ _ _ _ (write_stops _ _ _ _ c.answer.result c.answer.ensures.writes (sym c.status_of.ensures ∙ e))
-
-pub returns-clause-write_stops : goal.returns-clause-write_stops
-returns-clause-write_stops g c = λ e. write_stops _ _ _ _ c.answer.result c.answer.ensures.writes (sym c.status_of.ensures ∙ e)
-
-pub returns-clause-writes_calm : goal.returns-clause-writes_calm
-returns-clause-writes_calm g c = λ e. writes_calm _ _ _ _ c.answer.result c.answer.ensures.writes (λ s. e (c.status_of.ensures ∙ s))
-
-pub returns-clause-written_in_part : goal.returns-clause-written_in_part
-returns-clause-written_in_part g c = λ e. written_in_part_if _ _ (start_is g c) c.answer.result _ _ _ _ c.answer.ensures.ends (sym c.status_of.ensures ∙ e)
-
-pub returns-clause-limit_reached : goal.returns-clause-limit_reached
-returns-clause-limit_reached g c = λ e. limit_reached_if _ _ (start_is g c) c.answer.result _ _ _ _ c.answer.ensures.ends (sym c.status_of.ensures ∙ e)
-
-pub returns-clause-limit : goal.returns-clause-limit
-returns-clause-limit g c = λ input rest before after. rw c.status_of.ensures (within_limit_if _ _ (start_is g c) c.answer.result _ _ _ _ c.answer.ensures.ends input rest before after)
-
-pub returns-clause-unread : goal.returns-clause-unread
-returns-clause-unread g c = rw c.status_of.ensures (unread_if _ _ (start_is g c) c.answer.result _ _ _ _ c.answer.ensures.ends _ c.answer.ensures.unread)
-
-pub returns-clause-summed_up : goal.returns-clause-summed_up
-returns-clause-summed_up g c = λ e. summed_up_if _ _ (start_is g c) c.answer.result _ _ _ _ c.answer.ensures.ends (sym c.status_of.ensures ∙ e)
-
-pub returns-clause-summed_up_in_part : goal.returns-clause-summed_up_in_part
-returns-clause-summed_up_in_part g c = λ e. summed_up_in_part_if _ _ (start_is g c) c.answer.result _ _ _ _ c.answer.ensures.ends (sym c.status_of.ensures ∙ e)
+pub returns : goal.returns
+returns g c = record {
+  status = subst (Contains (0 ∷ 2 ∷ 3 ∷ 4 ∷ 5 ∷ 6 ∷ [])) (sym c.status_of.ensures) (is_status c.answer.result);
+  usage = λ e. absurd (no_usage c.answer.result (sym c.status_of.ensures ∙ e));
+  usage_or_no_memory = λ none. absurd (not_there _ _ (start_is g c) none);
+  untouched = λ e. early c.answer.result _ (subst (λ s. (s ≡ 2) ⊎ (s ≡ 5)) c.status_of.ensures e) c.answer.ensures.untouched;
+  answered = λ e. all_read_if _ _ (start_is g c) c.answer.result _ _ _ _ c.answer.ensures.ends (sym c.status_of.ensures ∙ e);
+  read_failed = λ e. stopped_rose _ _ _ _ (read_stops _ _ _ _ c.answer.result c.answer.ensures.reads (sym c.status_of.ensures ∙ e));
+  read_stops = λ e. read_stops _ _ _ _ c.answer.result c.answer.ensures.reads (sym c.status_of.ensures ∙ e);
+  reads_calm = λ e. reads_calm _ _ _ _ c.answer.result c.answer.ensures.reads (λ s. e (c.status_of.ensures ∙ s));
+  read_in_part = λ e. read_in_part_if _ _ (start_is g c) c.answer.result _ _ _ _ c.answer.ensures.ends (sym c.status_of.ensures ∙ e);
+  write_failed = λ e. stopped_rose _ _ _ _ (write_stops _ _ _ _ c.answer.result c.answer.ensures.writes (sym c.status_of.ensures ∙ e));
+  write_stops = λ e. write_stops _ _ _ _ c.answer.result c.answer.ensures.writes (sym c.status_of.ensures ∙ e);
+  writes_calm = λ e. writes_calm _ _ _ _ c.answer.result c.answer.ensures.writes (λ s. e (c.status_of.ensures ∙ s));
+  written_in_part = λ e. written_in_part_if _ _ (start_is g c) c.answer.result _ _ _ _ c.answer.ensures.ends (sym c.status_of.ensures ∙ e);
+  limit_reached = λ e. limit_reached_if _ _ (start_is g c) c.answer.result _ _ _ _ c.answer.ensures.ends (sym c.status_of.ensures ∙ e);
+  limit = λ input rest before after. rw c.status_of.ensures (within_limit_if _ _ (start_is g c) c.answer.result _ _ _ _ c.answer.ensures.ends input rest before after);
+  unread = rw c.status_of.ensures (unread_if _ _ (start_is g c) c.answer.result _ _ _ _ c.answer.ensures.ends _ c.answer.ensures.unread);
+  summed_up = λ e. summed_up_if _ _ (start_is g c) c.answer.result _ _ _ _ c.answer.ensures.ends (sym c.status_of.ensures ∙ e);
+  summed_up_in_part = λ e. summed_up_in_part_if _ _ (start_is g c) c.answer.result _ _ _ _ c.answer.ensures.ends (sym c.status_of.ensures ∙ e);
+}
