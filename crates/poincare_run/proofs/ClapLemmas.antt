@@ -1,14 +1,13 @@
 -- What `clap` makes of the words of the command line, and the settings that they spell.
 use Rattle.std.proofs.Common.{◌≡◌, ◌∙◌, ◌⊎◌, ℕ, zero, suc, ◌+◌, ◌≤◌, ◌&&◌, ◌||◌, ◌==◌, ◌^◌, nat_le, List, [], ◌∷◌, ◌++◌, length, take, drop, map, Bool, true, false, Option, Some, None, nat_lt}
 use Rattle.std.proofs.Common.{if◌then◌else◌, refl, sym, ap, ap₂, subst, inl, inr, codes, arith, append-nil}
-use Rattle.std.specs.{Prelude.{slice_get, ⊤}, Str.Parse.{digits_value}, Char.{is_ascii_digit}}
-use Rattle.poincare_run.proofs.Shared.{fold, list_any, list_all, position_or_len, option_map_or, bytes_eq, chars, append_assoc, bytes_eq-Decides, Held, Outcome, Row, Rule, Step, Text, Waiting, Walk}
-use Rattle.poincare_run.proofs.Shared.{after_flag, after_step, arg_by_id, arg_by_long, at_row, bundle, bundle_met, bundle_step, has_row, idle, long_or_other, more_values, option, plain, plain_word}
-use Rattle.poincare_run.proofs.Shared.{positional, settled, settled_rows, short_or_plain, trailing, used, used_by_id, walked, with_values, without, built, filled, Kinds, or_else, bundle_fault}
-use Rattle.poincare_run.proofs.Shared.{bundle_step_fault, flag_word_fault, flags_fault, long_fault, settle_fault, step_fault, turn_fault, use_fault, walk_fault, Shape, AsWritten, CommandLine, Key}
-use Rattle.poincare_run.proofs.{Shared.{Pool, Interrupt, Generated, IsSpelled, Setting, Spells, value, draw, name_of, command_line, option_named, is_digits, value_of}, SettingLemmas.{of_both}}
-use Rattle.poincare_run.proofs.SettingLemmas.{of_test}
-use Rattle.clap.specs.{Lexer.{has_byte, long_of, long_of_rest, name_and_value, short_of}, declared.builder.action.ArgAction.TheVariants.{Set, SetTrue}}
+use Rattle.std.specs.{Prelude.{⊤}, Str.Parse.{digits_value}, Char.{is_ascii_digit}}
+use Rattle.poincare_run.proofs.Shared.{fold, list_any, list_all, option_map_or, bytes_eq, append_assoc, bytes_eq-Decides, Held, Outcome, Row, Rule, Step, Text, Waiting, Walk, after_flag, after_step}
+use Rattle.poincare_run.proofs.Shared.{arg_by_id, arg_by_long, at_row, bundle, bundle_met, has_row, idle, long_or_other, more_values, option, plain, plain_word, positional, settled, settled_rows}
+use Rattle.poincare_run.proofs.Shared.{short_or_plain, trailing, used, used_by_id, walked, with_values, without, built, filled, Kinds, or_else, bundle_fault, flag_word_fault, flags_fault, long_fault}
+use Rattle.poincare_run.proofs.Shared.{settle_fault, step_fault, turn_fault, use_fault, walk_fault, Shape, AsWritten, CommandLine, Key, Pool, Interrupt, Generated, IsSpelled, Setting, Spells, value}
+use Rattle.poincare_run.proofs.{Shared.{draw, name_of, command_line, option_named, is_digits, value_of}, SettingLemmas.{of_both, of_test}}
+use Rattle.clap.specs.{Lexer.{long_of, long_of_rest, name_and_value, short_of}, declared.builder.action.ArgAction.TheVariants.{Set, SetTrue}}
 use Rattle.clap.specs.declared.error.kind.ErrorKind.TheVariants as kind
 
 -- ---- the rows of settings
@@ -56,12 +55,7 @@ of_else (k ∷ ks) b e = absurd cc
 counted_append : (id : Text) (xs ys : List Row) → counted id (xs ++ ys) ≡ counted id xs + counted id ys
 unfolding counted
 counted_append id [] ys = omega arith
-counted_append id (x ∷ xs) ys = by (bytes_eq x.id id) (counted_append id xs ys)
-  where
-    by : (b : Bool) → counted id (xs ++ ys) ≡ counted id xs + counted id ys
-        → (if b then suc (counted id (xs ++ ys)) else counted id (xs ++ ys)) ≡ (if b then suc (counted id xs) else counted id xs) + counted id ys
-    by true more = omega arith
-    by false more = more
+counted_append id (x ∷ xs) ys = grind (arith, counted_append id xs ys)
 
 -- an identifier that has no row is counted nowhere
 not_counted : (id : Text) (rows : List Row) → has_row id rows ≡ false → counted id rows ≡ 0
@@ -72,11 +66,7 @@ not_counted id (r ∷ rows) e = let parts = of_either (bytes_eq r.id id) (has_ro
 pub has_none : (id : Text) (rows : List Row) → counted id rows ≡ 0 → has_row id rows ≡ false
 unfolding counted
 has_none id [] e = refl
-has_none id (r ∷ rows) e = by (bytes_eq r.id id) refl (has_none id rows)
-  where
-    by : (b : Bool) → bytes_eq r.id id ≡ b → (counted id rows ≡ 0 → has_row id rows ≡ false) → has_row id (r ∷ rows) ≡ false
-    by true p more = let bad : suc (counted id rows) ≡ 0 = rw p at e in absurd (omega (arith, bad))
-    by false p more = let on : counted id rows ≡ 0 = rw p at e in rw p (more on)
+has_none id (r ∷ rows) e = grind (arith, has_none id rows)
 
 -- a new option may get its row
 once_more : (s : Setting) (rows : List Row) → has_row (id_in s) rows ≡ false → Once rows → Once (rows ++ row_for s ∷ [])
@@ -102,9 +92,7 @@ new_in s rows more once =
 -- a row that is missing is appended
 pub absent : (id : Text) (change : Row → List Row) (missing rows : List Row) → has_row id rows ≡ false → at_row id change missing rows ≡ rows ++ missing
 absent id change missing [] e = refl
-absent id change missing (r ∷ rows) e =
-    let parts = of_either (bytes_eq r.id id) (has_row id rows) e in
-    rw parts.0 (ap (λ rs. r ∷ rs) (absent id change missing rows parts.1))
+absent id change missing (r ∷ rows) e = grind (arith, absent id change missing rows, of_either)
 
 placed : (id text : Text) (rows : List Row) → has_row id rows ≡ false → with_values id AsWritten CommandLine (text ∷ []) (without id rows) ≡ rows ++ row_of id text ∷ []
 placed id text rows e =
@@ -229,9 +217,7 @@ drawn_value text rows p q = turn_is rows p q (codes "--draw" ++ 61 ∷ text)
 -- ---- the open option gets its row
 
 by_id : (key : Key) → arg_by_id four (id_of key) ≡ Some (rule_for key)
-by_id Pool = refl
-by_id Interrupt = refl
-by_id Generated = refl
+by_id key = grind arith
 
 settle_fault_is : (key : Key) (texts : List Text) (rows : List Row) → settle_fault four false (held rows (Some (id_of key, texts))) ≡ use_fault false (rule_for key) texts rows
 settle_fault_is key texts rows = ap (λ o. option_map_or (λ a. use_fault false a texts rows) o []) (by_id key)
@@ -245,16 +231,13 @@ use_is true e = absurd cc
 use_is false e = refl
 
 unused : (s : Setting) (rows : List Row) → use_fault false (rule_of s) (texts_in s) rows ≡ [] → has_row (id_in s) rows ≡ false
-unused (value key text) rows e = use_is (has_row (id_of key) rows) e
-unused draw rows e = use_is (has_row (codes "draw") rows) e
+unused s rows e = grind (arith, use_is)
 
 usable : (s : Setting) (rows : List Row) → has_row (id_in s) rows ≡ false → use_fault false (rule_of s) (texts_in s) rows ≡ []
-usable (value key text) rows e = ap (λ b. or_else (if b && true then kind.ArgumentConflict ∷ [] else []) []) e
-usable draw rows e = ap (λ b. or_else (if b && true then kind.ArgumentConflict ∷ [] else []) []) e
+usable s rows e = grind arith
 
 used_row : (s : Setting) (rows : List Row) → has_row (id_in s) rows ≡ false → used (rule_of s) (texts_in s) rows ≡ rows ++ row_for s ∷ []
-used_row (value key text) rows e = placed (id_of key) text rows e
-used_row draw rows e = placed (codes "draw") (codes "true") rows e
+used_row s rows e = grind (arith, placed)
 
 -- an option without its value is refused
 no_value : (key : Key) (rows : List Row) → settle_fault four false (held rows (Some (id_of key, []))) ≡ [] → ⊥
@@ -266,11 +249,7 @@ no_value key rows e = let bad : kind.InvalidValue ∷ [] ≡ [] = sym (settle_fa
 bundle_dies : (k : ℕ) (flags : Text) (h : Held) → flags_fault four false k flags 0 h ≡ [] → bundle_met four k flags 0 plain h ≡ (h, plain)
 unfolding flags_fault bundle_met
 bundle_dies zero flags h e = refl
-bundle_dies (suc k) flags h e = by (slice_get (chars flags) 0) e
-  where
-    by : (o : Option ℕ) → bundle_step_fault four false o flags 0 h (flags_fault four false k) ≡ [] → bundle_step four o flags 0 plain h (bundle_met four k) ≡ (h, plain)
-    by None f = refl
-    by (Some x) f = let bad : kind.UnknownArgument ∷ [] ≡ [] = f in absurd cc
+bundle_dies (suc k) flags h e = grind arith
 
 abbrev Plainly : Waiting → Text → Held → Held × Step → Type 0
 Plainly q word h met = (met ≡ plain_word four q word h) × (step_fault shape 1 (plain_word four q word h).0 (plain_word four q word h).1 ≡ [])
@@ -292,9 +271,7 @@ plain_turn q word rows p e = by (short_of word) e
 value_walk : (key : Key) (rows : List Row) (word : Text)
     → after_step four word (walk_at rows (awaits key)) (plain_word four (option (id_of key)) word (held rows (Some (id_of key, [])))).0 (plain_word four (option (id_of key)) word (held rows (Some (id_of key, [])))).1
     ≡ walk_at rows (holds key word)
-value_walk Pool rows word = refl
-value_walk Interrupt rows word = refl
-value_walk Generated rows word = refl
+value_walk key rows word = grind arith
 
 -- ---- the words that are read
 
@@ -387,22 +364,12 @@ part_more x n k j has xs e f same = grind (arith)
 -- a text is its name, and `=` and its value
 whole : (text : Text) → text ≡ (name_and_value text).0 ++ tail_of (name_and_value text).1
 whole [] = refl
-whole (x ∷ xs) = by (x == 61) refl (whole xs)
-  where
-    by : (b : Bool) → (x == 61) ≡ b → xs ≡ (name_and_value xs).0 ++ tail_of (name_and_value xs).1 → x ∷ xs ≡ (name_and_value (x ∷ xs)).0 ++ tail_of (name_and_value (x ∷ xs)).1
-    by true p more = let is : x ≡ 61 = grind (arith, p) in rw p (ap (λ y. y ∷ xs) is)
-    by false p more =
-        let n = position_or_len (λ y. y == 61) xs in
-        rw p (part_more x n (1 + n) (1 + n + 1) (has_byte 61 xs) xs (omega arith) (omega arith) more)
+whole (x ∷ xs) = grind (arith, whole xs, part_more)
 
 -- a long option is its name and its value behind two hyphens
 long_is : (word name : Text) (v : Option Text) → long_of word ≡ Some (name, v) → word ≡ 45 ∷ 45 ∷ (name ++ tail_of v)
 long_is [] name v e = absurd cc
-long_is (x ∷ []) name v e = by (x == 45) refl
-  where
-    by : (b : Bool) → (x == 45) ≡ b → x ∷ [] ≡ 45 ∷ 45 ∷ (name ++ tail_of v)
-    by true p = let bad : ◌≡◌ {A = Option (Text × Option Text)} None (Some (name, v)) = rw p at e in absurd cc
-    by false p = let bad : ◌≡◌ {A = Option (Text × Option Text)} None (Some (name, v)) = rw p at e in absurd cc
+long_is (x ∷ []) name v e = grind arith
 long_is (x ∷ y ∷ text) name v e = by (x == 45) (y == 45) refl refl
   where
     rest : (t : Text) → long_of_rest t ≡ Some (name, v) → t ≡ name ++ tail_of v
@@ -421,14 +388,7 @@ long_is (x ∷ y ∷ text) name v e = by (x == 45) (y == 45) refl refl
     by false b p q = let bad : ◌≡◌ {A = Option (Text × Option Text)} None (Some (name, v)) = rw p at e in absurd cc
 
 spelling_is : (k : Option Key) (v : Option Text) → 45 ∷ 45 ∷ (named_id k ++ tail_of v) ≡ spelling k v
-spelling_is (Some Pool) None = refl
-spelling_is (Some Interrupt) None = refl
-spelling_is (Some Generated) None = refl
-spelling_is None None = refl
-spelling_is (Some Pool) (Some text) = refl
-spelling_is (Some Interrupt) (Some text) = refl
-spelling_is (Some Generated) (Some text) = refl
-spelling_is None (Some text) = refl
+spelling_is k v = grind arith
 
 -- a long name is that of an option, or of none
 known : (name : Text) → (arg_by_long four name ≡ None) ⊎ ((k : Option Key) × (name ≡ named_id k))

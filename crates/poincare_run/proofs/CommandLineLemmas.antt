@@ -1,6 +1,6 @@
 -- The matches of the command line give the options that its words ask for.
-use Rattle.std.proofs.Common.{◌≡◌, ◌∙◌, ℕ, zero, suc, ◌≤◌, ◌||◌, List, [], ◌∷◌, ◌++◌, length, Bool, true, false, Option, Some, None, is_some, nat_lt, lt-ltb, if◌then◌else◌, ◌⊎◌, inl, inr, refl, sym}
-use Rattle.std.proofs.Common.{ap, ap₂, subst, codes, arith, append-nil, ◌↔◌}
+use Rattle.std.proofs.Common.{◌≡◌, ◌∙◌, ℕ, ◌≤◌, ◌||◌, List, [], ◌∷◌, ◌++◌, length, Bool, true, false, Option, Some, None, is_some, nat_lt, if◌then◌else◌, ◌⊎◌, inl, inr, refl, sym, ap, ap₂, subst}
+use Rattle.std.proofs.Common.{codes, arith, append-nil, ◌↔◌}
 use Rattle.poincare_run.proofs.Shared.{find, fold, list_any, option_and_then, option_map, bytes_eq, Row, Text, Walk, first_of, has_row, more_values, one_of, row_text, rows_of, settled, nothing_held}
 use Rattle.poincare_run.proofs.Shared.{walk, with_default, App, HasMatchesOf, built, entered, is_simple, matches_of, HasKind, IsAmong, Kinds, or_else, default_fault, defaults_fault, entered_fault}
 use Rattle.poincare_run.proofs.Shared.{fault_of, is_simple_and_free, level_fault, settle_fault, walk_fault, first_value-rows, one_text-rows, AsWritten, DefaultValue, value_of, Values, Options}
@@ -82,15 +82,10 @@ default_row = record { id = codes "draw"; values = codes "false" ∷ []; count =
 -- an option has the first of its texts
 text_found : (key : Key) (ss : List Setting) (tail : List Row) → first_of (id_of key) tail ≡ None → first_of (id_of key) (rows_for ss ++ tail) ≡ first_text (texts_of key ss)
 text_found key [] tail none = none
-text_found Pool (value Pool text ∷ more) tail none = refl
-text_found Interrupt (value Interrupt text ∷ more) tail none = refl
-text_found Generated (value Generated text ∷ more) tail none = refl
-text_found key (s ∷ more) tail none = text_found key more tail none
+text_found key (s ∷ more) tail none = grind (arith, text_found key more tail none)
 
 no_other : (key : Key) → first_of (id_of key) (default_row ∷ []) ≡ None
-no_other Pool = refl
-no_other Interrupt = refl
-no_other Generated = refl
+no_other key = grind arith
 
 -- the rows with the default of `--draw`, where it is not named
 with_draw_default : (b : Bool) (rows : List Row) → has_row (codes "draw") rows ≡ b → with_default rows draw_rule ≡ rows ++ (if b then [] else default_row ∷ [])
@@ -106,10 +101,7 @@ text_matched key ss = by (has_row (codes "draw") (rows_for ss)) refl
 
 has_draw : (ss : List Setting) → has_row (codes "draw") (rows_for ss) ≡ nat_lt 0 (draws_of ss)
 has_draw [] = refl
-has_draw (draw ∷ more) = sym (lt-ltb 0 (suc (draws_of more)) (omega arith))
-has_draw (value Pool text ∷ more) = has_draw more
-has_draw (value Interrupt text ∷ more) = has_draw more
-has_draw (value Generated text ∷ more) = has_draw more
+has_draw (s ∷ more) = grind (arith, has_draw more)
 
 find_behind : (id : Text) (rows tail : List Row) → has_row id rows ≡ false → find (λ r. bytes_eq r.id id) (rows ++ tail) ≡ find (λ r. bytes_eq r.id id) tail
 find_behind id [] tail e = refl
@@ -117,10 +109,7 @@ find_behind id (r ∷ rows) tail e = let parts = of_either (bytes_eq r.id id) (h
 
 drawn_text : (ss : List Setting) → has_row (codes "draw") (rows_for ss) ≡ true → one_of (codes "draw") (rows_for ss ++ []) ≡ Some (codes "true")
 drawn_text [] e = absurd cc
-drawn_text (draw ∷ more) e = refl
-drawn_text (value Pool text ∷ more) e = drawn_text more e
-drawn_text (value Interrupt text ∷ more) e = drawn_text more e
-drawn_text (value Generated text ∷ more) e = drawn_text more e
+drawn_text (s ∷ more) e = grind (arith, drawn_text more)
 
 draw_matched : (ss : List Setting) → one_of (codes "draw") (with_default (rows_for ss) draw_rule) ≡ Some (bool_text (nat_lt 0 (draws_of ss)))
 draw_matched ss = by (has_row (codes "draw") (rows_for ss)) refl ∙ ap (λ b. Some (bool_text b)) (has_draw ss)
@@ -136,36 +125,21 @@ draw_matched ss = by (has_row (codes "draw") (rows_for ss)) refl ∙ ap (λ b. S
 counted_texts : (key : Key) (ss : List Setting) → counted (id_of key) (rows_for ss) ≡ length (texts_of key ss)
 unfolding counted
 counted_texts key [] = refl
-counted_texts Pool (value Pool text ∷ more) = ap suc (counted_texts Pool more)
-counted_texts Interrupt (value Interrupt text ∷ more) = ap suc (counted_texts Interrupt more)
-counted_texts Generated (value Generated text ∷ more) = ap suc (counted_texts Generated more)
-counted_texts Pool (s ∷ more) = counted_texts Pool more
-counted_texts Interrupt (s ∷ more) = counted_texts Interrupt more
-counted_texts Generated (s ∷ more) = counted_texts Generated more
+counted_texts key (s ∷ more) = grind (arith, counted_texts key more)
 
 counted_draws : (ss : List Setting) → counted (codes "draw") (rows_for ss) ≡ draws_of ss
 unfolding counted
 counted_draws [] = refl
-counted_draws (draw ∷ more) = ap suc (counted_draws more)
-counted_draws (value Pool text ∷ more) = counted_draws more
-counted_draws (value Interrupt text ∷ more) = counted_draws more
-counted_draws (value Generated text ∷ more) = counted_draws more
+counted_draws (s ∷ more) = grind (arith, counted_draws more)
 
 joined_once : (old : Option ℕ) (texts : List Text) (new : Option ℕ) → Joined old texts new → length texts ≤ 1
-joined_once old [] new j = omega arith
-joined_once old (text ∷ []) new j = omega arith
-joined_once old (text ∷ other ∷ more) new j = absurd j
+joined_once old texts new j = grind arith
 
 drawn_once : (old : Bool) (n : ℕ) (new : Bool) → Drawn old n new → n ≤ 1
-drawn_once old zero new d = omega arith
-drawn_once old (suc zero) new d = omega arith
-drawn_once old (suc (suc more)) new d = absurd d
+drawn_once old n new d = grind arith
 
 once_of : (ss : List Setting) (w : Values) → Follows no_values ss w → Once (rows_for ss)
-once_of ss w f None = rw counted_draws (drawn_once false (draws_of ss) w.draw f.draws)
-once_of ss w f (Some Pool) = rw (counted_texts Pool ss) (joined_once None (texts_of Pool ss) w.pool f.pool)
-once_of ss w f (Some Interrupt) = rw (counted_texts Interrupt ss) (joined_once None (texts_of Interrupt ss) w.interrupt f.interrupt)
-once_of ss w f (Some Generated) = rw (counted_texts Generated ss) (joined_once None (texts_of Generated ss) w.generated f.generated)
+once_of ss w f k = grind (arith, counted_draws, counted_texts, drawn_once, joined_once)
 
 numbers_of : (ss : List Setting) (v w : Values) → Follows v ss w → AllNumbers ss
 numbers_of [] v w f = tt
@@ -200,9 +174,7 @@ number_joined (text ∷ []) n few = (
 number_joined (text ∷ other ∷ more) n few = absurd (omega arith)
 
 draw_joined : (n : ℕ) (d : Bool) → n ≤ 1 → (nat_lt 0 n ≡ d) ↔ Drawn false n d
-draw_joined zero d few = (λ e. sym e, λ j. sym j)
-draw_joined (suc zero) d few = (λ e. (refl, sym e), λ j. sym j.1)
-draw_joined (suc (suc n)) d few = absurd (omega arith)
+draw_joined n d few = grind arith
 
 abbrev given_by : List Setting → Option Values
 given_by ss = values_named (first_text (texts_of Pool ss)) (first_text (texts_of Interrupt ss)) (first_text (texts_of Generated ss)) (nat_lt 0 (draws_of ss))
@@ -219,9 +191,7 @@ parts_of : (p i g : Option (Option ℕ)) (d : Bool) (w : Values) → option_and_
 parts_of None i g d w e = absurd cc
 parts_of (Some a) None g d w e = absurd cc
 parts_of (Some a) (Some b) None d w e = absurd cc
-parts_of (Some a) (Some b) (Some c) d w e =
-    let same : ◌≡◌ {A = Values} (record { pool = a; interrupt = b; generated = c; draw = d }) w = cc in
-    (ap (λ (x : Values). Some x.pool) same, ap (λ (x : Values). Some x.interrupt) same, ap (λ (x : Values). Some x.generated) same, ap (λ (x : Values). x.draw) same)
+parts_of (Some a) (Some b) (Some c) d w e = grind arith
 
 follow : (ss : List Setting) (w : Values) → Once (rows_for ss) → given_by ss ≡ Some w → Follows no_values ss w
 follow ss w once e = grind (arith, parts_of, number_joined, texts_once, draw_joined, draws_once)

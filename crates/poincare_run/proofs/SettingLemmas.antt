@@ -29,23 +29,16 @@ pub record Follows (v : Values) (ss : List Setting) (w : Values) : Type 0 where
   pub draws : Drawn v.draw (draws_of ss) w.draw
 
 joined_cons : (old : Option ℕ) (text : List ℕ) (texts : List (List ℕ)) (n : ℕ) (new : Option ℕ) → is_some old ≡ false → value_of text ≡ Some n → Joined (Some n) texts new → Joined old (text ∷ texts) new
-joined_cons (Some m) text texts n new e h j = absurd cc
-joined_cons None text [] n new e h j = (refl, (n, h, j))
-joined_cons None text (t ∷ []) n new e h j = let bad : Some n ≡ None = j.0 in absurd cc
-joined_cons None text (t ∷ u ∷ more) n new e h j = absurd j
+joined_cons old text texts n new e h j = grind arith
 
 joined_uncons : (old : Option ℕ) (text : List ℕ) (texts : List (List ℕ)) (new : Option ℕ) → Joined old (text ∷ texts) new → (is_some old ≡ false) × ((n : ℕ) × (value_of text ≡ Some n) × Joined (Some n) texts new)
-joined_uncons old text [] new j = (ap is_some j.0, j.1)
-joined_uncons old text (t ∷ more) new j = absurd j
+joined_uncons old text texts new j = grind arith
 
 drawn_cons : (old : Bool) (more : ℕ) (new : Bool) → old ≡ false → Drawn true more new → Drawn old (suc more) new
-drawn_cons old zero new e d = (e, d)
-drawn_cons old (suc zero) new e d = let bad : true ≡ false = d.0 in absurd cc
-drawn_cons old (suc (suc more)) new e d = absurd d
+drawn_cons old more new e d = grind arith
 
 pub drawn_uncons : (old : Bool) (more : ℕ) (new : Bool) → Drawn old (suc more) new → (old ≡ false) × Drawn true more new
-drawn_uncons old zero new d = d
-drawn_uncons old (suc more) new d = absurd d
+drawn_uncons old more new d = grind arith
 
 -- ---- choices that give something
 
@@ -72,18 +65,7 @@ of_map f (Some x) y e = (x, refl, cc)
 -- ---- one setting
 
 added : (key : Key) (text : List ℕ) (n : ℕ) (v u w : Values) (more : List Setting) → value_of text ≡ Some n → with_number key n v ≡ Some u → Follows u more w → Follows v (value key text ∷ more) w
-added Pool text n v u w more h e f =
-    let k = of_choice (is_some v.pool) _ u e in
-    let g = subst (λ (x : Values). Follows x more w) (sym k.1) f in
-    record { pool = joined_cons v.pool text (texts_of Pool more) n w.pool k.0 h g.pool; interrupt = g.interrupt; generated = g.generated; draws = g.draws }
-added Interrupt text n v u w more h e f =
-    let k = of_choice (is_some v.interrupt) _ u e in
-    let g = subst (λ (x : Values). Follows x more w) (sym k.1) f in
-    record { pool = g.pool; interrupt = joined_cons v.interrupt text (texts_of Interrupt more) n w.interrupt k.0 h g.interrupt; generated = g.generated; draws = g.draws }
-added Generated text n v u w more h e f =
-    let k = of_choice (is_some v.generated) _ u e in
-    let g = subst (λ (x : Values). Follows x more w) (sym k.1) f in
-    record { pool = g.pool; interrupt = g.interrupt; generated = joined_cons v.generated text (texts_of Generated more) n w.generated k.0 h g.generated; draws = g.draws }
+added key text n v u w more h e f = grind (arith, joined_cons, of_choice)
 
 valued : (key : Key) (text : List ℕ) (v u w : Values) (more : List Setting) → with_value key text v ≡ Some u → Follows u more w → Follows v (value key text ∷ more) w
 valued key text v u w more e f = grind (arith, of_then, added)
@@ -216,14 +198,10 @@ reads (word ∷ text ∷ words) = reads_two word text words (key_of word) refl (
 
 -- a value behind the name of an option, one behind `=`, and `--draw`
 apart : (key : Key) (text : List ℕ) (v : Values) (rest : List (List ℕ)) → read (settled v) (name_of key ∷ text ∷ rest) ≡ option_and_then (λ more. read more rest) (option_map settled (with_value key text v))
-apart Pool text v rest = refl
-apart Interrupt text v rest = refl
-apart Generated text v rest = refl
+apart key text v rest = grind arith
 
 together : (key : Key) (text : List ℕ) (v : Values) (rest : List (List ℕ)) → read (settled v) ((name_of key ++ 61 ∷ text) ∷ rest) ≡ option_and_then (λ more. read more rest) (option_map settled (with_value key text v))
-together Pool text v rest = refl
-together Interrupt text v rest = refl
-together Generated text v rest = refl
+together key text v rest = grind arith
 
 alone : (v : Values) (rest : List (List ℕ)) → read (settled v) (codes "--draw" ∷ rest) ≡ option_and_then (λ more. read more rest) (option_map settled (with_draw v))
 alone v rest = refl
@@ -231,8 +209,7 @@ alone v rest = refl
 -- the words of a first setting, and what they name
 first_value : (key : Key) (text : List ℕ) (first rest : List (List ℕ)) (v : Values) → IsSpelled (value key text) first
     → read (settled v) (first ++ rest) ≡ option_and_then (λ more. read more rest) (option_map settled (with_value key text v))
-first_value key text first rest v (inl s) = rw s (apart key text v rest)
-first_value key text first rest v (inr s) = rw s (together key text v rest)
+first_value key text first rest v s = grind (arith, apart, together)
 
 values_same : (v w : Values) → w.pool ≡ v.pool → w.interrupt ≡ v.interrupt → w.generated ≡ v.generated → w.draw ≡ v.draw → v ≡ w
 values_same v w p q r s = sym (λ i. record { pool = p i; interrupt = q i; generated = r i; draw = s i })
@@ -249,10 +226,7 @@ spelled (draw ∷ more) words v w (first, rest, is, s, sp) f =
 
 -- settings that are read follow
 pub followed : (ss : List Setting) (words : List (List ℕ)) (v w : Values) → Spells words ss → option_and_then named_in (read (settled v) words) ≡ Some w → Follows v ss w
-followed [] words v w sp e =
-    let end : ◌≡◌ {A = Option Values} (Some v) (Some w) = subst (λ ws. option_and_then named_in (read (settled v) ws) ≡ Some w) sp e in
-    let same : v ≡ w = cc in
-    subst (λ (x : Values). Follows v [] x) same (record { pool = refl; interrupt = refl; generated = refl; draws = refl })
+followed [] words v w sp e = grind arith
 followed (value key text ∷ more) words v w (first, rest, is, s, sp) e =
     let on = subst (λ ws. option_and_then named_in (read (settled v) ws) ≡ Some w) is e in
     let t = between (with_value key text v) rest w (subst (λ r. option_and_then named_in r ≡ Some w) (first_value key text first rest v s) on) in
@@ -265,14 +239,10 @@ followed (draw ∷ more) words v w (first, rest, is, s, sp) e =
 -- ---- what the settings ask for
 
 number_once : (texts : List (List ℕ)) (n : Option ℕ) → Joined None texts n ↔ IsNumber texts n
-number_once [] n = (λ j. j, λ j. j)
-number_once (text ∷ []) n = (λ j. j.1, λ j. (refl, j))
-number_once (text ∷ other ∷ more) n = (λ j. j, λ j. j)
+number_once texts n = grind arith
 
 drawn_once : (n : ℕ) (d : Bool) → Drawn false n d ↔ IsDrawn n d
-drawn_once zero d = (λ j. j, λ j. j)
-drawn_once (suc zero) d = (λ j. j.1, λ j. (refl, j))
-drawn_once (suc (suc n)) d = (λ j. j, λ j. j)
+drawn_once n d = grind arith
 
 -- the size is that of the pool which is named, or else the default
 size_named : (v : Values) → size_in v ≡ unwrap_or v.pool 32768
@@ -285,12 +255,10 @@ fits : (n : ℕ) → IsPoolSize n → is_pool_size n ≡ true
 fits n s = grind (arith, s.least, s.most, s.eights)
 
 numbered : (n : Option ℕ) → is_session_number n ≡ true → IfSome n (λ k. k < 2 ^ 32)
-numbered None e = tt
-numbered (Some k) e = grind (arith, e)
+numbered n e = grind arith
 
 number_fits : (n : Option ℕ) → IfSome n (λ k. k < 2 ^ 32) → is_session_number n ≡ true
-number_fits None s = refl
-number_fits (Some k) s = grind (arith, s)
+number_fits n s = grind arith
 
 -- words that spell these settings ask for their options
 asked_by : (words : List (List ℕ)) (ss : List Setting) (o : Options) → Spells words ss → options_of words ≡ Some o → (a : Asks words o) × (a.settings ≡ ss)
@@ -358,10 +326,7 @@ texts_exchanged : (key : Key) (before behind : List Setting) (s t : Setting) (n 
 texts_exchanged key before behind s t n h = grind (arith, texts_append, number_exchanged)
 
 draws_exchanged : (before behind : List Setting) (s t : Setting) → draws_of (before ++ s ∷ t ∷ behind) ≡ draws_of (before ++ t ∷ s ∷ behind)
-draws_exchanged [] behind draw draw = refl
-draws_exchanged [] behind draw (value key text) = refl
-draws_exchanged [] behind (value key text) draw = refl
-draws_exchanged [] behind (value key text) (value other more) = refl
+draws_exchanged [] behind s t = grind arith
 draws_exchanged (draw ∷ before) behind s t = ap suc (draws_exchanged before behind s t)
 draws_exchanged (value key text ∷ before) behind s t = draws_exchanged before behind s t
 

@@ -7,9 +7,9 @@ pub use Rattle.calc_session.specs.{Answers.{Answers, IsAnswer, IsReport, printed
 pub use Rattle.calc_session.specs.{Seen.{Seen}, States.{State}, Steps.{IsReply, asks_in_vain, is_replied}, declared.answers.LineAnswer.{LineAnswer}, declared.answers.LineAnswer.TheVariants.{Blank}}
 pub use Rattle.calc_session.specs.declared.answers.LineAnswer.TheVariants.{Draw, Refused, Report, Shown, Stored, Undef}
 pub use Rattle.clap.proofs.WalkLemmas.{first_value-rows, list_any-map, one_text-rows}
-pub use Rattle.clap.specs.Faults.{bundle_fault, bundle_step_fault, default_fault, entered_fault, fault_of, flag_word_fault, is_simple_and_free, level_fault, long_fault, settle_fault, step_fault}
+pub use Rattle.clap.specs.Faults.{bundle_fault, default_fault, entered_fault, fault_of, flag_word_fault, is_simple_and_free, level_fault, long_fault, settle_fault, step_fault}
 pub use Rattle.clap.specs.{Faults.{turn_fault, use_fault}, Kinds.{HasKind, IsAmong, Kinds, or_else}, Simple.{App, HasMatchesOf, Shape, app_of, built, entered, filled, is_simple, matches_of}}
-pub use Rattle.clap.specs.Walk.{Held, Outcome, Row, Rule, Step, Text, Waiting, Walk, after_flag, after_step, arg_by_id, arg_by_long, at_row, bundle, bundle_step, first_of, has_row, idle}
+pub use Rattle.clap.specs.Walk.{Held, Outcome, Row, Rule, Step, Text, Waiting, Walk, after_flag, after_step, arg_by_id, arg_by_long, at_row, bundle, first_of, has_row, idle}
 pub use Rattle.clap.specs.Walk.{long_or_other, more_values, nothing_held, one_of, option, plain, plain_word, positional, row_text, rows_of, settled, settled_rows, short_or_plain, trailing, used}
 pub use Rattle.clap.specs.{Walk.{used_by_id, walk, with_default, with_values, without}, declared.builder.value_parser.Reading.TheVariants.{AsWritten}}
 pub use Rattle.clap.specs.declared.parser.matches.ValueSource.TheVariants.{CommandLine, DefaultValue}
@@ -29,5 +29,5 @@ unfoldable pub use Rattle.poincare_run.specs.{Generated.{first_lines, seed}, Lin
 pub use Rattle.std.proofs.{KnownBytes.{Appends-nil, Appends-trans, Consumes-nil, Consumes-trans}, lemmas.Bool.{eqb-true, leb-false, leb-true, ne_eqb}, lemmas.List.{append_assoc, append_cancel_right}}
 pub use Rattle.std.proofs.{lemmas.List.{drop_more, length-take-le, map-append, take-append-drop, take_all, take_more}, lemmas.Result.{err_from_is_err_and, on_err_weaker, on_ok_weaker}}
 pub use Rattle.std.proofs.lemmas.Slice.Eq.{bytes_eq-Decides, starts_is}
-pub use Rattle.std.specs.{Io.KnownBytes.{Appends, Consumes, IsAtEnd}, List.{find, fold, list_all, list_any, onto_first, position_or_len, starts_with}}
-pub use Rattle.std.specs.{Option.{option_and_then, option_map, option_map_or}, Str.{bytes_eq, chars}, Str.Lines.{strip_carriage_return}}
+pub use Rattle.std.specs.{Io.KnownBytes.{Appends, Consumes, IsAtEnd}, List.{find, fold, list_all, list_any, onto_first, starts_with}}
+pub use Rattle.std.specs.{Option.{option_and_then, option_map, option_map_or}, Str.{bytes_eq}, Str.Lines.{strip_carriage_return}}
