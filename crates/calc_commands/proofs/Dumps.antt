@@ -42,12 +42,7 @@ pub record IsWritten (old : Content) (bytes : List ℕ) (at : ℕ) (now : Conten
   pub short : length now.bytes ≤ length old.bytes + 3 * at
 
 pub written_more : (old now then : Content) (bytes : List ℕ) (at b : ℕ) → IsWritten old bytes at now → at < length bytes → b ≡ get_or bytes at 0 → then ≡ extended now (entry at b) → IsWritten old bytes (at + 1) then
-written_more old now then bytes at b w h e q =
-    let more : then ≡ extended old (entries 0 (take at bytes) ++ entry at b) = q ∙ ap (λ (c : Content). extended c (entry at b)) w.text ∙ ap (λ (y : List ℕ). record old { bytes = y }) (append_assoc old.bytes (entries 0 (take at bytes)) (entry at b)) in
-    record {
-      text = more ∙ ap (extended old) (ap (λ (k : ℕ). entries 0 (take at bytes) ++ entry at k) e ∙ sym (one_more bytes at h));
-      short = omega (arith, ap (λ (c : Content). length c.bytes) q, length-append now.bytes (entry at b), entry_len at b, w.short);
-    }
+written_more old now then bytes at b w h e q = grind (arith, append_assoc, one_more, length-append, entry_len)
 
 pub dump_short : (s : State) → IsPool s → length (dump_of s) ≤ 3 * used s.nodes
 dump_short s p = omega (arith, entries_len 0 (encodings s.nodes), length-encodings s.nodes p.nodes)

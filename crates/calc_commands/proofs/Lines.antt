@@ -198,15 +198,7 @@ word_is : {line argument : List ℕ} (word wanted : List ℕ) → bytes_eq word 
 word_is {line = line} {argument = argument} word wanted e h = subst (λ w. Has line w argument) ((bytes_eq-Decides word wanted).0 e) h
 
 alone_sound : (line word : List ℕ) (q : Asked) → Has line word [] → asked_alone word ≡ Some q → IsCommandLine line q
-alone_sound line word q h e =
-    by_test (λ t. bytes_eq word (codes "pool") ≡ t → cond t (Some pool) (cond (bytes_eq word (codes "dump")) (Some dump) (cond (bytes_eq word (codes "draw")) (Some draw) (cond (bytes_eq word (codes "layout")) (Some layout) None))) ≡ Some q → IsCommandLine line q)
-    (bytes_eq word (codes "pool")) (λ z p k. asks (asks_pool (word_is word (codes "pool") p h)) k)
-    (λ z p k. by_test (λ t. bytes_eq word (codes "dump") ≡ t → cond t (Some dump) (cond (bytes_eq word (codes "draw")) (Some draw) (cond (bytes_eq word (codes "layout")) (Some layout) None)) ≡ Some q → IsCommandLine line q)
-    (bytes_eq word (codes "dump")) (λ z p k. asks (asks_dump (word_is word (codes "dump") p h)) k)
-    (λ z p k. by_test (λ t. bytes_eq word (codes "draw") ≡ t → cond t (Some draw) (cond (bytes_eq word (codes "layout")) (Some layout) None) ≡ Some q → IsCommandLine line q)
-    (bytes_eq word (codes "draw")) (λ z p k. asks (asks_draw (word_is word (codes "draw") p h)) k)
-    (λ z p k. by_test (λ t. bytes_eq word (codes "layout") ≡ t → cond t (Some layout) None ≡ Some q → IsCommandLine line q)
-    (bytes_eq word (codes "layout")) (λ z p k. asks (asks_layout (word_is word (codes "layout") p h)) k) (λ z p k. absurd cc) refl k) refl k) refl k) refl e
+alone_sound line word q h e = grind (arith, bytes_eq-Decides, asks_pool, asks_dump, asks_draw, asks_layout)
 
 empty_by : (bytes : List ℕ) → eqb (length bytes) 0 ≡ true → bytes ≡ []
 empty_by [] h = refl

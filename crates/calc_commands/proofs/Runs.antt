@@ -1,6 +1,6 @@
 -- Runs of bytes at the front.
-use Rattle.std.specs.Prelude.{ℕ, ◌+◌, ◌≡◌, List, [], ◌∷◌, ◌++◌, Bool, true}
-use Rattle.calc_commands.proofs.Shared.{◌&&◌, list_all, arith, refl, ◌∙◌}
+use Rattle.std.specs.Prelude.{ℕ, ◌≡◌, List, [], ◌∷◌, ◌++◌, Bool, true}
+use Rattle.calc_commands.proofs.Shared.{◌&&◌, list_all, arith, refl}
 
 both : (a b : Bool) → (a && b) ≡ true → (a ≡ true) × (b ≡ true)
 both a b h = grind arith

@@ -1,12 +1,12 @@
 -- How a text is split into equations.
-use Rattle.std.proofs.Common.{append-nil, ◌≡◌, ◌∙◌, inl, inr, ℕ, zero, suc, ◌+◌, ◌-◌, ◌<◌, ◌≤◌, List, [], ◌∷◌, ◌++◌, length, map, take, drop, get_or, eqb, Bool, true, false, refl, sym, ap, subst}
+use Rattle.std.proofs.Common.{append-nil, ◌≡◌, ◌∙◌, inl, inr, ℕ, suc, ◌+◌, ◌-◌, ◌<◌, ◌≤◌, List, [], ◌∷◌, ◌++◌, length, map, take, drop, get_or, eqb, Bool, true, false, refl, sym, ap, subst}
 use Rattle.std.proofs.{Common.{arith, append_assoc, drop-cons, length-append, length-take, length-drop}, lemmas.Bool.{both_ways, cases_lt, eq-eqb, eqb-true, lt-leb, le-leb}, lemmas.List.{drop-drop}}
 use Rattle.std.proofs.{lemmas.List.{drop-take, get_or-take, get_or_default, length-map, map-append, take-append-drop, take-take, take_all}, lemmas.List.Elements.{All-append, All-cons, All-drop}}
 use Rattle.std.proofs.{lemmas.List.Elements.{All-head, All-nil, All-push, All-tail, All-take}, lemmas.List.Splits.{join_with_byte-slice_split, length-slice_split, slice_split_at, slice_split_first}}
 use Rattle.std.proofs.{lemmas.List.Splits.{slice_split_none}, lemmas.List.Sums.{fails_before_first, passes_at_first}}
 use Rattle.std.specs.{Prelude.{All, Contains}, List.{join_with_byte, position_or_len, slice_split}}
 use Rattle.tree_handles.proofs.Outcomes.{by_test}
-use Rattle.calc_commands.specs.{Equations.{AreSides, IsSideText, Sides, Splits, all_placed, cut_at, placed, written, written_all}, Parsing.{are_blanks}, Ranges.{AreSplit, IsWithin, between}}
+use Rattle.calc_commands.specs.{Equations.{AreSides, Sides, Splits, all_placed, cut_at, placed, written, written_all}, Parsing.{are_blanks}, Ranges.{AreSplit, IsWithin, between}}
 use Rattle.calc_commands.specs.{Ranges.{pieces_at, pieces_from, sides_at}, declared.equations.EquationRange.{EquationRange}}
 
 -- ---- bytes other than one
@@ -29,9 +29,7 @@ first c xs = position_or_len (λ b. eqb b c) xs
 module _ (c n : ℕ) (xs : List ℕ) (is : n ≡ first c xs) where
   -- those before the first are others
   pub lacks_before : Lacks c (take n xs)
-  lacks_before k d l =
-      let before : k < n = omega (arith, l, length-take n xs) in
-      ap (λ b. eqb b c) (get_or-take n xs k d before) ∙ fails_before_first (λ b. eqb b c) xs k d (omega (arith, before, is))
+  lacks_before k d l = grind (arith, length-take, get_or-take, fails_before_first)
 
   pub lacks_all : length xs ≤ n → Lacks c xs
   lacks_all h = subst (Lacks c) (take_all n xs h) lacks_before
@@ -49,9 +47,7 @@ module _ (c n : ℕ) (xs : List ℕ) (is : n ≡ first c xs) where
 -- ---- one equation
 
 sides_cut : (e : Sides) → AreSides e → slice_split (λ b. eqb b 61) (written e) ≡ e.left ∷ e.right ∷ []
-sides_cut e h =
-    slice_split_at (λ b. eqb b 61) e.left 61 e.right (lacks 61 e.left h.left.no_equals) refl
-    ∙ ap (λ ts. e.left ∷ ts) (slice_split_none (λ b. eqb b 61) e.right (lacks 61 e.right h.right.no_equals))
+sides_cut e h = grind (arith, slice_split_at, lacks, slice_split_none)
 
 no_semicolon : (e : Sides) → AreSides e → Lacks 59 (written e)
 no_semicolon e h =
@@ -207,23 +203,10 @@ length-placed before [] = refl
 length-placed before (e ∷ es) = ap suc (length-placed (before + length (written e) + 1) es)
 
 pieces_there : (before : ℕ) (text : List ℕ) (r : EquationRange) → IsWithin text r → pieces_at before text r ≡ placed (before + r.begin) (sides_at text r)
-pieces_there before text r w =
-    let q : before + (r.sign + 1) ≡ before + r.begin + length (between r.begin r.sign text) + 1 = omega (arith, length-take (r.sign - r.begin) (drop r.begin text), length-drop r.begin text, w.begin, w.sign, w.end_is) in
-    ap (λ n. record { left = record { before = before + r.begin; text = between r.begin r.sign text }; right = record { before = n; text = between (r.sign + 1) r.end text } }) q
+pieces_there before text r w = grind (arith, length-take, length-drop)
 
 written_long : (text : List ℕ) (r : EquationRange) → IsWithin text r → r.begin + length (written (sides_at text r)) ≡ r.end
-written_long text r w =
-    omega (
-      arith,
-      length-append (between r.begin r.sign text) (61 ∷ between (r.sign + 1) r.end text),
-      length-take (r.sign - r.begin) (drop r.begin text),
-      length-drop r.begin text,
-      length-take (r.end - (r.sign + 1)) (drop (r.sign + 1) text),
-      length-drop (r.sign + 1) text,
-      w.begin,
-      w.sign,
-      w.end_is,
-    )
+written_long text r w = grind (arith, length-append, length-take, length-drop)
 
 pub record IsSplitting (text : List ℕ) (begin : ℕ) (many : Bool) (rs : List EquationRange) : Type 0 where
   pub equations : List Sides

@@ -1,4 +1,4 @@
-use Rattle.std.proofs.{Common.{◌≡◌, ◌∙◌, ◌+◌, ◌<◌, ◌≤◌, length, drop, sym, ap, subst, arith}, lemmas.Bool.{both_ways}, lemmas.List.{take_rest}, Math.Dec.{eqb}}
+use Rattle.std.proofs.{Common.{◌∙◌, ◌+◌, ◌<◌, ◌≤◌, length, drop, sym, ap, subst, arith}, lemmas.Bool.{both_ways}, lemmas.List.{take_rest}, Math.Dec.{eqb}}
 use Rattle.std.specs.{Prelude.{Contains, ◌-◌, take}, List.{position_or_len}}
 use Rattle.calc_commands.proofs.{Splitting.{drop_first, first_there, has_sign, left_there, right_there, sides_there}, equations.sign_in.Goals.{then-are_blanks-via-then-are_blanks}}
 use Rattle.calc_commands.proofs.equations.sign_in.Goals.{then-are_blanks-via-else-are_blanks+then-are_blanks-2}
