@@ -1,15 +1,10 @@
 -- Lemmas on command lines that calculate.
-use Rattle.std.proofs.Common.{◌≤◌, List, ℕ, ◌∷◌, ◌++◌, length, length-append, Option, ap, arith}
+use Rattle.std.proofs.Common.{◌≤◌, List, ℕ, ◌++◌, length, length-append, Option, arith}
 use Rattle.calc_session.proofs.Shared.{HasText, IsCommandLine, asks_diff, asks_solve, asks_expand, diff, solve, expand, Full, CountsRefusal, IsCountedBut, Seen, Counts, pool_of}
 
 -- a text that is calculated with stands in its line
 within : {line word text : List ℕ} → HasText line word text → length text ≤ length line
-within {line} {word} {text} h =
-    let whole = ap length h.whole in
-    let a = length-append h.gap text in
-    let b = length-append word (h.gap ++ text) in
-    let c = length-append h.before (58 ∷ (word ++ (h.gap ++ text))) in
-    omega (arith, whole, a, b, c)
+within {line} {word} {text} h = grind (arith, length-append)
 
 pub text_within : {line x text : List ℕ} → IsCommandLine line (diff x text) → length text ≤ length line
 text_within (asks_diff {name = name} {gap = gap} {text = text} h n b) = let all = within h in let a = length-append gap text in let c = length-append name (gap ++ text) in omega (arith, all, a, c)

@@ -1,10 +1,9 @@
 -- Lemmas on commands.
-use Rattle.std.proofs.Common.{◌≡◌, ◌∙◌, ◌↔◌, ℕ, zero, suc, List, [], ◌∷◌, ◌++◌, codes, Bool, true, false, if◌then◌else◌, Option, Some, None, refl, sym, ap, arith}
-use Rattle.std.specs.Prelude.{IsNone}
+use Rattle.std.proofs.Common.{◌≡◌, ◌∙◌, ◌↔◌, ℕ, zero, suc, List, [], ◌∷◌, ◌++◌, codes, true, false, Option, Some, refl, ap, arith}
 use Rattle.calc_session.proofs.Shared.{TripsRose, armed_first, forget, forgot_report, Tree, AnswersBy, IsReplyToCommand, forgets, forgot, text_of, Content, extended, bytes_eq, IsHeld, held_by}
-use Rattle.calc_session.proofs.Shared.{holders_in, Entry, Table, has_entry, without_entry, without_name, flatten, Stands, forest, KeepsRefusals, LineAnswer, Refusal, state_of}
+use Rattle.calc_session.proofs.Shared.{Entry, Table, has_entry, without_entry, without_name, flatten, Stands, forest, KeepsRefusals, LineAnswer, Refusal, state_of}
 use Rattle.calc_session.proofs.EvaluationLemmas.{none_rose}
-use Rattle.breakers.specs.State.{State as Breaker, armed_after, planned_after}
+use Rattle.breakers.specs.State.{State as Breaker}
 use Rattle.name_table.specs.Tables.{is_stored}
 use Rattle.name_table.proofs.Counting.{counted-same}
 use Rattle.node_pool.specs.State.{State as PoolState}
@@ -16,28 +15,14 @@ use Rattle.calc_session.specs.declared.answers.Refusal.TheVariants as refusal
 -- arming raises no trips
 pub arming_trips_none : (k : ℕ) (bs : List Breaker) (place : ℕ) → TripsRose bs (armed_first k bs) place → ⊥
 arming_trips_none k [] place h = h
-arming_trips_none k (b ∷ bs) place h = by b.can_be_armed place (λ p m. arming_trips_none k bs p m) h
-  where
-    armed : (x : Bool) (place : ℕ) → TripsRose (b ∷ bs) ((if x then record b { plan = planned_after k b.plan } else b) ∷ bs) place → ⊥
-    armed true zero m = omega (arith, m)
-    armed false zero m = omega (arith, m)
-    armed true (suc place) m = none_rose bs place m
-    armed false (suc place) m = none_rose bs place m
-
-    by : (x : Bool) (place : ℕ) → ((p : ℕ) → TripsRose bs (armed_first k bs) p → ⊥) → TripsRose (b ∷ bs) (if x then armed_after k b ∷ bs else b ∷ armed_first k bs) place → ⊥
-    by true place more m = armed b.can_be_armed place m
-    by false zero more m = omega (arith, m)
-    by false (suc place) more m = more place m
+arming_trips_none k (b ∷ bs) zero h = grind (arith, arming_trips_none k bs, none_rose)
+arming_trips_none k (b ∷ bs) (suc place) h = grind (arith, arming_trips_none k bs place, none_rose bs place)
 
 -- ---- names that are not stored
 
 absent_entry : (x : List ℕ) (es : List Entry) → has_entry x es ≡ false → without_entry x es ≡ es
 absent_entry x [] e = refl
-absent_entry x (n ∷ es) e = by (bytes_eq n.name x) (λ f. absent_entry x es f) e
-  where
-    by : (b : Bool) → (has_entry x es ≡ false → without_entry x es ≡ es) → (if b then true else has_entry x es) ≡ false → (if b then es else n ∷ without_entry x es) ≡ n ∷ es
-    by true more f = cc
-    by false more f = ap (λ (l : List Entry). n ∷ l) (more f)
+absent_entry x (n ∷ es) e = grind (arith, absent_entry x es)
 
 pub absent_name : (x : List ℕ) (t : Table) → is_stored x t ≡ false → without_name x t ≡ t
 absent_name x t e = ap (λ (l : List Entry). record t { stored = l }) (absent_entry x t.stored e)
@@ -46,10 +31,7 @@ absent_name x t e = ap (λ (l : List Entry). record t { stored = l }) (absent_en
 
 module _ (p q : PoolState) (t u : Table) (x : List ℕ) (st : Stands p) (st' : Stands q) (k : KeepsRefusals p q) (is : u ≡ without_name x t) (trees : forest q ≡ held_by u (forest p)) where
   pub same_pool : IsHeld t (forest p) → is_stored x t ≡ false → state_of q u ≡ state_of p t
-  same_pool held absent =
-      let same : u ≡ t = is ∙ absent_name x t absent in
-      let nodes : q.nodes ≡ p.nodes = st'.flat ∙ ap flatten (trees ∙ ap (λ (v : Table). held_by v (forest p)) same ∙ counted-same (holders_in t) (forest p) held.counts) ∙ sym st.flat in
-      ap (λ (n : ℕ). record { size = n; nodes = q.nodes; table = u }) k.size ∙ ap (λ ns. record { size = p.size; nodes = ns; table = u }) nodes ∙ ap (λ (v : Table). state_of p v) same
+  same_pool held absent = grind (arith, absent_name, counted-same)
 
   pub answers_forgot : (room bits : Option (Tree → ℕ)) (breakers : List Breaker) (line written : List ℕ) → bytes_eq x (codes "ans") ≡ false → is_stored x t ≡ true → written ≡ forgot_report x
       → AnswersBy (IsReplyToCommand room bits (state_of p t) breakers breakers line (forget x)) (state_of p t) answer.Report written (state_of q u)

@@ -2,7 +2,7 @@
 use Rattle.std.proofs.Common.{◌*◌, ◌≡◌, ◌∙◌, ℕ, zero, suc, ◌+◌, ◌≤◌, List, [], ◌∷◌, ◌++◌, length, encode_utf8_all, Bool, true, false, nat_le, Option, Result, Ok, Err, refl, sym, ap, subst, arith}
 use Rattle.std.proofs.{Common.{append_assoc, append-nil, length-append}, lemmas.Str.{encodes-append}}
 use Rattle.calc_session.proofs.Shared.{Appends-trans, leb-true, leb-false, Appends, IsHeld, Table, Full, free_of, GivesLayout, IsLayout, drawing, given_drawing, Block, before_cut, cut, picture}
-use Rattle.calc_session.proofs.Shared.{AllExpressions, IsExpression, IsWhole, plain, bytes_in, tree_at, has_root, Stands, forest, tree_of_root, root_held, Content, extended, IsDrawn, IsDrawnInPart}
+use Rattle.calc_session.proofs.Shared.{IsExpression, plain, bytes_in, tree_at, Stands, forest, tree_of_root, root_held, Content, extended, IsDrawn, IsDrawnInPart}
 use Rattle.calc_session.proofs.Shared.{first_rows, row_text, told_at}
 use Rattle.calc_edges.specs.Taken.{AppendsPart}
 use Rattle.calc_edges.proofs.Parts.{AppendsPart-after, AppendsPart-more}
@@ -14,9 +14,7 @@ use Rattle.tree_handles.proofs.Counted.{all-root_tree}
 -- ---- the last answer
 
 pub answer_expression : {t : Table} {s : PoolState} → Stands s → IsHeld t (forest s) → IsExpression t.ans (forest s)
-answer_expression {t = t} {s = s} st h =
-    let root : has_root t.ans (forest s) ≡ true = h.roots.0 in
-    record { live = root_held t.ans (forest s) root; whole = subst AllExpressions (sym (tree_of_root t.ans st root)) (all-root_tree IsWhole t.ans (forest s) h.whole) }
+answer_expression {t = t} {s = s} st h = grind (arith, root_held, tree_of_root, all-root_tree)
 
 -- ---- what is told of a layout
 

@@ -1,8 +1,8 @@
 -- Lemmas on the bytes of a form's tree and of its face.
-use Rattle.std.proofs.Common.{◌≡◌, ℕ, ◌+◌, ◌*◌, ◌≤◌, List, [], ◌∷◌, Bool, true, false, if◌then◌else◌, refl, arith}
+use Rattle.std.proofs.Common.{◌≡◌, ℕ, ◌+◌, ◌*◌, ◌≤◌, List, [], ◌∷◌, Bool, false, if◌then◌else◌, refl, arith}
 use Rattle.std.specs.Prelude.{⊤}
-use Rattle.calc_session.proofs.Shared.{face, has_minus, next_term, next_terms, unsigned_face, with_minus, SoFar, as_tree, Fraction, is_one_fraction, is_zero_fraction, zero_fraction, Tree, num, symbol}
-use Rattle.calc_session.proofs.{Shared.{mult, Trees, none, more, count, is_undef, size, sizes, IsSmall, form_tree, multiple_of, multiples, sum_of_trees, summands}, FormLemmas.{sizes_of_multiples}}
+use Rattle.calc_session.proofs.Shared.{face, has_minus, next_term, next_terms, unsigned_face, with_minus, SoFar, as_tree, Fraction, is_zero_fraction, zero_fraction, Tree, num}
+use Rattle.calc_session.proofs.{Shared.{Trees, none, more, count, is_undef, size, sizes, IsSmall, form_tree, multiple_of, multiples, sum_of_trees, summands}, FormLemmas.{sizes_of_multiples}}
 use Rattle.beautify.proofs.Sizes.{sizes-append}
 
 size_num : (q : Fraction) → size (num q) ≤ 40
@@ -31,11 +31,7 @@ AreSmall (more t ts) = (size (unsigned_face t) ≤ 112) × AreSmall ts
 small_multiples : (xs : List (List ℕ)) (qs : List Fraction) → AreSmall (multiples xs qs)
 small_multiples [] qs = tt
 small_multiples (x ∷ xs) [] = tt
-small_multiples (x ∷ xs) (q ∷ qs) = by (is_zero_fraction q) (small_multiples xs qs)
-  where
-    by : (b : Bool) → AreSmall (multiples xs qs) → AreSmall (if b then multiples xs qs else more (multiple_of q x) (multiples xs qs))
-    by true h = h
-    by false h = (multiple_face q x, h)
+small_multiples (x ∷ xs) (q ∷ qs) = grind (arith, small_multiples xs qs, multiple_face)
 
 terms_face : (s : SoFar) (ts : Trees) → AreSmall ts → size (as_tree (next_terms s ts)) ≤ size (as_tree s) + 120 * count ts
 terms_face s none h = omega arith
@@ -62,34 +58,22 @@ size_of_sum ts = grind arith
 pub size_of_form : (xs : List (List ℕ)) (q : Fraction) (qs : List Fraction) → IsSmall xs qs → size (form_tree xs q qs) ≤ 400
 size_of_form xs q qs few = omega (arith, size_of_sum (summands xs q qs), sizes_of_summands xs q qs few)
 
--- it is defined
+-- ---- it is defined
+
+sum_defined : (t : Tree) (ts : Trees) → is_undef t ≡ false → is_undef (sum_of_trees (more t ts)) ≡ false
+sum_defined t none e = e
+sum_defined t (more u ts) e = refl
+
+multiple_defined : (q : Fraction) (x : List ℕ) → is_undef (multiple_of q x) ≡ false
+multiple_defined q x = grind arith
+
+defined_more : (q : Fraction) (x : List ℕ) (ts : Trees) → is_undef (sum_of_trees ts) ≡ false → is_undef (sum_of_trees (if is_zero_fraction q then ts else more (multiple_of q x) ts)) ≡ false
+defined_more q x ts h = grind (arith, sum_defined, multiple_defined)
+
+multiples_defined : (xs : List (List ℕ)) (qs : List Fraction) → is_undef (sum_of_trees (multiples xs qs)) ≡ false
+multiples_defined [] qs = refl
+multiples_defined (x ∷ xs) [] = refl
+multiples_defined (x ∷ xs) (q ∷ qs) = defined_more q x (multiples xs qs) (multiples_defined xs qs)
+
 pub form_defined : (xs : List (List ℕ)) (q : Fraction) (qs : List Fraction) → is_undef (form_tree xs q qs) ≡ false
-form_defined xs q qs = by (is_zero_fraction q)
-  where
-    one : (p : Fraction) (x : List ℕ) → is_undef (multiple_of p x) ≡ false
-    one p x = each (is_one_fraction p)
-      where
-        each : (b : Bool) → is_undef (if b then symbol x else mult (more (num p) (more (symbol x) none))) ≡ false
-        each true = refl
-        each false = refl
-
-    many : (ys : List (List ℕ)) (ps : List Fraction) → is_undef (sum_of_trees (multiples ys ps)) ≡ false
-    many [] ps = refl
-    many (y ∷ ys) [] = refl
-    many (y ∷ ys) (p ∷ ps) = each (is_zero_fraction p) (many ys ps)
-      where
-        behind : (ts : Trees) → is_undef (sum_of_trees (more (multiple_of p y) ts)) ≡ false
-        behind none = one p y
-        behind (more t ts) = refl
-
-        each : (b : Bool) → is_undef (sum_of_trees (multiples ys ps)) ≡ false → is_undef (sum_of_trees (if b then multiples ys ps else more (multiple_of p y) (multiples ys ps))) ≡ false
-        each true h = h
-        each false h = behind (multiples ys ps)
-
-    front : (ts : Trees) → is_undef (sum_of_trees (more (num q) ts)) ≡ false
-    front none = refl
-    front (more t ts) = refl
-
-    by : (b : Bool) → is_undef (sum_of_trees (if b then multiples xs qs else more (num q) (multiples xs qs))) ≡ false
-    by true = many xs qs
-    by false = front (multiples xs qs)
+form_defined xs q qs = grind (arith, sum_defined, multiples_defined)

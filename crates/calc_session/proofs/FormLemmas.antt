@@ -58,20 +58,12 @@ multiple_form q x z = by (is_one_fraction q) refl
 all_multiples : (P : Tree → Type 0) → ((q : Fraction) (x : List ℕ) → is_zero_fraction q ≡ false → AllParts P (multiple_of q x)) → (xs : List (List ℕ)) (qs : List Fraction) → AllPartsOf P (multiples xs qs)
 all_multiples P h [] qs = tt
 all_multiples P h (x ∷ xs) [] = tt
-all_multiples P h (x ∷ xs) (q ∷ qs) = by (is_zero_fraction q) refl (all_multiples P h xs qs)
-  where
-    by : (b : Bool) → is_zero_fraction q ≡ b → AllPartsOf P (multiples xs qs) → AllPartsOf P (if b then multiples xs qs else more (multiple_of q x) (multiples xs qs))
-    by true e rest = rest
-    by false e rest = (h q x e, rest)
+all_multiples P h (x ∷ xs) (q ∷ qs) = grind (arith, all_multiples P h xs qs)
 
 none_among : (p : Tree → Bool) → ((q : Fraction) (x : List ℕ) → p (multiple_of q x) ≡ false) → (xs : List (List ℕ)) (qs : List Fraction) → NoneIs p (multiples xs qs)
 none_among p h [] qs = tt
 none_among p h (x ∷ xs) [] = tt
-none_among p h (x ∷ xs) (q ∷ qs) = by (is_zero_fraction q) (none_among p h xs qs)
-  where
-    by : (b : Bool) → NoneIs p (multiples xs qs) → NoneIs p (if b then multiples xs qs else more (multiple_of q x) (multiples xs qs))
-    by true rest = rest
-    by false rest = (h q x, rest)
+none_among p h (x ∷ xs) (q ∷ qs) = grind (arith, none_among p h xs qs)
 
 -- a name that is before all is before the first that has a multiple
 rises_behind : (q : Fraction) (x : List ℕ) (xs : List (List ℕ)) (qs : List Fraction) → All (λ y. is_before x y ≡ true) xs → RisesBy part_of (multiples xs qs) → RisesBy part_of (more (multiple_of q x) (multiples xs qs))
@@ -87,21 +79,12 @@ rises_behind q x (y ∷ ys) (p ∷ qs) h r = by (is_zero_fraction p) r (rises_be
 rising_multiples : (xs : List (List ℕ)) (qs : List Fraction) → Rises xs → RisesBy part_of (multiples xs qs)
 rising_multiples [] qs h = tt
 rising_multiples (x ∷ xs) [] h = tt
-rising_multiples (x ∷ xs) (q ∷ qs) h = by (is_zero_fraction q) (rising_multiples xs qs h.1)
-  where
-    by : (b : Bool) → RisesBy part_of (multiples xs qs) → RisesBy part_of (if b then multiples xs qs else more (multiple_of q x) (multiples xs qs))
-    by true rest = rest
-    by false rest = rises_behind q x xs qs h.0 rest
+rising_multiples (x ∷ xs) (q ∷ qs) h = grind (arith, rising_multiples xs qs h.1, rises_behind)
 
 no_number_terms : (xs : List (List ℕ)) (qs : List Fraction) → (number_terms (multiples xs qs) ≡ none) × (other_terms (multiples xs qs) ≡ multiples xs qs)
 no_number_terms [] qs = (refl, refl)
 no_number_terms (x ∷ xs) [] = (refl, refl)
-no_number_terms (x ∷ xs) (q ∷ qs) = by (is_zero_fraction q) (no_number_terms xs qs)
-  where
-    by : (b : Bool) → (number_terms (multiples xs qs) ≡ none) × (other_terms (multiples xs qs) ≡ multiples xs qs)
-        → (number_terms (if b then multiples xs qs else more (multiple_of q x) (multiples xs qs)) ≡ none) × (other_terms (if b then multiples xs qs else more (multiple_of q x) (multiples xs qs)) ≡ (if b then multiples xs qs else more (multiple_of q x) (multiples xs qs)))
-    by true rest = rest
-    by false rest = (no_term_of q x (multiples xs qs), other_of q x (multiples xs qs))
+no_number_terms (x ∷ xs) (q ∷ qs) = grind (arith, no_number_terms xs qs, no_term_of, other_of)
 
 -- what is said of the summands
 record AreSummands (ts : Trees) : Type 0 where
@@ -178,8 +161,4 @@ size_of_multiple q x = grind arith
 pub sizes_of_multiples : (xs : List (List ℕ)) (qs : List Fraction) → sizes (multiples xs qs) ≤ 64 * count (multiples xs qs)
 sizes_of_multiples [] qs = omega arith
 sizes_of_multiples (x ∷ xs) [] = omega arith
-sizes_of_multiples (x ∷ xs) (q ∷ qs) = by (is_zero_fraction q) (sizes_of_multiples xs qs)
-  where
-    by : (b : Bool) → sizes (multiples xs qs) ≤ 64 * count (multiples xs qs) → sizes (if b then multiples xs qs else more (multiple_of q x) (multiples xs qs)) ≤ 64 * count (if b then multiples xs qs else more (multiple_of q x) (multiples xs qs))
-    by true h = h
-    by false h = omega (arith, h, size_of_multiple q x)
+sizes_of_multiples (x ∷ xs) (q ∷ qs) = grind (arith, sizes_of_multiples xs qs, size_of_multiple)

@@ -79,28 +79,18 @@ front_of_all {s} {t} b = record { keeps = λ p starts n. record { behind = join 
 
 -- ---- one more multiple
 
+zero_stays : is_zero_fraction zero_fraction ≡ false → ⊥
+unfolding zero_fraction
+zero_stays e = let f : is_zero_fraction zero_fraction ≡ true = ap int_is_zero (whole_numerator (pos 0)) in cc
+
 pub multiples_more : (n : ℕ) (xs : List (List ℕ)) (qs : List Fraction) → n < length xs → is_zero_fraction (get_or qs n zero_fraction) ≡ false
     → multiples (take (suc n) xs) qs ≡ append (multiples (take n xs) qs) (more (multiple_of (get_or qs n zero_fraction) (get_or xs n [])) none)
 unfolding zero_fraction
 multiples_more n [] qs l z = absurd (omega (arith, l))
-multiples_more zero (x ∷ xs) [] l z = absurd (zero_clash z)
-  where
-    zero_clash : is_zero_fraction zero_fraction ≡ false → ⊥
-    zero_clash e = let f : is_zero_fraction zero_fraction ≡ true = ap int_is_zero (whole_numerator (pos 0)) in cc
-multiples_more (suc n) (x ∷ xs) [] l z = absurd (zero_clash z)
-  where
-    zero_clash : is_zero_fraction zero_fraction ≡ false → ⊥
-    zero_clash e = let f : is_zero_fraction zero_fraction ≡ true = ap int_is_zero (whole_numerator (pos 0)) in cc
+multiples_more zero (x ∷ xs) [] l z = absurd (zero_stays z)
+multiples_more (suc n) (x ∷ xs) [] l z = absurd (zero_stays z)
 multiples_more zero (x ∷ xs) (q ∷ qs) l z = ap (λ (b : Bool). if b then multiples [] qs else more (multiple_of q x) (multiples [] qs)) z
-multiples_more (suc n) (x ∷ xs) (q ∷ qs) l z = by (is_zero_fraction q) (multiples_more n xs qs (omega (arith, l)) z)
-  where
-    ys : Trees
-    ys = more (multiple_of (get_or qs n zero_fraction) (get_or xs n [])) none
-
-    by : (b : Bool) → multiples (take (suc n) xs) qs ≡ append (multiples (take n xs) qs) ys
-        → (if b then multiples (take (suc n) xs) qs else more (multiple_of q x) (multiples (take (suc n) xs) qs)) ≡ append (if b then multiples (take n xs) qs else more (multiple_of q x) (multiples (take n xs) qs)) ys
-    by true h = h
-    by false h = ap (more (multiple_of q x)) h
+multiples_more (suc n) (x ∷ xs) (q ∷ qs) l z = grind (arith, multiples_more n xs qs (omega (arith, l)) z)
 
 pub multiples_same : (n : ℕ) (xs : List (List ℕ)) (qs : List Fraction) → is_zero_fraction (get_or qs n zero_fraction) ≡ true → multiples (take (suc n) xs) qs ≡ multiples (take n xs) qs
 multiples_same zero [] qs z = refl
@@ -113,23 +103,14 @@ multiples_same (suc n) (x ∷ xs) (q ∷ qs) z = ap (λ (ts : Trees). if is_zero
 pub multiples_few : (xs : List (List ℕ)) (qs : List Fraction) → count (multiples xs qs) ≤ length xs
 multiples_few [] qs = omega arith
 multiples_few (x ∷ xs) [] = omega arith
-multiples_few (x ∷ xs) (q ∷ qs) = by (is_zero_fraction q) (multiples_few xs qs)
-  where
-    by : (b : Bool) → count (multiples xs qs) ≤ length xs → count (if b then multiples xs qs else more (multiple_of q x) (multiples xs qs)) ≤ suc (length xs)
-    by true h = omega (arith, h)
-    by false h = omega (arith, h)
+multiples_few (x ∷ xs) (q ∷ qs) = grind (arith, multiples_few xs qs)
 
 -- those of the first names need no more room than all
 pub sizes_first : (n : ℕ) (xs : List (List ℕ)) (qs : List Fraction) → sizes (multiples (take n xs) qs) ≤ sizes (multiples xs qs)
 sizes_first zero xs qs = omega arith
 sizes_first (suc n) [] qs = omega arith
 sizes_first (suc n) (x ∷ xs) [] = omega arith
-sizes_first (suc n) (x ∷ xs) (q ∷ qs) = by (is_zero_fraction q) (sizes_first n xs qs)
-  where
-    by : (b : Bool) → sizes (multiples (take n xs) qs) ≤ sizes (multiples xs qs)
-        → sizes (if b then multiples (take n xs) qs else more (multiple_of q x) (multiples (take n xs) qs)) ≤ sizes (if b then multiples xs qs else more (multiple_of q x) (multiples xs qs))
-    by true h = h
-    by false h = omega (arith, h)
+sizes_first (suc n) (x ∷ xs) (q ∷ qs) = grind (arith, sizes_first n xs qs)
 
 -- ---- the summands
 

@@ -1,7 +1,7 @@
 -- Lemmas on pools that are rolled back.
-use Rattle.std.proofs.Common.{arith, ◌≡◌, ◌∙◌, ◌*◌, ◌+◌, ◌≤◌, ℕ, [], Option, sym, ap, subst}
+use Rattle.std.proofs.Common.{arith, ◌≡◌, ◌≤◌, ℕ, [], Option, sym, subst}
 use Rattle.calc_session.proofs.Shared.{IsHeld, Table, Full, Forest, bytes_in, forest_of, KeepsFront, Stands, forest, KeepsRefusals, CountsRefusal, IsKept, IsReady, after}
-use Rattle.calc_session.specs.declared.parts.Parts.{Parts}
+use Rattle.calc_session.specs.{Pools.{IsRolledBack}, declared.parts.Parts.{Parts}}
 use Rattle.node_pool.specs.State.{State}
 use Rattle.pool_checkpoints.specs.Marks.{IsBelow}
 use Rattle.pool_checkpoints.proofs.RollingBack.{all_below, still_below}
@@ -13,12 +13,6 @@ still_counted refusal s t u r k = grind arith
 -- all that stood when a mark was opened is below it, whatever was built since
 pub old_below : {mark : ℕ} {old new : Forest} → mark ≡ bytes_in old → KeepsFront [] old new → IsBelow mark old new
 old_below e k = still_below (all_below e) k tt
-
--- all is as before but for a refusal
-pub record IsRolledBack (refusal : Option Full) (old new : State) : Type 0 where
-  pub counted : CountsRefusal refusal old new
-  pub as_before : new ≡ after refusal old.nodes old
-  pub size : new.size ≡ old.size
 
 -- the old trees alone are left
 pub rolled_back : (refusal : Option Full) (old mid new : State) → Stands old → Stands new → CountsRefusal refusal old mid → KeepsRefusals mid new → forest new ≡ forest old → IsRolledBack refusal old new
@@ -37,20 +31,8 @@ still_held lack t p q e h = subst (λ ns. IsHeld t (forest_of ns)) (sym (nodes_k
 
 -- all is as before but for a refusal
 pub kept_but : (lack : Option Full) (p q : Parts) → IsKept p → IsReady q.work → q.work.pool ≡ after lack p.work.pool.nodes p.work.pool → q.table ≡ p.table → q.text.capacity ≡ p.text.capacity → q.drafter.pool_size ≡ p.drafter.pool_size → IsKept q
-kept_but lack p q h ready same table room served =
-    let size = size_same lack p.work.pool q.work.pool same in
-    record {
-      ready = ready;
-      held = rw table (still_held lack p.table p.work.pool q.work.pool same h.held);
-      room = room ∙ h.room ∙ ap (λ n. 3 * n + 8448) (sym size);
-      served = served ∙ h.served ∙ sym size;
-    }
+kept_but lack p q h ready same table room served = grind (arith, size_same, still_held)
 
 -- the trees stand as before, and the rest has kept its room
 pub kept_still : (p q : Parts) → IsKept p → Stands q.work.pool → q.work.pool.size ≡ p.work.pool.size → forest q.work.pool ≡ forest p.work.pool → q.work.pool.size ≤ q.work.faces → q.table ≡ p.table → q.text.capacity ≡ p.text.capacity → q.drafter.pool_size ≡ p.drafter.pool_size → IsKept q
-kept_still p q h stands size trees fits table room served = record {
-  ready = record { stands = stands; lists = fits };
-  held = rw (table, trees) h.held;
-  room = room ∙ h.room ∙ ap (λ n. 3 * n + 8448) (sym size);
-  served = served ∙ h.served ∙ sym size;
-}
+kept_still p q h stands size trees fits table room served = grind (arith)

@@ -1,7 +1,7 @@
 -- Lemmas on the state of a session, and on what a line leaves of it.
-use Rattle.std.proofs.{lemmas.Bool.{both_ways}, Common.{◌≡◌, ◌∙◌, ◌↔◌, ℕ, ◌+◌, ◌*◌, ◌≤◌, ◌==◌, List, [], ◌∷◌, ◌++◌, length, codes, Bool, true, false, if◌then◌else◌, Option, Some, None, refl, sym, ap}}
+use Rattle.std.proofs.{Common.{◌≡◌, ◌∙◌, ◌↔◌, ℕ, ◌+◌, ◌*◌, ◌≤◌, List, [], ◌∷◌, ◌++◌, length, codes, true, false, Option, Some, None, refl, sym, ap}}
 use Rattle.std.proofs.Common.{subst, arith}
-use Rattle.calc_session.proofs.Shared.{eqb-true, TripsRose, Asked, IsCommandLine, text, Node, Tree, none, more, size, Placed, held_by, Table, with_answer, Full, has, IsExpression, plain, Forest}
+use Rattle.calc_session.proofs.Shared.{TripsRose, Asked, IsCommandLine, text, Node, Tree, none, more, size, Placed, held_by, Table, with_answer, Full, has, IsExpression, plain, Forest}
 use Rattle.calc_session.proofs.Shared.{flatten, Gives, tree_at, Stands, forest, flatten-join, has-flatten, given_handed, given_root, given_told, expression_root, plain_root, alone, LineAnswer}
 use Rattle.calc_session.proofs.Shared.{Refusal, answer_to, Answers, AnswersBy, AnswersUntold, IsAnswer, IsTextOf, printed, reason_of, reply_of, IsReplyToCommand, IsUnstorable, ReadsAs, ReadsTree}
 use Rattle.calc_session.proofs.Shared.{Reply, blank, displayed, refusal_in, text_of, undefined, are_blanks, State, state_of, AsksInVain, is_nothing, is_text, is_asked, IsReply, IsReplyToTree}
@@ -23,11 +23,7 @@ same_after refusal p q t e = grind arith
 -- an identifier is not on both sides
 apart_from : (a b : List Node) (id : ℕ) → AreApart a b → has id b ≡ true → has id a ≡ false
 apart_from [] b id h k = refl
-apart_from (n ∷ a) b id h k = by (n.id == id) refl (apart_from a b id h.1 k)
-  where
-    by : (x : Bool) → (n.id == id) ≡ x → has id a ≡ false → (if n.id == id then true else has id a) ≡ false
-    by true e f = let same : n.id ≡ id = eqb-true n.id id e in absurd (both_ways (has id b) (subst (λ i. has i b ≡ false) same h.0) k)
-    by false e f = ap (λ (t : Bool). if t then true else has id a) e ∙ f
+apart_from (n ∷ a) b id h k = grind (arith, apart_from a b id h.1 k)
 
 module _ (old mid new : PoolState) (table table' : Table) (h : ℕ) (u : Tree) (store : Option (List ℕ)) (st : Stands old) (st' : Stands mid) (g : Gives (forest old) (forest mid) h (λ x. x ≡ u)) where
   behind : mid.nodes ≡ old.nodes ++ flatten g.tree

@@ -1,5 +1,5 @@
 -- Lemmas on what is told of an evaluation.
-use Rattle.std.proofs.Common.{arith, ◌≡◌, ◌+◌, ◌↔◌, ℕ, List, Option, None, refl, sym, subst}
+use Rattle.std.proofs.Common.{arith, ◌≡◌, ◌+◌, ◌↔◌, ℕ, List, Option, None, refl, subst}
 use Rattle.calc_session.proofs.Shared.{Asked, IsWritable, Tree, size, Placed, fills, values, free_of, Table, Forest, Gives, tree_of, without_root, Stands, forest, given_rest, given_told, LineAnswer}
 use Rattle.calc_session.proofs.Shared.{Refusal, Evaluation, AnswersBy, ComesTo, TellsAs, Tells, refusal_of_evaluation, refusal_of_pool, reply_of, ReadsText, IsReplyToCommand, IsReplyToExpression}
 use Rattle.calc_session.proofs.{Shared.{IsTold, tells, refuses, is_read, is_made, made, Reply, report, reported, text_of, State, state_of, HasFace}, EvaluationLemmas.{comes_as, free_before}}

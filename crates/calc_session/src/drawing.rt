@@ -9,9 +9,8 @@ ghost use Rattle.tree_handles.specs.Expressions.{IsExpression};
 ghost use Rattle.tree_handles.specs.Forest.{bytes_in};
 ghost use Rattle.tree_handles.specs.Inside.{tree_at};
 ghost use Rattle.tree_handles.specs.Standing.{Stands, forest};
-ghost use Rattle.calc_session.specs.Answers.{CountsRefusal};
 ghost use Rattle.calc_session.specs.Drawing.{FailsToDraw, IsDrawn, StopsDrawing, lack_in, rows_text, told_at};
-ghost use Rattle.calc_session.specs.Pools.{after};
+ghost use Rattle.calc_session.specs.Pools.{IsRolledBack};
 
 use crate::DrawFault;
 use calc_edges::{Failed, Sink, write_all};
@@ -38,8 +37,7 @@ pub fn draw_answer<K: Sink>(
     ensures later { (K.faults sink.old).count ≤ (K.faults sink.new).count }
     ensures fails { IfErr result (FailsToDraw (told_at rows_text answer pool.old) (K.taken sink.old) (K.taken sink.new)) }
     ensures stops { IfErr result (StopsDrawing K.taken K.faults sink.old sink.new) }
-    ensures counted { CountsRefusal (lack_in (told_at rows_text answer pool.old)) pool.old pool.new }
-    ensures as_before { pool.new ≡ after (lack_in (told_at rows_text answer pool.old)) pool.old.nodes pool.old }
+    ensures undone { IsRolledBack (lack_in (told_at rows_text answer pool.old)) pool.old pool.new }
     ensures capacity { text.new.capacity ≡ text.old.capacity }
     ensures served { drafter.new.pool_size ≡ drafter.old.pool_size }
     ensures stands { Stands pool.new }
@@ -106,8 +104,7 @@ pub fn write_layout(
     ensures told { OnOk result (told_at serial answer pool.old ≡ Ok text.new.bytes) }
     ensures full { IfErr result (λ full. told_at serial answer pool.old ≡ Err full) }
     ensures untold { OnErr result (text.new.bytes ≡ []) }
-    ensures counted { CountsRefusal (lack_in (told_at serial answer pool.old)) pool.old pool.new }
-    ensures as_before { pool.new ≡ after (lack_in (told_at serial answer pool.old)) pool.old.nodes pool.old }
+    ensures undone { IsRolledBack (lack_in (told_at serial answer pool.old)) pool.old pool.new }
     ensures capacity { text.new.capacity ≡ text.old.capacity }
     ensures served { drafter.new.pool_size ≡ drafter.old.pool_size }
     ensures stands { Stands pool.new }

@@ -12,7 +12,7 @@ ghost use Rattle.node_pool.specs.State.{free_of};
 ghost use Rattle.calc_session.specs.Answers.{CountsRefusal};
 ghost use Rattle.calc_session.specs.Forms.{IsSmall, IsSmallForm, form_room, lack_of, solution_room};
 ghost use Rattle.calc_session.specs.Kept.{IsReady};
-ghost use Rattle.calc_session.specs.Pools.{after};
+ghost use Rattle.calc_session.specs.Pools.{IsRolledBack, after};
 ghost use Rattle.linear_solve.specs.RisingNames.{Rises};
 ghost use Rattle.calc_session.specs.SolutionTexts.{comma_before as comma_before_text, form_tree, line_text, lines_text, multipliers_text, solution_text};
 
@@ -168,8 +168,7 @@ fn write_form(
     ensures told { OnOk result (text.new ≡ extended text.old (text_of (face (form_tree (map name_of names.now) (value_of constant) (entries_of coefs.now))))) }
     ensures short { OnOk result (length text.new.bytes ≤ length text.old.bytes + 1392) }
     ensures lacks { IfErr result (λ full. (full.free < full.needed) × (free_of work.old.pool < form_room)) }
-    ensures counted { CountsRefusal (lack_of result) work.old.pool work.new.pool }
-    ensures as_before { work.new.pool ≡ after (lack_of result) work.old.pool.nodes work.old.pool }
+    ensures undone { IsRolledBack (lack_of result) work.old.pool work.new.pool }
     ensures capacity { text.new.capacity ≡ text.old.capacity }
     ensures ready { IsReady work.new }
 {

@@ -29,26 +29,14 @@ returns-in-Err-write_rows-clause-fails g c =
     drawn_in_part (told_at rows_text c.args.answer c.args.pool.now) (rows_text (drawing (tree_at c.id.result (forest c.layout_of.new.pool)))) _ _
     (given_told rows_text c.args.answer c.args.pool.now c.layout_of.new.pool c.in-Ok.layout c.id.result _ c.layout_of.ensures.stands c.in-Ok.ensures.ok c.id.ensures c.in-Ok.ensures.room) c.in-Err-write_rows.ensures.part
 
-pub returns-in-Ok-write_rows-clause-counted : goal.returns-in-Ok-write_rows-clause-counted
-returns-in-Ok-write_rows-clause-counted g c = (rolled_back (lack_in (told_at rows_text c.args.answer c.args.pool.now)) c.args.pool.now c.layout_of.new.pool c.roll_back.new.pool c.requires.stands c.roll_back.ensures.stands (subst (λ r. CountsRefusal (lack_in r) c.args.pool.now c.layout_of.new.pool) (sym (told_where rows_text c.args.answer c.args.pool.now _ c.in-Ok.ensures.room)) c.in-Ok.ensures.kept) c.roll_back.ensures.kept
-    (c.roll_back.ensures.forest (forest c.args.pool.now) (old_below (c.open_mark-mark.ensures.trees c.requires.stands) c.layout_of.ensures.front))).counted
+pub returns-in-Ok-write_rows-clause-undone : goal.returns-in-Ok-write_rows-clause-undone
+returns-in-Ok-write_rows-clause-undone g c = rolled_back (lack_in (told_at rows_text c.args.answer c.args.pool.now)) c.args.pool.now c.layout_of.new.pool c.roll_back.new.pool c.requires.stands c.roll_back.ensures.stands (subst (λ r. CountsRefusal (lack_in r) c.args.pool.now c.layout_of.new.pool) (sym (told_where rows_text c.args.answer c.args.pool.now _ c.in-Ok.ensures.room)) c.in-Ok.ensures.kept) c.roll_back.ensures.kept
+    (c.roll_back.ensures.forest (forest c.args.pool.now) (old_below (c.open_mark-mark.ensures.trees c.requires.stands) c.layout_of.ensures.front))
 
-pub returns-in-Ok-write_rows-clause-as_before : goal.returns-in-Ok-write_rows-clause-as_before
-returns-in-Ok-write_rows-clause-as_before g c = (rolled_back (lack_in (told_at rows_text c.args.answer c.args.pool.now)) c.args.pool.now c.layout_of.new.pool c.roll_back.new.pool c.requires.stands c.roll_back.ensures.stands (subst (λ r. CountsRefusal (lack_in r) c.args.pool.now c.layout_of.new.pool) (sym (told_where rows_text c.args.answer c.args.pool.now _ c.in-Ok.ensures.room)) c.in-Ok.ensures.kept) c.roll_back.ensures.kept
-    (c.roll_back.ensures.forest (forest c.args.pool.now) (old_below (c.open_mark-mark.ensures.trees c.requires.stands) c.layout_of.ensures.front))).as_before
+pub returns-in-Err-write_rows-clause-undone : goal.returns-in-Err-write_rows-clause-undone
+returns-in-Err-write_rows-clause-undone g c = rolled_back (lack_in (told_at rows_text c.args.answer c.args.pool.now)) c.args.pool.now c.layout_of.new.pool c.roll_back-in-Err-write_rows.new.pool c.requires.stands c.roll_back-in-Err-write_rows.ensures.stands (subst (λ r. CountsRefusal (lack_in r) c.args.pool.now c.layout_of.new.pool) (sym (told_where rows_text c.args.answer c.args.pool.now _ c.in-Ok.ensures.room)) c.in-Ok.ensures.kept) c.roll_back-in-Err-write_rows.ensures.kept
+    (c.roll_back-in-Err-write_rows.ensures.forest (forest c.args.pool.now) (old_below (c.open_mark-mark.ensures.trees c.requires.stands) c.layout_of.ensures.front))
 
-pub returns-in-Err-write_rows-clause-counted : goal.returns-in-Err-write_rows-clause-counted
-returns-in-Err-write_rows-clause-counted g c = (rolled_back (lack_in (told_at rows_text c.args.answer c.args.pool.now)) c.args.pool.now c.layout_of.new.pool c.roll_back-in-Err-write_rows.new.pool c.requires.stands c.roll_back-in-Err-write_rows.ensures.stands (subst (λ r. CountsRefusal (lack_in r) c.args.pool.now c.layout_of.new.pool) (sym (told_where rows_text c.args.answer c.args.pool.now _ c.in-Ok.ensures.room)) c.in-Ok.ensures.kept) c.roll_back-in-Err-write_rows.ensures.kept
-    (c.roll_back-in-Err-write_rows.ensures.forest (forest c.args.pool.now) (old_below (c.open_mark-mark.ensures.trees c.requires.stands) c.layout_of.ensures.front))).counted
-
-pub returns-in-Err-write_rows-clause-as_before : goal.returns-in-Err-write_rows-clause-as_before
-returns-in-Err-write_rows-clause-as_before g c = (rolled_back (lack_in (told_at rows_text c.args.answer c.args.pool.now)) c.args.pool.now c.layout_of.new.pool c.roll_back-in-Err-write_rows.new.pool c.requires.stands c.roll_back-in-Err-write_rows.ensures.stands (subst (λ r. CountsRefusal (lack_in r) c.args.pool.now c.layout_of.new.pool) (sym (told_where rows_text c.args.answer c.args.pool.now _ c.in-Ok.ensures.room)) c.in-Ok.ensures.kept) c.roll_back-in-Err-write_rows.ensures.kept
-    (c.roll_back-in-Err-write_rows.ensures.forest (forest c.args.pool.now) (old_below (c.open_mark-mark.ensures.trees c.requires.stands) c.layout_of.ensures.front))).as_before
-
-pub returns-in-Err-clause-counted : goal.returns-in-Err-clause-counted
-returns-in-Err-clause-counted g c = (rolled_back (lack_in (told_at rows_text c.args.answer c.args.pool.now)) c.args.pool.now c.layout_of.new.pool c.roll_back-in-Err.new.pool c.requires.stands c.roll_back-in-Err.ensures.stands (subst (λ r. CountsRefusal (lack_in r) c.args.pool.now c.layout_of.new.pool) (sym (lacks_where rows_text c.args.answer c.args.pool.now c.in-Err.full c.in-Err.ensures.full)) c.in-Err.ensures.refuses) c.roll_back-in-Err.ensures.kept
-    (c.roll_back-in-Err.ensures.forest (forest c.args.pool.now) (old_below (c.open_mark-mark.ensures.trees c.requires.stands) c.layout_of.ensures.front))).counted
-
-pub returns-in-Err-clause-as_before : goal.returns-in-Err-clause-as_before
-returns-in-Err-clause-as_before g c = (rolled_back (lack_in (told_at rows_text c.args.answer c.args.pool.now)) c.args.pool.now c.layout_of.new.pool c.roll_back-in-Err.new.pool c.requires.stands c.roll_back-in-Err.ensures.stands (subst (λ r. CountsRefusal (lack_in r) c.args.pool.now c.layout_of.new.pool) (sym (lacks_where rows_text c.args.answer c.args.pool.now c.in-Err.full c.in-Err.ensures.full)) c.in-Err.ensures.refuses) c.roll_back-in-Err.ensures.kept
-    (c.roll_back-in-Err.ensures.forest (forest c.args.pool.now) (old_below (c.open_mark-mark.ensures.trees c.requires.stands) c.layout_of.ensures.front))).as_before
+pub returns-in-Err-clause-undone : goal.returns-in-Err-clause-undone
+returns-in-Err-clause-undone g c = rolled_back (lack_in (told_at rows_text c.args.answer c.args.pool.now)) c.args.pool.now c.layout_of.new.pool c.roll_back-in-Err.new.pool c.requires.stands c.roll_back-in-Err.ensures.stands (subst (λ r. CountsRefusal (lack_in r) c.args.pool.now c.layout_of.new.pool) (sym (lacks_where rows_text c.args.answer c.args.pool.now c.in-Err.full c.in-Err.ensures.full)) c.in-Err.ensures.refuses) c.roll_back-in-Err.ensures.kept
+    (c.roll_back-in-Err.ensures.forest (forest c.args.pool.now) (old_below (c.open_mark-mark.ensures.trees c.requires.stands) c.layout_of.ensures.front))

@@ -21,18 +21,10 @@ returns-in-Ok-clause-told c =
     given_told serial c.args.answer c.args.pool.now c.layout_of.new.pool c.in-Ok.layout c.id.result _ c.layout_of.ensures.stands c.in-Ok.ensures.ok c.id.ensures c.in-Ok.ensures.room
     ∙ ap (λ (b : List ℕ). Ok b) (sym (ap (λ (x : Content). x.bytes) c.write_serial.ensures ∙ ap (λ (b : List ℕ). b ++ serial (drawing (tree_at c.id.result (forest c.layout_of.new.pool)))) c.requires.empty))
 
-pub returns-in-Ok-clause-counted : goal.returns-in-Ok-clause-counted
-returns-in-Ok-clause-counted c = (rolled_back (lack_in (told_at serial c.args.answer c.args.pool.now)) c.args.pool.now c.layout_of.new.pool c.roll_back.new.pool c.requires.stands c.roll_back.ensures.stands (subst (λ r. CountsRefusal (lack_in r) c.args.pool.now c.layout_of.new.pool) (sym (told_where serial c.args.answer c.args.pool.now _ c.in-Ok.ensures.room)) c.in-Ok.ensures.kept) c.roll_back.ensures.kept
-    (c.roll_back.ensures.forest (forest c.args.pool.now) (old_below (c.open_mark-mark.ensures.trees c.requires.stands) c.layout_of.ensures.front))).counted
+pub returns-in-Ok-clause-undone : goal.returns-in-Ok-clause-undone
+returns-in-Ok-clause-undone c = rolled_back (lack_in (told_at serial c.args.answer c.args.pool.now)) c.args.pool.now c.layout_of.new.pool c.roll_back.new.pool c.requires.stands c.roll_back.ensures.stands (subst (λ r. CountsRefusal (lack_in r) c.args.pool.now c.layout_of.new.pool) (sym (told_where serial c.args.answer c.args.pool.now _ c.in-Ok.ensures.room)) c.in-Ok.ensures.kept) c.roll_back.ensures.kept
+    (c.roll_back.ensures.forest (forest c.args.pool.now) (old_below (c.open_mark-mark.ensures.trees c.requires.stands) c.layout_of.ensures.front))
 
-pub returns-in-Ok-clause-as_before : goal.returns-in-Ok-clause-as_before
-returns-in-Ok-clause-as_before c = (rolled_back (lack_in (told_at serial c.args.answer c.args.pool.now)) c.args.pool.now c.layout_of.new.pool c.roll_back.new.pool c.requires.stands c.roll_back.ensures.stands (subst (λ r. CountsRefusal (lack_in r) c.args.pool.now c.layout_of.new.pool) (sym (told_where serial c.args.answer c.args.pool.now _ c.in-Ok.ensures.room)) c.in-Ok.ensures.kept) c.roll_back.ensures.kept
-    (c.roll_back.ensures.forest (forest c.args.pool.now) (old_below (c.open_mark-mark.ensures.trees c.requires.stands) c.layout_of.ensures.front))).as_before
-
-pub returns-in-Err-clause-counted : goal.returns-in-Err-clause-counted
-returns-in-Err-clause-counted c = (rolled_back (lack_in (told_at serial c.args.answer c.args.pool.now)) c.args.pool.now c.layout_of.new.pool c.roll_back-in-Err.new.pool c.requires.stands c.roll_back-in-Err.ensures.stands (subst (λ r. CountsRefusal (lack_in r) c.args.pool.now c.layout_of.new.pool) (sym (lacks_where serial c.args.answer c.args.pool.now c.in-Err.full c.in-Err.ensures.full)) c.in-Err.ensures.refuses) c.roll_back-in-Err.ensures.kept
-    (c.roll_back-in-Err.ensures.forest (forest c.args.pool.now) (old_below (c.open_mark-mark.ensures.trees c.requires.stands) c.layout_of.ensures.front))).counted
-
-pub returns-in-Err-clause-as_before : goal.returns-in-Err-clause-as_before
-returns-in-Err-clause-as_before c = (rolled_back (lack_in (told_at serial c.args.answer c.args.pool.now)) c.args.pool.now c.layout_of.new.pool c.roll_back-in-Err.new.pool c.requires.stands c.roll_back-in-Err.ensures.stands (subst (λ r. CountsRefusal (lack_in r) c.args.pool.now c.layout_of.new.pool) (sym (lacks_where serial c.args.answer c.args.pool.now c.in-Err.full c.in-Err.ensures.full)) c.in-Err.ensures.refuses) c.roll_back-in-Err.ensures.kept
-    (c.roll_back-in-Err.ensures.forest (forest c.args.pool.now) (old_below (c.open_mark-mark.ensures.trees c.requires.stands) c.layout_of.ensures.front))).as_before
+pub returns-in-Err-clause-undone : goal.returns-in-Err-clause-undone
+returns-in-Err-clause-undone c = rolled_back (lack_in (told_at serial c.args.answer c.args.pool.now)) c.args.pool.now c.layout_of.new.pool c.roll_back-in-Err.new.pool c.requires.stands c.roll_back-in-Err.ensures.stands (subst (λ r. CountsRefusal (lack_in r) c.args.pool.now c.layout_of.new.pool) (sym (lacks_where serial c.args.answer c.args.pool.now c.in-Err.full c.in-Err.ensures.full)) c.in-Err.ensures.refuses) c.roll_back-in-Err.ensures.kept
+    (c.roll_back-in-Err.ensures.forest (forest c.args.pool.now) (old_below (c.open_mark-mark.ensures.trees c.requires.stands) c.layout_of.ensures.front))

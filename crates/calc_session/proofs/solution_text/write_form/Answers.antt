@@ -48,26 +48,14 @@ roll_back-requires-in-Ok-face_of-clause-below c = (forest c.args.work.now.pool, 
 pub roll_back-requires-in-Err-face_of-clause-below : goal.roll_back-requires-in-Err-face_of-clause-below
 roll_back-requires-in-Err-face_of-clause-below c = (forest c.args.work.now.pool, old_below (c.open_mark-mark.ensures.trees c.requires.ready.stands) (front_over c.in-Ok.ensures.ok.gives c.face_of.ensures.front))
 
-pub returns-in-Err-clause-counted : goal.returns-in-Err-clause-counted
-returns-in-Err-clause-counted c = (rolled_back (Some c.in-Err.full) c.args.work.now.pool c.place_form.new.pool c.roll_back.new.pool c.requires.ready.stands c.roll_back.ensures.stands c.in-Err.ensures.refused c.roll_back.ensures.kept
-    (c.roll_back.ensures.forest (forest c.args.work.now.pool) (old_below (c.open_mark-mark.ensures.trees c.requires.ready.stands) c.place_form.ensures.front))).counted
+pub returns-in-Err-clause-undone : goal.returns-in-Err-clause-undone
+returns-in-Err-clause-undone c = rolled_back (Some c.in-Err.full) c.args.work.now.pool c.place_form.new.pool c.roll_back.new.pool c.requires.ready.stands c.roll_back.ensures.stands c.in-Err.ensures.refused c.roll_back.ensures.kept
+    (c.roll_back.ensures.forest (forest c.args.work.now.pool) (old_below (c.open_mark-mark.ensures.trees c.requires.ready.stands) c.place_form.ensures.front))
 
-pub returns-in-Err-clause-as_before : goal.returns-in-Err-clause-as_before
-returns-in-Err-clause-as_before c = (rolled_back (Some c.in-Err.full) c.args.work.now.pool c.place_form.new.pool c.roll_back.new.pool c.requires.ready.stands c.roll_back.ensures.stands c.in-Err.ensures.refused c.roll_back.ensures.kept
-    (c.roll_back.ensures.forest (forest c.args.work.now.pool) (old_below (c.open_mark-mark.ensures.trees c.requires.ready.stands) c.place_form.ensures.front))).as_before
+pub returns-in-Ok-face_of-clause-undone : goal.returns-in-Ok-face_of-clause-undone
+returns-in-Ok-face_of-clause-undone c = rolled_back None c.args.work.now.pool c.face_of.new.pool c.roll_back-in-Ok-face_of.new.pool c.requires.ready.stands c.roll_back-in-Ok-face_of.ensures.stands (keeps_after _ _ _ c.in-Ok.ensures.ok.kept c.in-Ok-face_of.ensures.kept) c.roll_back-in-Ok-face_of.ensures.kept
+    (c.roll_back-in-Ok-face_of.ensures.forest (forest c.args.work.now.pool) (old_below (c.open_mark-mark.ensures.trees c.requires.ready.stands) (front_over c.in-Ok.ensures.ok.gives c.face_of.ensures.front)))
 
-pub returns-in-Ok-face_of-clause-counted : goal.returns-in-Ok-face_of-clause-counted
-returns-in-Ok-face_of-clause-counted c = (rolled_back None c.args.work.now.pool c.face_of.new.pool c.roll_back-in-Ok-face_of.new.pool c.requires.ready.stands c.roll_back-in-Ok-face_of.ensures.stands (keeps_after _ _ _ c.in-Ok.ensures.ok.kept c.in-Ok-face_of.ensures.kept) c.roll_back-in-Ok-face_of.ensures.kept
-    (c.roll_back-in-Ok-face_of.ensures.forest (forest c.args.work.now.pool) (old_below (c.open_mark-mark.ensures.trees c.requires.ready.stands) (front_over c.in-Ok.ensures.ok.gives c.face_of.ensures.front)))).counted
-
-pub returns-in-Ok-face_of-clause-as_before : goal.returns-in-Ok-face_of-clause-as_before
-returns-in-Ok-face_of-clause-as_before c = (rolled_back None c.args.work.now.pool c.face_of.new.pool c.roll_back-in-Ok-face_of.new.pool c.requires.ready.stands c.roll_back-in-Ok-face_of.ensures.stands (keeps_after _ _ _ c.in-Ok.ensures.ok.kept c.in-Ok-face_of.ensures.kept) c.roll_back-in-Ok-face_of.ensures.kept
-    (c.roll_back-in-Ok-face_of.ensures.forest (forest c.args.work.now.pool) (old_below (c.open_mark-mark.ensures.trees c.requires.ready.stands) (front_over c.in-Ok.ensures.ok.gives c.face_of.ensures.front)))).as_before
-
-pub returns-in-Err-face_of-clause-counted : goal.returns-in-Err-face_of-clause-counted
-returns-in-Err-face_of-clause-counted c = (rolled_back (Some c.in-Err-face_of.full) c.args.work.now.pool c.face_of.new.pool c.roll_back-in-Err-face_of.new.pool c.requires.ready.stands c.roll_back-in-Err-face_of.ensures.stands (refuses_after _ _ _ _ c.in-Ok.ensures.ok.kept c.in-Err-face_of.ensures.refused) c.roll_back-in-Err-face_of.ensures.kept
-    (c.roll_back-in-Err-face_of.ensures.forest (forest c.args.work.now.pool) (old_below (c.open_mark-mark.ensures.trees c.requires.ready.stands) (front_over c.in-Ok.ensures.ok.gives c.face_of.ensures.front)))).counted
-
-pub returns-in-Err-face_of-clause-as_before : goal.returns-in-Err-face_of-clause-as_before
-returns-in-Err-face_of-clause-as_before c = (rolled_back (Some c.in-Err-face_of.full) c.args.work.now.pool c.face_of.new.pool c.roll_back-in-Err-face_of.new.pool c.requires.ready.stands c.roll_back-in-Err-face_of.ensures.stands (refuses_after _ _ _ _ c.in-Ok.ensures.ok.kept c.in-Err-face_of.ensures.refused) c.roll_back-in-Err-face_of.ensures.kept
-    (c.roll_back-in-Err-face_of.ensures.forest (forest c.args.work.now.pool) (old_below (c.open_mark-mark.ensures.trees c.requires.ready.stands) (front_over c.in-Ok.ensures.ok.gives c.face_of.ensures.front)))).as_before
+pub returns-in-Err-face_of-clause-undone : goal.returns-in-Err-face_of-clause-undone
+returns-in-Err-face_of-clause-undone c = rolled_back (Some c.in-Err-face_of.full) c.args.work.now.pool c.face_of.new.pool c.roll_back-in-Err-face_of.new.pool c.requires.ready.stands c.roll_back-in-Err-face_of.ensures.stands (refuses_after _ _ _ _ c.in-Ok.ensures.ok.kept c.in-Err-face_of.ensures.refused) c.roll_back-in-Err-face_of.ensures.kept
+    (c.roll_back-in-Err-face_of.ensures.forest (forest c.args.work.now.pool) (old_below (c.open_mark-mark.ensures.trees c.requires.ready.stands) (front_over c.in-Ok.ensures.ok.gives c.face_of.ensures.front)))

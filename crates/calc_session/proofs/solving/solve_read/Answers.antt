@@ -1,4 +1,4 @@
-use Rattle.std.proofs.Common.{◌≡◌, ◌∙◌, length, refl, sym, ap, subst, arith}
+use Rattle.std.proofs.Common.{rules, ◌≡◌, ◌∙◌, length, refl, sym, ap, subst, arith}
 use Rattle.std.specs.Prelude.{All}
 use Rattle.calc_session.proofs.Shared.{states, equations_in, values, flatten, free_of, IsExpression, forest, CountsRefusal, keeps_after, reason_of, refusal_in, Become, are_made, are_not_made}
 use Rattle.calc_session.proofs.{PoolLemmas.{old_below, still_counted}, SolvingLemmas.{calm_refusal, err_as, ok_as, on_ok}}
@@ -27,17 +27,14 @@ pub returns-in-Ok-clause-as_before : goal.returns-in-Ok-clause-as_before
 returns-in-Ok-clause-as_before g c =
     c.roll_back.ensures.stands.flat ∙ ap flatten (c.roll_back.ensures.forest (forest c.args.pool.now) (old_below (c.open_mark-mark.ensures.trees c.requires.stands) c.build_equations.ensures.front)) ∙ sym c.requires.stands.flat
 
-pub solve_trees-solved-requires-clause-left : goal.solve_trees-solved-requires-clause-left
-solve_trees-solved-requires-clause-left g c = subst (All (λ i. IsExpression i (forest c.build_equations.new.pool))) (sym c.as_slice.ensures.value) c.in-Ok.ensures.roots.left_expressions
-
-pub solve_trees-solved-requires-clause-right : goal.solve_trees-solved-requires-clause-right
-solve_trees-solved-requires-clause-right g c = subst (All (λ i. IsExpression i (forest c.build_equations.new.pool))) (sym c.as_slice-in-Ok.ensures.value) c.in-Ok.ensures.roots.right_expressions
-
-pub solve_trees-solved-requires-clause-pairs : goal.solve_trees-solved-requires-clause-pairs
-solve_trees-solved-requires-clause-pairs g c = ap length c.as_slice-in-Ok.ensures.value ∙ c.in-Ok.ensures.roots.right_many ∙ sym c.in-Ok.ensures.roots.left_many ∙ sym (ap length c.as_slice.ensures.value)
-
-pub solve_trees-solved-requires-clause-few : goal.solve_trees-solved-requires-clause-few
-solve_trees-solved-requires-clause-few g c = omega (arith, ap length c.as_slice.ensures.value, c.in-Ok.ensures.roots.left_many, c.requires.few)
+pub solve_trees-solved-requires : goal.solve_trees-solved-requires
+solve_trees-solved-requires g c = record {
+  stands = search rules;
+  left = subst (All (λ i. IsExpression i (forest c.build_equations.new.pool))) (sym c.as_slice.ensures.value) c.in-Ok.ensures.roots.left_expressions;
+  right = subst (All (λ i. IsExpression i (forest c.build_equations.new.pool))) (sym c.as_slice-in-Ok.ensures.value) c.in-Ok.ensures.roots.right_expressions;
+  pairs = ap length c.as_slice-in-Ok.ensures.value ∙ c.in-Ok.ensures.roots.right_many ∙ sym c.in-Ok.ensures.roots.left_many ∙ sym (ap length c.as_slice.ensures.value);
+  few = omega (arith, ap length c.as_slice.ensures.value, c.in-Ok.ensures.roots.left_many, c.requires.few);
+}
 
 pub returns-in-Ok-clause-solved : goal.returns-in-Ok-clause-solved
 returns-in-Ok-clause-solved g c = λ es reads.

@@ -1,4 +1,4 @@
-use Rattle.std.proofs.Common.{◌≡◌, ◌∙◌, ◌++◌, ℕ, List, refl, sym, ap, length, subst, arith}
+use Rattle.std.proofs.Common.{rules, ◌≡◌, ◌∙◌, ◌++◌, ℕ, List, refl, sym, ap, length, subst, arith}
 use Rattle.calc_session.proofs.{Shared.{IsWritable, text, Content, plain, Forest, Gives, tree_of, tree_at, forest, given_told, Tells, HasFace}, EvaluationLemmas.{gives_told}}
 use Rattle.calc_session.proofs.{SessionLemmas.{face_expression, face_room, face_tree}, telling.tell.Goals.{After-id}}
 use Rattle.calc_session.specs.declared.answers.LineAnswer.TheVariants as answer
@@ -14,21 +14,18 @@ itself c = let (others, g) = face c in (others, gives_told (λ t. t ≡ tree_of 
 same : (c : After-id) → plain (tree_at c.id.result (forest c.args.pool.now)) ≡ tree_of c.in-Face.face c.args.pool.now
 same c = let (others, g) = itself c in face_tree c.args.pool.now others c.in-Face.face c.id.result (tree_of c.in-Face.face c.args.pool.now) c.requires.stands g c.id.ensures
 
-pub write_text-requires-clause-expression : goal.write_text-requires-clause-expression
-write_text-requires-clause-expression c =
-    let (others, g) = itself (goal.at.write_text-requires-clause-expression c).After-id in
-    face_expression c.args.pool.now others c.in-Face.face c.id.result (tree_of c.in-Face.face c.args.pool.now) c.requires.stands g c.id.ensures
-
-pub write_text-requires-clause-writable : goal.write_text-requires-clause-writable
-write_text-requires-clause-writable c =
-    let here = (goal.at.write_text-requires-clause-writable c).After-id in
-    let (others, g) = face here in
-    subst IsWritable (sym (same here)) (given_told g)
-
-pub write_text-requires-clause-room : goal.write_text-requires-clause-room
-write_text-requires-clause-room c =
-    let (others, g) = itself (goal.at.write_text-requires-clause-room c).After-id in
-    omega (arith, face_room c.args.pool.now others c.in-Face.face c.id.result (tree_of c.in-Face.face c.args.pool.now) c.requires.stands g c.id.ensures, c.requires.room, ap length c.requires.empty)
+pub write_text-requires : goal.write_text-requires
+write_text-requires c =
+    let (others, g) = itself (goal.at.write_text-requires c).After-id in
+    record {
+      stands = search rules;
+      expression = face_expression c.args.pool.now others c.in-Face.face c.id.result (tree_of c.in-Face.face c.args.pool.now) c.requires.stands g c.id.ensures;
+      writable =
+          let here = (goal.at.write_text-requires c).After-id in
+          let (others, g) = face here in
+          subst IsWritable (sym (same here)) (given_told g);
+      room = omega (arith, face_room c.args.pool.now others c.in-Face.face c.id.result (tree_of c.in-Face.face c.args.pool.now) c.requires.stands g c.id.ensures, c.requires.room, ap length c.requires.empty);
+    }
 
 pub returns-in-Face-clause-told : goal.returns-in-Face-clause-told
 returns-in-Face-clause-told c =

@@ -1,4 +1,4 @@
-use Rattle.std.proofs.{lemmas.Bool.{both_ways}, Common.{arith, ◌≡◌, ◌∙◌, ◌+◌, ◌≤◌, ℕ, None, false, inl, inr, refl, sym, ap, subst}}
+use Rattle.std.proofs.{lemmas.Bool.{both_ways}, Common.{rules, arith, ◌≡◌, ◌∙◌, ◌+◌, ◌≤◌, ℕ, None, false, inl, inr, refl, sym, ap, subst}}
 use Rattle.calc_session.proofs.Shared.{states, name_of, size, HasDerivative, derivative, free_of, tree_of, Gives, without_root, forest, KeepsRefusals, keeps_after, given_handed, given_other}
 use Rattle.calc_session.proofs.Shared.{given_rest, given_told, gives_as, owned, Refusal, refusal_of_evaluation, reason_of, reply_of, IsReplyToDerivative, LacksDerivative, has_none, refusal_in}
 use Rattle.calc_session.proofs.{Shared.{reported}, CountingLemmas.{none_known, none_short}, DerivingLemmas.{beside_released, comes_reduced, front_beside, over}, EvaluationLemmas.{calm_refused}}
@@ -120,26 +120,22 @@ lacks g c =
     subst (λ t. LacksDerivative x (free_of c.args.work.now.pool) t c.in-Err.full) (seen c.id-id.ensures c.requires.ready.stands (given_handed c.requires.last))
     (record { derivable = c.has_derivative.ensures.0 c.if-not-has_derivative.false; short = over _ _ (λ fits. both_ways false refl (c.in-Err.ensures.exactly.1 fits)); refusal_is = c.in-Err.ensures.full })
 
-pub returns-in-Err-clause-reply : goal.returns-in-Err-clause-reply
-returns-in-Err-clause-reply g c =
+pub returns-in-Err : goal.returns-in-Err
+returns-in-Err g c =
     let before = states g.B.Breaker.state c.args.watch.now in
     let t = tree_of c.args.tree c.args.work.now.pool in
-    subst (λ (r : Refusal). IsReplyToDerivative g.R.Reducer.room g.R.Reducer.bits (free_of c.args.work.now.pool + size t) before before (name_of c.args.self.now.name) (free_of c.args.work.now.pool) t (reported (reply_of r))) (sym c.refused.ensures)
-    (lacks_bytes (lacks g (goal.at.returns-in-Err-clause-reply g c).After-refused) refl)
-
-pub returns-in-Err-clause-interrupted : goal.returns-in-Err-clause-interrupted
-returns-in-Err-clause-interrupted g c = calm_refused c.refused.result (states g.B.Breaker.state c.args.watch.now) (λ place e. full_interrupts_none c.refused.result _ _ place c.refused.ensures e)
-
-pub returns-in-Err-clause-counted : goal.returns-in-Err-clause-counted
-returns-in-Err-clause-counted g c = inr (
-  c.in-Err.full,
-  ap (λ r. refusal_in (reason_of r)) c.refused.ensures,
-  lacks g (goal.at.returns-in-Err-clause-counted g c).After-refused,
-  subst (λ p. KeepsRefusals c.args.work.now.pool p) (sym c.in-Err.ensures.unchanged) (record { size = refl; refusals = refl; last_refused = refl }),
-)
-
-pub returns-in-Err-clause-size : goal.returns-in-Err-clause-size
-returns-in-Err-clause-size g c = ap (λ (p : State). p.size) c.in-Err.ensures.unchanged
-
-pub returns-in-Err-clause-front : goal.returns-in-Err-clause-front
-returns-in-Err-clause-front g c = record { keeps = λ first starts apart. c.derive.ensures.front.keeps first starts tt }
+    record {
+      reply =
+          subst (λ (r : Refusal). IsReplyToDerivative g.R.Reducer.room g.R.Reducer.bits (free_of c.args.work.now.pool + size t) before before (name_of c.args.self.now.name) (free_of c.args.work.now.pool) t (reported (reply_of r))) (sym c.refused.ensures)
+          (lacks_bytes (lacks g (goal.at.returns-in-Err g c).After-refused) refl);
+      interrupted = calm_refused c.refused.result (states g.B.Breaker.state c.args.watch.now) (λ place e. full_interrupts_none c.refused.result _ _ place c.refused.ensures e);
+      counted = inr (
+        c.in-Err.full,
+        ap (λ r. refusal_in (reason_of r)) c.refused.ensures,
+        lacks g (goal.at.returns-in-Err g c).After-refused,
+        subst (λ p. KeepsRefusals c.args.work.now.pool p) (sym c.in-Err.ensures.unchanged) (record { size = refl; refusals = refl; last_refused = refl }),
+      );
+      front = record { keeps = λ first starts apart. c.derive.ensures.front.keeps first starts tt };
+      size = ap (λ (p : State). p.size) c.in-Err.ensures.unchanged;
+      ready = search rules;
+    }

@@ -1,8 +1,9 @@
-use Rattle.std.proofs.Common.{None, ◌≡◌, ◌∙◌, ◌++◌, ℕ, List, length, ap, refl, sym, subst, arith, ◌*◌, ◌+◌}
+use Rattle.std.proofs.Common.{rules, None, ◌≡◌, ◌∙◌, ◌++◌, ℕ, List, length, ap, refl, sym, subst, arith, ◌*◌, ◌+◌}
 use Rattle.calc_session.proofs.Shared.{states, text, IsWritable, tokens_of, Content, IsHeld, IsKeepable, name_in, plain, tree_at, forest, given_rest, gives_as, with_answer, is_no_line, state_in}
-use Rattle.calc_session.proofs.{Shared.{refusal_in, reason_of}, PoolLemmas.{IsRolledBack, kept_but, old_below, rolled_back}, SessionLemmas.{answers_face, answers_refusal, answers_undefined}}
+use Rattle.calc_session.proofs.{Shared.{refusal_in, reason_of}, PoolLemmas.{kept_but, old_below, rolled_back}, SessionLemmas.{answers_face, answers_refusal, answers_undefined}}
 use Rattle.calc_session.proofs.{SessionLemmas.{answers_unstorable, answers_vain, calm_refusal, face_expression, face_room, face_tree, leaves_answer}, parts.Parts.answer_text.Goals.{After-roll_back}}
 use Rattle.calc_session.proofs.parts.Parts.answer_text.Goals.{After-roll_back-in-Refused}
+use Rattle.calc_session.specs.Pools.{IsRolledBack}
 use Rattle.calc_session.proofs.parts.Parts.answer_text.Goals as goal
 
 pub read_text-requires : goal.read_text-requires
@@ -11,23 +12,16 @@ read_text-requires g c = let short = c.requires.text.short in omega (arith, shor
 pub evaluate-requires-clause-line : goal.evaluate-requires-clause-line
 evaluate-requires-clause-line g c = let (t, r) = c.in-Ok.ensures.tree in (t, (name_in c.in-Ok.store, r.line-is))
 
-pub write_text-requires-clause-expression : goal.write_text-requires-clause-expression
-write_text-requires-clause-expression g c =
+pub write_text-requires : goal.write_text-requires
+write_text-requires g c =
     let (t, r) = c.in-Ok.ensures.tree in
     let (u, is, keepable, gives) = c.in-Face.ensures.reply t (name_in c.in-Ok.store, r.line-is) in
-    face_expression c.evaluate.new.self.work.pool (forest c.args.self.now.work.pool) c.in-Face.face c.id.result u c.evaluate.ensures.ready.stands gives c.id.ensures
-
-pub write_text-requires-clause-writable : goal.write_text-requires-clause-writable
-write_text-requires-clause-writable g c =
-    let (t, r) = c.in-Ok.ensures.tree in
-    let (u, is, keepable, gives) = c.in-Face.ensures.reply t (name_in c.in-Ok.store, r.line-is) in
-    subst IsWritable (sym (face_tree c.evaluate.new.self.work.pool (forest c.args.self.now.work.pool) c.in-Face.face c.id.result u c.evaluate.ensures.ready.stands gives c.id.ensures)) keepable.writable
-
-pub write_text-requires-clause-room : goal.write_text-requires-clause-room
-write_text-requires-clause-room g c =
-    let (t, r) = c.in-Ok.ensures.tree in
-    let (u, is, keepable, gives) = c.in-Face.ensures.reply t (name_in c.in-Ok.store, r.line-is) in
-    omega (arith, face_room c.evaluate.new.self.work.pool (forest c.args.self.now.work.pool) c.in-Face.face c.id.result u c.evaluate.ensures.ready.stands gives c.id.ensures, c.requires.kept.room, ap (λ (x : Content). x.capacity) c.evaluate.ensures.text, c.in-Face.ensures.counted.size, ap (λ (x : Content). length x.bytes) c.evaluate.ensures.text, ap length c.requires.empty)
+    record {
+      stands = search rules;
+      expression = face_expression c.evaluate.new.self.work.pool (forest c.args.self.now.work.pool) c.in-Face.face c.id.result u c.evaluate.ensures.ready.stands gives c.id.ensures;
+      writable = subst IsWritable (sym (face_tree c.evaluate.new.self.work.pool (forest c.args.self.now.work.pool) c.in-Face.face c.id.result u c.evaluate.ensures.ready.stands gives c.id.ensures)) keepable.writable;
+      room = omega (arith, face_room c.evaluate.new.self.work.pool (forest c.args.self.now.work.pool) c.in-Face.face c.id.result u c.evaluate.ensures.ready.stands gives c.id.ensures, c.requires.kept.room, ap (λ (x : Content). x.capacity) c.evaluate.ensures.text, c.in-Face.ensures.counted.size, ap (λ (x : Content). length x.bytes) c.evaluate.ensures.text, ap length c.requires.empty);
+    }
 
 pub keep-requires-clause-held : goal.keep-requires-clause-held
 keep-requires-clause-held g c =

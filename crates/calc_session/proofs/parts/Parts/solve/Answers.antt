@@ -1,4 +1,4 @@
-use Rattle.std.proofs.Common.{◌∙◌, ◌<◌, ℕ, List, length, map, take, refl, sym, ap, subst, arith}
+use Rattle.std.proofs.Common.{rules, ◌∙◌, ◌<◌, ℕ, List, length, map, take, refl, sym, ap, subst, arith}
 use Rattle.std.specs.Prelude.{All}
 use Rattle.calc_session.proofs.Shared.{length-map, name_of, answer_told, names_listed, Rises, solution_text, AllZip, states, Equation, Content, used, free_of, form_room, EquationRange, CountsRefusal}
 use Rattle.calc_session.proofs.Shared.{IsWithin, pieces_at, IsReplyToEquations, ReadsEquation, report, state_in, forest, forest_of, held_entries, reason_of, refusal_in}
@@ -11,17 +11,14 @@ use Rattle.calc_session.proofs.parts.Parts.solve.Goals as goal
 pub solve_read-solved-requires-clause-entries : goal.solve_read-solved-requires-clause-entries
 solve_read-solved-requires-clause-entries g c = held_entries c.args.self.now.table (forest c.args.self.now.work.pool) c.requires.kept.held
 
-pub returns-in-Err-clause-told : goal.returns-in-Err-clause-told
-returns-in-Err-clause-told g c = rw (← c.bytes_before-before.ensures) (c.in-Err.ensures.refused (state_in c.args.self.now) (states g.B.Breaker.state c.args.watch.now), c.requires.empty)
-
-pub returns-in-Err-clause-kept : goal.returns-in-Err-clause-kept
-returns-in-Err-clause-kept g c = record { ready = c.requires.kept.ready; held = c.requires.kept.held; room = c.requires.kept.room; served = c.requires.kept.served }
-
-pub returns-in-Err-clause-interrupted : goal.returns-in-Err-clause-interrupted
-returns-in-Err-clause-interrupted g c = calm_told (answer.Refused c.in-Err.refusal) (states g.B.Breaker.state c.args.watch.now) (states g.B.Breaker.state c.args.watch.now) (refusal_uninterrupted c.in-Err.refusal c.in-Err.ensures.no_breaker) (none_rose (states g.B.Breaker.state c.args.watch.now))
-
-pub returns-in-Err-clause-counted : goal.returns-in-Err-clause-counted
-returns-in-Err-clause-counted g c = subst (λ r. CountsRefusal r c.args.self.now.work.pool c.args.self.now.work.pool) (sym c.in-Err.ensures.no_pool) (record { size = refl; refusals = refl; last_refused = refl })
+pub returns-in-Err : goal.returns-in-Err
+returns-in-Err g c = record {
+  told = rw (← c.bytes_before-before.ensures) (c.in-Err.ensures.refused (state_in c.args.self.now) (states g.B.Breaker.state c.args.watch.now), c.requires.empty);
+  interrupted = calm_told (answer.Refused c.in-Err.refusal) (states g.B.Breaker.state c.args.watch.now) (states g.B.Breaker.state c.args.watch.now) (refusal_uninterrupted c.in-Err.refusal c.in-Err.ensures.no_breaker) (none_rose (states g.B.Breaker.state c.args.watch.now));
+  counted = subst (λ r. CountsRefusal r c.args.self.now.work.pool c.args.self.now.work.pool) (sym c.in-Err.ensures.no_pool) (record { size = refl; refusals = refl; last_refused = refl });
+  same = search rules;
+  kept = record { ready = c.requires.kept.ready; held = c.requires.kept.held; room = c.requires.kept.room; served = c.requires.kept.served };
+}
 
 pub solve_read-solved-requires-clause-within : goal.solve_read-solved-requires-clause-within
 solve_read-solved-requires-clause-within g c = subst (All (IsWithin c.args.text.now)) (sym c.as_slice.ensures.value) c.in-Ok.ensures.split.within

@@ -14,5 +14,5 @@ draw_answer-drawn-requires-clause-served g c = omega (arith, c.self.invariant.se
 pub invariant_of-self : goal.invariant_of-self
 invariant_of-self g c =
     let drawn = c.draw_answer-drawn.ensures in
-    kept_but _ c.self.inside.parts _ c.self.invariant (record { stands = drawn.stands; lists = omega (arith, c.self.invariant.ready.lists, size_kept _ _ _ drawn.counted) }) drawn.as_before refl
+    kept_but _ c.self.inside.parts _ c.self.invariant (record { stands = drawn.stands; lists = omega (arith, c.self.invariant.ready.lists, size_kept _ _ _ drawn.undone.counted) }) drawn.undone.as_before refl
     (ap (λ (x : Content). x.capacity) c.clear-2.ensures ∙ drawn.capacity ∙ ap (λ (x : Content). x.capacity) c.clear.ensures) drawn.served
