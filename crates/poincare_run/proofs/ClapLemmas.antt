@@ -188,14 +188,10 @@ walked_is rows p positional word = refl
 -- ---- the words that begin an option
 
 name_turn : (key : Key) (rows : List Row) (p : Option (Text × List Text)) (q : Waiting) → turn_fault shape [] (state rows p q) (name_of key) ≡ or_else (settle_fault four false (held rows p)) []
-name_turn Pool rows p q = turn_is rows p q (codes "--pool")
-name_turn Interrupt rows p q = turn_is rows p q (codes "--interrupt")
-name_turn Generated rows p q = turn_is rows p q (codes "--gen")
+name_turn key rows p q = grind (arith, turn_is)
 
 name_walk : (key : Key) (rows : List Row) (p : Option (Text × List Text)) (q : Waiting) → walked four [] (state rows p q) (name_of key) ≡ walk_at (settle rows p) (awaits key)
-name_walk Pool rows p q = walked_is rows p q (codes "--pool")
-name_walk Interrupt rows p q = walked_is rows p q (codes "--interrupt")
-name_walk Generated rows p q = walked_is rows p q (codes "--gen")
+name_walk key rows p q = grind (arith, walked_is)
 
 whole_turn : (s : Setting) (rows : List Row) (p : Option (Text × List Text)) (q : Waiting) → turn_fault shape [] (state rows p q) (word_of s)
     ≡ or_else (or_else (settle_fault four false (held rows p)) (use_fault false (rule_of s) (texts_in s) (settle rows p))) []

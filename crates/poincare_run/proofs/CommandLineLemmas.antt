@@ -16,12 +16,10 @@ use Rattle.clap.specs.declared.error.kind.ErrorKind.TheVariants as kind
 -- ---- defaults
 
 has_default : (b : Bool) (k : Kinds) → (if b || true then [] else k) ≡ []
-has_default true k = refl
-has_default false k = refl
+has_default b k = grind arith
 
 has_fair_default : (b : Bool) → ◌≡◌ {A = Kinds} (if b || false then [] else []) []
-has_fair_default true = refl
-has_fair_default false = refl
+has_fair_default b = grind arith
 
 default_passes : (key : Key) (rows : List Row) → default_fault rows (rule_for key) ≡ []
 default_passes key rows = has_default (has_row (id_of key) rows) _
@@ -36,8 +34,7 @@ defaults_pass rows =
     ap₂ or_else (default_passes Pool rows) (ap₂ or_else (default_passes Interrupt second) (ap₂ or_else (default_passes Generated third) (ap₂ or_else (has_fair_default (has_row (codes "draw") fourth)) refl)))
 
 same_rows : (b : Bool) (rows : List Row) → (if b then rows else rows) ≡ rows
-same_rows true rows = refl
-same_rows false rows = refl
+same_rows b rows = grind arith
 
 -- `--draw` alone has a default
 defaults_are : (rows : List Row) → fold with_default rows four ≡ with_default rows draw_rule
@@ -188,10 +185,7 @@ draws_once ss once = rw (counted_draws ss) at (once None)
 -- three numbers and whether it is drawn are the values
 parts_of : (p i g : Option (Option ℕ)) (d : Bool) (w : Values) → option_and_then (λ a. option_and_then (λ b. option_map (λ c. record { pool = a; interrupt = b; generated = c; draw = d }) g) i) p ≡ Some w
     → (p ≡ Some w.pool) × (i ≡ Some w.interrupt) × (g ≡ Some w.generated) × (d ≡ w.draw)
-parts_of None i g d w e = absurd cc
-parts_of (Some a) None g d w e = absurd cc
-parts_of (Some a) (Some b) None d w e = absurd cc
-parts_of (Some a) (Some b) (Some c) d w e = grind arith
+parts_of p i g d w e = grind arith
 
 follow : (ss : List Setting) (w : Values) → Once (rows_for ss) → given_by ss ≡ Some w → Follows no_values ss w
 follow ss w once e = grind (arith, parts_of, number_joined, texts_once, draw_joined, draws_once)

@@ -349,9 +349,7 @@ exchanged words other before behind s t o sp sq e =
     })
 
 pub same_options : {X : Type 0} (a b : Option X) → ((o : X) → a ≡ Some o → b ≡ Some o) → ((o : X) → b ≡ Some o → a ≡ Some o) → b ≡ a
-same_options None None there back = refl
-same_options None (Some o) there back = sym (back o refl)
-same_options (Some o) b there back = there o refl
+same_options a b there back = grind arith
 
 pub order_is_free : OrderIsFree
 order_is_free words other before behind s t sp sq =

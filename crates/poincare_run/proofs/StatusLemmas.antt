@@ -1,5 +1,5 @@
 -- Lemmas on the status of the program, and what it says.
-use Rattle.std.proofs.Common.{◌≡◌, ◌≢◌, ◌∙◌, ◌⊎◌, ℕ, ◌≤◌, List, [], ◌∷◌, ◌++◌, length, Bool, Option, Some, None, Contains, inl, inr, refl, sym, ap, arith, length-append}
+use Rattle.std.proofs.Common.{subst, ◌≡◌, ◌≢◌, ◌∙◌, ◌⊎◌, ℕ, ◌≤◌, List, [], ◌∷◌, ◌++◌, length, Bool, Option, Some, None, Contains, inl, inr, refl, sym, ap, arith, length-append}
 use Rattle.poincare_run.proofs.Shared.{append_cancel_right, Consumes, State, Beginning, reads, generates, IfReads, IfGenerates, Moment, session_limit, ReadsAll, ReadsPart, ReadsLimit, WriteStops}
 use Rattle.poincare_run.proofs.Shared.{SumsUp, SumsUpInPart, EndsAs, EndsFrom, IfNoMemory, IsSummed, StopsReading, StopsWriting, SumsUpAs, status}
 use Rattle.calc_edges.specs.{Faults.{IsCalm, Rose, StopsAtFailure}, declared.failures.Failures.{Failures}}
@@ -30,50 +30,28 @@ is_status WriteFailed = (3, omega arith, refl)
 is_status LimitReached = (5, omega arith, refl)
 is_status NoMemory = (4, omega arith, refl)
 
+same_ending : (a b : Ending) → status a ≡ status b → a ≡ b
+same_ending a b e = grind arith
+
 pub no_usage : (ending : Ending) → status ending ≡ 2 → ⊥
-no_usage ReadToEnd e = omega arith
-no_usage ReadFailed e = omega arith
-no_usage WriteFailed e = omega arith
-no_usage LimitReached e = omega arith
-no_usage NoMemory e = omega arith
+no_usage ending e = grind arith
 
 -- what holds where there was no memory
 pub early : (ending : Ending) (P : Type 0) → (status ending ≡ 2) ⊎ (status ending ≡ 5) → IfNoMemory ending P → P
-early ending P (inl e) h = absurd (no_usage ending e)
-early ReadToEnd P (inr e) h = absurd (omega arith)
-early ReadFailed P (inr e) h = absurd (omega arith)
-early WriteFailed P (inr e) h = absurd (omega arith)
-early LimitReached P (inr e) h = absurd (omega arith)
-early NoMemory P (inr e) h = h
+early ending P e h = grind arith
 
 module _ (start : Moment) (t t' k k' : Option (List ℕ)) where
   pub all_read : (ending : Ending) → EndsAs ending start t t' k k' → status ending ≡ 0 → ReadsAll start t t' k k'
-  all_read ReadToEnd h e = h
-  all_read ReadFailed h e = absurd (omega arith)
-  all_read WriteFailed h e = absurd (omega arith)
-  all_read LimitReached h e = absurd (omega arith)
-  all_read NoMemory h e = absurd (omega arith)
+  all_read ending h e = subst (λ (x : Ending). EndsAs x start t t' k k') (same_ending ending ReadToEnd e) h
 
   pub read_in_part : (ending : Ending) → EndsAs ending start t t' k k' → status ending ≡ 3 → ReadsPart start t t' k k'
-  read_in_part ReadToEnd h e = absurd (omega arith)
-  read_in_part ReadFailed h e = h
-  read_in_part WriteFailed h e = absurd (omega arith)
-  read_in_part LimitReached h e = absurd (omega arith)
-  read_in_part NoMemory h e = absurd (omega arith)
+  read_in_part ending h e = subst (λ (x : Ending). EndsAs x start t t' k k') (same_ending ending ReadFailed e) h
 
   pub written_in_part : (ending : Ending) → EndsAs ending start t t' k k' → status ending ≡ 4 → WriteStops start t t' k k'
-  written_in_part ReadToEnd h e = absurd (omega arith)
-  written_in_part ReadFailed h e = absurd (omega arith)
-  written_in_part WriteFailed h e = h
-  written_in_part LimitReached h e = absurd (omega arith)
-  written_in_part NoMemory h e = absurd (omega arith)
+  written_in_part ending h e = subst (λ (x : Ending). EndsAs x start t t' k k') (same_ending ending WriteFailed e) h
 
   pub limit_reached : (ending : Ending) → EndsAs ending start t t' k k' → status ending ≡ 6 → ReadsLimit start t t' k k'
-  limit_reached ReadToEnd h e = absurd (omega arith)
-  limit_reached ReadFailed h e = absurd (omega arith)
-  limit_reached WriteFailed h e = absurd (omega arith)
-  limit_reached LimitReached h e = h
-  limit_reached NoMemory h e = absurd (omega arith)
+  limit_reached ending h e = subst (λ (x : Ending). EndsAs x start t t' k k') (same_ending ending LimitReached e) h
 
   pub within_limit : (ending : Ending) → EndsAs ending start t t' k k' → (input rest : List ℕ) → t ≡ Some (input ++ rest) → t' ≡ Some rest
       → (length input ≤ session_limit) × (length input ≡ session_limit → (status ending ≡ 6) ⊎ (status ending ≡ 4))
@@ -95,32 +73,16 @@ module _ (start : Moment) (t t' k k' : Option (List ℕ)) where
 
 module _ {X : Type 0} (bytes : X → Option (List ℕ)) (faults : X → Failures) (old new : X) where
   pub read_stops : (ending : Ending) → StopsReading ending bytes faults old new → status ending ≡ 3 → StopsAtFailure bytes faults old new
-  read_stops ReadToEnd h e = absurd (omega arith)
-  read_stops ReadFailed h e = h
-  read_stops WriteFailed h e = absurd (omega arith)
-  read_stops LimitReached h e = absurd (omega arith)
-  read_stops NoMemory h e = absurd (omega arith)
+  read_stops ending h e = grind arith
 
   pub reads_calm : (ending : Ending) → StopsReading ending bytes faults old new → status ending ≢ 3 → IsCalm (faults old) (faults new)
-  reads_calm ReadToEnd h e = h
-  reads_calm ReadFailed h e = absurd (e refl)
-  reads_calm WriteFailed h e = h
-  reads_calm LimitReached h e = h
-  reads_calm NoMemory h e = h
+  reads_calm ending h e = grind arith
 
   pub write_stops : (ending : Ending) → StopsWriting ending bytes faults old new → status ending ≡ 4 → StopsAtFailure bytes faults old new
-  write_stops ReadToEnd h e = absurd (omega arith)
-  write_stops ReadFailed h e = absurd (omega arith)
-  write_stops WriteFailed h e = h
-  write_stops LimitReached h e = absurd (omega arith)
-  write_stops NoMemory h e = absurd (omega arith)
+  write_stops ending h e = grind arith
 
   pub writes_calm : (ending : Ending) → StopsWriting ending bytes faults old new → status ending ≢ 4 → IsCalm (faults old) (faults new)
-  writes_calm ReadToEnd h e = h
-  writes_calm ReadFailed h e = h
-  writes_calm WriteFailed h e = absurd (e refl)
-  writes_calm LimitReached h e = h
-  writes_calm NoMemory h e = h
+  writes_calm ending h e = grind arith
 
   pub stopped_rose : StopsAtFailure bytes faults old new → Rose (faults old) (faults new)
   stopped_rose h = grind (arith, h.calm, h.once)
@@ -129,26 +91,14 @@ module _ {X : Type 0} (bytes : X → Option (List ℕ)) (faults : X → Failures
 
 module _ (start : Moment) (number : ℕ) (k k' : Option (List ℕ)) where
   pub summed_up : (ending : Ending) → SumsUpAs ending start number k k' → status ending ≡ 0 → SumsUp start number k k'
-  summed_up ReadToEnd h e = h
-  summed_up ReadFailed h e = absurd (omega arith)
-  summed_up WriteFailed h e = absurd (omega arith)
-  summed_up LimitReached h e = absurd (omega arith)
-  summed_up NoMemory h e = absurd (omega arith)
+  summed_up ending h e = subst (λ (x : Ending). SumsUpAs x start number k k') (same_ending ending ReadToEnd e) h
 
   pub summed_up_in_part : (ending : Ending) → SumsUpAs ending start number k k' → status ending ≡ 4 → SumsUpInPart start number k k'
-  summed_up_in_part ReadToEnd h e = absurd (omega arith)
-  summed_up_in_part ReadFailed h e = absurd (omega arith)
-  summed_up_in_part WriteFailed h e = h
-  summed_up_in_part LimitReached h e = absurd (omega arith)
-  summed_up_in_part NoMemory h e = absurd (omega arith)
+  summed_up_in_part ending h e = subst (λ (x : Ending). SumsUpAs x start number k k') (same_ending ending WriteFailed e) h
 
 -- a generated session ends in none of the ways of reading
 not_read : (ending : Ending) → IsSummed ending → (status ending ≢ 3) × (status ending ≢ 6)
-not_read ReadToEnd h = (λ e. omega arith, λ e. omega arith)
-not_read ReadFailed h = absurd h
-not_read WriteFailed h = (λ e. omega arith, λ e. omega arith)
-not_read LimitReached h = absurd h
-not_read NoMemory h = (λ e. omega arith, λ e. omega arith)
+not_read ending h = grind arith
 
 module _ (o : Option Beginning) (b : Beginning) (is : o ≡ Some b) (ending : Ending) (t t' k k' : Option (List ℕ)) (h : EndsFrom ending b t t' k k') where
   if_reads : (P : Moment → Type 0) → ((start : Moment) → EndsAs ending start t t' k k' → P start) → IfReads o P
@@ -189,25 +139,13 @@ pub begins_at : (m : Moment) (s : State) (bs : List Breaker) (draws : Bool) → 
 begins_at m s bs draws e f g = grind (arith)
 
 pub never_early : (ending : Ending) (P : Type 0) → IfNoMemory ending ⊥ → IfNoMemory ending P
-never_early ReadToEnd P h = tt
-never_early ReadFailed P h = tt
-never_early WriteFailed P h = tt
-never_early LimitReached P h = tt
-never_early NoMemory P h = absurd h
+never_early ending P h = grind arith
 
 pub early_too : (ending : Ending) (P Q : Type 0) → P → IfNoMemory ending Q → IfNoMemory ending (P × Q)
-early_too ReadToEnd P Q p h = tt
-early_too ReadFailed P Q p h = tt
-early_too WriteFailed P Q p h = tt
-early_too LimitReached P Q p h = tt
-early_too NoMemory P Q p h = (p, h)
+early_too ending P Q p h = grind arith
 
 pub nothing_stops : {X : Type 0} (bytes : X → Option (List ℕ)) (faults : X → Failures) (x : X) (ending : Ending) → IsSummed ending → StopsReading ending bytes faults x x
-nothing_stops bytes faults x ReadToEnd h = refl
-nothing_stops bytes faults x ReadFailed h = absurd h
-nothing_stops bytes faults x WriteFailed h = refl
-nothing_stops bytes faults x LimitReached h = absurd h
-nothing_stops bytes faults x NoMemory h = refl
+nothing_stops bytes faults x ending h = grind arith
 
 pub summed_ends : (start : Moment) (number : ℕ) (t : Option (List ℕ)) (ending : Ending) (k k' : Option (List ℕ)) → SumsUpAs ending start number k k' → IsSummed ending → EndsFrom ending (generates start number) t t k k'
 summed_ends start number t ending k k' sums summed = (sums, refl, summed)

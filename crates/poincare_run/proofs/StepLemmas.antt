@@ -44,18 +44,10 @@ draws_for draws Draw = true
 draws_for draws answer = false
 
 report_undrawn : (draws : Bool) (told : List ℕ) (reply : Reply) → IsReport told reply → is_drawn draws reply ≡ false
-report_undrawn draws told (report text) h = refl
-report_undrawn draws told (forgot x) h = refl
-report_undrawn draws told reply h = absurd h
+report_undrawn draws told reply h = grind arith
 
 drawn_is : (draws : Bool) (answer : LineAnswer) (reply : Reply) → IsAnswer answer reply → is_drawn draws reply ≡ draws_for draws answer
-drawn_is draws Blank reply h = ap (is_drawn draws) h
-drawn_is draws Shown reply h = ap (is_drawn draws) h.1
-drawn_is draws Stored reply h = ap (is_drawn draws) h.2
-drawn_is draws Undef reply h = ap (is_drawn draws) h
-drawn_is draws Report reply h = report_undrawn draws h.0 reply h.1
-drawn_is draws Draw reply h = ap (is_drawn draws) h
-drawn_is draws (Refused r) reply h = ap (is_drawn draws) h
+drawn_is draws answer reply h = grind (arith, report_undrawn)
 
 module _ (old new : Place) (bytes : List ℕ) (answer : LineAnswer) (text : List ℕ) (t : TakesLine old new bytes answer text) where
   written_for : written t.reply new.now ≡ with_newline (printed answer text) ++ picture_if (draws_for new.now.draws answer) new.now.state
@@ -77,13 +69,7 @@ module _ (old new : Place) (bytes : List ℕ) (answer : LineAnswer) (text : List
 -- another answer is written alone
 alone : (answer : LineAnswer) (draws : Bool) (s : State) (text : List ℕ) → (answer ≡ Blank → ⊥) → (answer ≡ Draw → ⊥) → (answer ≡ Shown → ⊥) → (answer ≡ Stored → ⊥)
     → with_newline (printed answer text) ++ picture_if (draws_for draws answer) s ≡ text ++ 10 ∷ []
-alone Blank draws s text b d h k = absurd (b refl)
-alone Shown draws s text b d h k = absurd (h refl)
-alone Stored draws s text b d h k = absurd (k refl)
-alone Undef draws s text b d h k = append-nil (text ++ 10 ∷ [])
-alone Report draws s text b d h k = append-nil (text ++ 10 ∷ [])
-alone Draw draws s text b d h k = absurd (d refl)
-alone (Refused r) draws s text b d h k = append-nil (text ++ 10 ∷ [])
+alone answer draws s text b d h k = grind (arith, append-nil)
 
 pub written_text : (old new : Place) (bytes : List ℕ) (answer : LineAnswer) (text : List ℕ) → (t : TakesLine old new bytes answer text) → (answer ≡ Blank → ⊥) → (answer ≡ Draw → ⊥) → (answer ≡ Shown → ⊥) → (answer ≡ Stored → ⊥) → written t.reply new.now ≡ text ++ 10 ∷ []
 written_text old new bytes answer text t b d h k = written_for old new bytes answer text t ∙ alone answer new.now.draws new.now.state text b d h k

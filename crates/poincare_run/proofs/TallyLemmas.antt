@@ -17,23 +17,13 @@ sort_told Draw = as_other
 sort_told (Refused refusal) = as_refusal
 
 report_sort : (told : List ℕ) (reply : Reply) → IsReport told reply → sort_of reply ≡ as_other
-report_sort told (report text) h = refl
-report_sort told (forgot x) h = refl
-report_sort told reply h = absurd h
+report_sort told reply h = grind arith
 
 pub sort_is : (answer : LineAnswer) (reply : Reply) → IsAnswer answer reply → sort_of reply ≡ sort_told answer
-sort_is Blank reply h = ap sort_of h
-sort_is Shown reply h = ap sort_of h.1
-sort_is Stored reply h = ap sort_of h.2
-sort_is Undef reply h = ap sort_of h
-sort_is Report reply h = report_sort h.0 reply h.1
-sort_is Draw reply h = ap sort_of h
-sort_is (Refused r) reply h = ap sort_of h
+sort_is answer reply h = grind (arith, report_sort)
 
 pub other_told : (answer : LineAnswer) → (answer ≡ Blank) ⊎ ((answer ≡ Report) ⊎ (answer ≡ Draw)) → sort_told answer ≡ as_other
-other_told answer (inl e) = ap sort_told e
-other_told answer (inr (inl e)) = ap sort_told e
-other_told answer (inr (inr e)) = ap sort_told e
+other_told answer e = grind arith
 
 tally_with : (l s o u r b : ℕ) → Tally
 tally_with l s o u r b = record { lines = l; shown = s; stored = o; undefined = u; refused = r; bytes = b }
