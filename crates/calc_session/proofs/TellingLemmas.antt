@@ -25,11 +25,7 @@ told_as Is s others (evaluation.Refused r) given written is (a, b) = rw (a, b) (
 pub tells_as : (Is Now : Reply → Type 0) (given : LineAnswer) (written : List ℕ) → ((r : Reply) → Is r → Now r) → TellsAs Is given written → TellsAs Now given written
 tells_as Is Now answer.Report written to h = to (report written) h
 tells_as Is Now (answer.Refused r) written to h = (to (reply_of r) h.0, h.1)
-tells_as Is Now answer.Blank written to h = absurd h
-tells_as Is Now answer.Shown written to h = absurd h
-tells_as Is Now answer.Stored written to h = absurd h
-tells_as Is Now answer.Undef written to h = absurd h
-tells_as Is Now answer.Draw written to h = absurd h
+tells_as Is Now _ written to h = absurd h
 
 -- a command is answered by what is told
 pub told_command : (room bits : Option (Tree → ℕ)) (s t : State) (before after : List Breaker) (line : List ℕ) (a : Asked) (given : LineAnswer) (written : List ℕ) → t ≡ s → TellsAs (IsTold room bits s before after line a) given written
@@ -37,11 +33,7 @@ pub told_command : (room bits : Option (Tree → ℕ)) (s t : State) (before aft
 unfolding text_of
 told_command room bits s t before after line a answer.Report written same h = record { reply = report written; reply_is = tells h; state_is = same; answer_is = (written, refl); text_is = refl }
 told_command room bits s t before after line a (answer.Refused r) written same h = record { reply = reply_of r; reply_is = refuses h.0; state_is = same; answer_is = refl; text_is = h.1 }
-told_command room bits s t before after line a answer.Blank written same h = absurd h
-told_command room bits s t before after line a answer.Shown written same h = absurd h
-told_command room bits s t before after line a answer.Stored written same h = absurd h
-told_command room bits s t before after line a answer.Undef written same h = absurd h
-told_command room bits s t before after line a answer.Draw written same h = absurd h
+told_command room bits s t before after line a _ written same h = absurd h
 
 -- ---- interruptions
 
