@@ -55,12 +55,6 @@ pub calm_told : (given : LineAnswer) (before checked : List Breaker) → ((place
     → ((given ≡ answer.Refused (refusal.Interrupted place)) ↔ TripsRose before checked place)
 calm_told given before checked h k place = (λ e. absurd (h place e), λ rose. absurd (k place rose))
 
-pub report_uninterrupted : (place : ℕ) → answer.Report ≡ answer.Refused (refusal.Interrupted place) → ⊥
-report_uninterrupted place e = cc
-
-pub draw_uninterrupted : (place : ℕ) → answer.Draw ≡ answer.Refused (refusal.Interrupted place) → ⊥
-draw_uninterrupted place e = cc
-
 refusals_are : (r s : Refusal) → answer.Refused r ≡ answer.Refused s → r ≡ s
 refusals_are r s e = cc
 

@@ -21,9 +21,8 @@ module _ (n : ℕ) (text : List ℕ) where
 
   read_last : (ps : List Pieces) (es : List Equation) (p : Pieces) (e : Equation) → AllZip ReadsEquation ps es → ReadsEquation p e → AllZip ReadsEquation (ps ++ p ∷ []) (es ++ e ∷ [])
   read_last [] [] p e h r = (r, tt)
-  read_last [] (f ∷ es) p e h r = absurd h
-  read_last (q ∷ ps) [] p e h r = absurd h
   read_last (q ∷ ps) (f ∷ es) p e h r = (h.0, read_last ps es p e h.1 r)
+  read_last _ _ p e h r = absurd h
 
   abbrev pub AreReadUpTo : List EquationRange → ℕ → Type 0
   AreReadUpTo rs k = (es : List Equation) × AllZip ReadsEquation (map (pieces_at n text) (take k rs)) es
@@ -37,9 +36,8 @@ module _ (n : ℕ) (text : List ℕ) where
 
   unread_behind : (ps qs : List Pieces) (es : List Equation) (reason : Reason) → AllZip ReadsEquation ps es → IsNoEquation qs reason → IsNoEquation (ps ++ qs) reason
   unread_behind [] qs [] reason h k = k
-  unread_behind [] qs (e ∷ es) reason h k = absurd h
-  unread_behind (p ∷ ps) qs [] reason h k = absurd h
   unread_behind (p ∷ ps) qs (e ∷ es) reason h k = later_unread h.0 (unread_behind ps qs es reason h.1 k)
+  unread_behind _ qs _ reason h k = absurd h
 
   -- the reply where one is not
   pub unread_reply : (old : State) (bs : List Breaker) (rs : List EquationRange) (k : ℕ) (d : EquationRange) (reason : Reason) → AreSplit text rs → AreReadUpTo rs k → k < length rs
@@ -58,6 +56,5 @@ module _ (n : ℕ) (text : List ℕ) where
 
 pub reads_many : (n : ℕ) (text : List ℕ) (rs : List EquationRange) (es : List Equation) → AllZip ReadsEquation (map (pieces_at n text) rs) es → length es ≡ length rs
 reads_many n text [] [] h = refl
-reads_many n text [] (e ∷ es) h = absurd h
-reads_many n text (r ∷ rs) [] h = absurd h
 reads_many n text (r ∷ rs) (e ∷ es) h = ap suc (reads_many n text rs es h.1)
+reads_many n text _ _ h = absurd h

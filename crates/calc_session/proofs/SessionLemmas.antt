@@ -5,7 +5,7 @@ use Rattle.calc_session.proofs.Shared.{TripsRose, Asked, IsCommandLine, text, No
 use Rattle.calc_session.proofs.Shared.{flatten, Gives, tree_at, Stands, forest, flatten-join, has-flatten, given_handed, given_root, given_told, expression_root, plain_root, alone, LineAnswer}
 use Rattle.calc_session.proofs.Shared.{Refusal, answer_to, Answers, AnswersBy, AnswersUntold, IsAnswer, IsTextOf, printed, reason_of, reply_of, IsReplyToCommand, IsUnstorable, ReadsAs, ReadsTree}
 use Rattle.calc_session.proofs.Shared.{Reply, blank, displayed, refusal_in, text_of, undefined, are_blanks, State, state_of, AsksInVain, is_nothing, is_text, is_asked, IsReply, IsReplyToTree}
-use Rattle.calc_session.proofs.{Shared.{asks_in_vain, is_replied, is_evaluated, cannot_be_stored, Leaves, LeavesAnswer}, EvaluationLemmas.{last_bytes, none_rose}}
+use Rattle.calc_session.proofs.{Shared.{asks_in_vain, is_replied, is_evaluated, cannot_be_stored, Leaves, LeavesAnswer}, CommandLemmas.{calm_told, refusal_uninterrupted}, EvaluationLemmas.{last_bytes, none_rose}}
 use Rattle.breakers.specs.State.{State as Breaker}
 use Rattle.node_pool.specs.{Nodes.{AreDistinct}, State.{State as PoolState}}
 use Rattle.node_pool.proofs.Ids.{AreApart, AreDistinct-parts}
@@ -126,26 +126,8 @@ module _ (p : PoolState) (others : Forest) (h id : ℕ) (u : Tree) (st : Stands 
 
 -- ---- answers without checks
 
-calm_answer : (given : LineAnswer) (bs : List Breaker) (place : ℕ) → (given ≡ answer.Refused (refusal.Interrupted place) → ⊥) → ((given ≡ answer.Refused (refusal.Interrupted place)) ↔ TripsRose bs bs place)
-calm_answer given bs place h = (λ e. absurd (h e), λ rose. absurd (none_rose bs place rose))
-
-pub calm_long : (bs : List Breaker) (place : ℕ) → ((answer.Refused refusal.Long ≡ answer.Refused (refusal.Interrupted place)) ↔ TripsRose bs bs place)
-calm_long bs place = calm_answer (answer.Refused refusal.Long) bs place clash
-  where
-    clash : answer.Refused refusal.Long ≡ answer.Refused (refusal.Interrupted place) → ⊥
-    clash e = cc
-
-pub calm_blank : (bs : List Breaker) (place : ℕ) → ((answer.Blank ≡ answer.Refused (refusal.Interrupted place)) ↔ TripsRose bs bs place)
-calm_blank bs place = calm_answer answer.Blank bs place clash
-  where
-    clash : answer.Blank ≡ answer.Refused (refusal.Interrupted place) → ⊥
-    clash e = cc
-
-refused_is : (r s : Refusal) → answer.Refused r ≡ answer.Refused s → r ≡ s
-refused_is r s e = cc
-
 pub calm_refusal : (r : Refusal) (bs : List Breaker) → ((place : ℕ) → r ≡ refusal.Interrupted place → ⊥) → (place : ℕ) → ((answer.Refused r ≡ answer.Refused (refusal.Interrupted place)) ↔ TripsRose bs bs place)
-calm_refusal r bs h place = calm_answer (answer.Refused r) bs place (λ e. h place (refused_is r (refusal.Interrupted place) e))
+calm_refusal r bs h = calm_told (answer.Refused r) bs bs (refusal_uninterrupted r h) (none_rose bs)
 
 pub blank_text : (room bits : Option (Tree → ℕ)) (s t : State) (before after : List Breaker) (line written : List ℕ) (given : LineAnswer) → AnswersUntold room bits s before line given written t after → given ≡ answer.Blank → written ≡ []
 blank_text room bits s t before after line written given a e = subst (λ (x : LineAnswer). IsTextOf x written a.reply) e a.text_is

@@ -1,7 +1,7 @@
 use Rattle.std.proofs.Common.{◌≡◌, ◌∙◌, inl, refl, ap, subst}
 use Rattle.calc_session.proofs.Shared.{states, IsCommandLine, pool, dump, layout, diff, solve, expand, asked_of, pool_report, dump_of, name_of, Content, CountsRefusal, refusal_of_pool, IsTold}
 use Rattle.calc_session.proofs.{Shared.{is_to_be_drawn, layout_reply, serial_in, drawn, report, state_in}, CalculatingLemmas.{equations_within, expression_within, text_within}}
-use Rattle.calc_session.proofs.{CommandLemmas.{calm_told, draw_uninterrupted, report_uninterrupted, written}, CountingLemmas.{counted_as, none_known}, EvaluationLemmas.{none_rose}}
+use Rattle.calc_session.proofs.{CommandLemmas.{calm_told, written}, CountingLemmas.{counted_as, none_known}, EvaluationLemmas.{none_rose}}
 use Rattle.calc_session.proofs.TellingLemmas.{tells_as, told_command}
 use Rattle.calc_commands.specs.{Commands.{after as arms}, declared.command.Command.{Command}}
 use Rattle.calc_session.specs.declared.answers.LineAnswer.TheVariants as answer
@@ -14,7 +14,7 @@ returns-in-Pool g c =
     let told = written c.args.self.now.text c.write_pool_report.new.text (pool_report c.args.self.now.work.pool) c.write_pool_report.ensures c.requires.empty in
     record {
       answers = rw (c.in-Pool.is) (told_command g.R.Reducer.room g.R.Reducer.bits s s before before c.args.line.now pool answer.Report c.write_pool_report.new.text.bytes refl (ap report told, refl));
-      interrupted = calm_told answer.Report before before report_uninterrupted (none_rose before);
+      interrupted = calm_told answer.Report before before (λ place e. cc) (none_rose before);
       counted = inl (tt, record { size = refl; refusals = refl; last_refused = refl });
       kept = record { ready = c.requires.kept.ready; held = c.requires.kept.held; room = ap (λ (x : Content). x.capacity) c.write_pool_report.ensures ∙ c.requires.kept.room; served = c.requires.kept.served };
     }
@@ -26,7 +26,7 @@ returns-in-Dump g c =
     let told = written c.args.self.now.text c.write_dump.new.text (dump_of c.args.self.now.work.pool) c.write_dump.ensures c.requires.empty in
     record {
       answers = rw (c.in-Dump.is) (told_command g.R.Reducer.room g.R.Reducer.bits s s before before c.args.line.now dump answer.Report c.write_dump.new.text.bytes refl (ap report told, refl));
-      interrupted = calm_told answer.Report before before report_uninterrupted (none_rose before);
+      interrupted = calm_told answer.Report before before (λ place e. cc) (none_rose before);
       counted = inl (tt, record { size = refl; refusals = refl; last_refused = refl });
       kept = record { ready = c.requires.kept.ready; held = c.requires.kept.held; room = ap (λ (x : Content). x.capacity) c.write_dump.ensures ∙ c.requires.kept.room; served = c.requires.kept.served };
     }
@@ -48,7 +48,7 @@ returns-in-After g c =
     let s = state_in c.args.self.now in
     record {
       answers = rw (c.in-After.is) (told_command g.R.Reducer.room g.R.Reducer.bits s s before after c.args.line.now (arms c.in-After.checks) answer.Report c.arm.new.text.bytes refl c.arm.ensures.told);
-      interrupted = calm_told answer.Report before after report_uninterrupted c.arm.ensures.no_check;
+      interrupted = calm_told answer.Report before after (λ place e. cc) c.arm.ensures.no_check;
       counted = inl (tt, record { size = refl; refusals = refl; last_refused = refl });
       kept = record { ready = c.requires.kept.ready; held = c.requires.kept.held; room = c.arm.ensures.capacity ∙ c.requires.kept.room; served = c.requires.kept.served };
     }
@@ -58,7 +58,7 @@ returns-in-Draw g c =
     let before = states g.B.Breaker.state c.args.watch.now in
     record {
       answers = rw (c.in-Draw.is) (record { reply = drawn; reply_is = is_to_be_drawn refl; state_is = refl; answer_is = refl; text_is = c.requires.empty });
-      interrupted = calm_told answer.Draw before before draw_uninterrupted (none_rose before);
+      interrupted = calm_told answer.Draw before before (λ place e. cc) (none_rose before);
       counted = inl (tt, record { size = refl; refusals = refl; last_refused = refl });
       kept = c.requires.kept;
     }
