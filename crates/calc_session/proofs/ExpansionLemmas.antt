@@ -6,7 +6,7 @@ use Rattle.calc_session.proofs.Shared.{LacksBytes, Stands, forest, without_root,
 use Rattle.calc_session.proofs.{Shared.{LacksExpansionRoom, is_expanded, reported}, EvaluationLemmas.{first_still, free_same, free_there, last_nodes}, StoredTrees.{named_tree}}
 use Rattle.breakers.specs.State.{State as Breaker}
 use Rattle.calc_measures.specs.Measures.{bits}
-use Rattle.expand_forms.proofs.Defined.{expanded_defined}
+use Rattle.expansions.proofs.Defined.{expanded_defined}
 use Rattle.node_pool.specs.State.{State}
 use Rattle.calc_session.specs.Expanding.{is_interrupted, does_not_fit, lacks_bytes}
 use Rattle.reduce_port.proofs.Leaves.{one_node}

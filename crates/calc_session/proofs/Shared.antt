@@ -46,8 +46,8 @@ pub use Rattle.calc_tokens.proofs.OneScan.{character_or_all, one_list, wide_or_a
 pub use Rattle.calc_tokens.specs.{Placed.{Placed, bare}, Scanned.{AreTokensOf, IsFirstCharacter, IsFirstWide}, Tokens.{tokens_of}}
 pub use Rattle.dual_diff.proofs.Added.{added_begin, added_few, adds_as, adds_first, adds_free, adds_join, adds_more, adds_none, adds_one, adds_over, adds_tree, still_expression, still_plain}
 pub use Rattle.dual_diff.specs.{Derivatives.{HasDerivative, derivative}, Placing.{Adds, AddsAll}}
-pub use Rattle.expand_forms.proofs.ReducedExpansions.{tree_expanded_reduced}
-pub use Rattle.expand_forms.specs.{ExpandedTrees.{expanded}, ExpansionRoom.{expansion_room}, PolynomialTrees.{is_polynomial, polynomial_of}}
+pub use Rattle.expansions.proofs.ReducedExpansions.{tree_expanded_reduced}
+pub use Rattle.expansions.specs.{ExpandedTrees.{expanded}, ExpansionRoom.{expansion_room}, PolynomialTrees.{is_polynomial, polynomial_of}}
 pub use Rattle.line_text.specs.Content.{Content, extended, spare_of}
 pub use Rattle.linear_solve.proofs.Theorem.{forms_are_later, forms_are_many, multipliers_are_many, never_solved, one_from, solved_where}
 unfoldable pub use Rattle.linear_solve.specs.Solving.{solving}

@@ -4,7 +4,7 @@ use Rattle.breakers.specs.{Breakers.{CalmChecks}, State.{State as Breaker}}
 use Rattle.calc_language.specs.{Faces.{face}, Texts.{text}}
 use Rattle.calc_measures.specs.Measures.{bits}
 use Rattle.calc_terms.specs.{Limits.{bits_limit}, Rat.{value_of}, Trees.{Tree, nodes}}
-use Rattle.expand_forms.specs.{ExpandedTrees.{expanded}, ExpansionRoom.{expansion_room}, PolynomialTrees.{is_polynomial, polynomial_of}}
+use Rattle.expansions.specs.{ExpandedTrees.{expanded}, ExpansionRoom.{expansion_room}, PolynomialTrees.{is_polynomial, polynomial_of}}
 use Rattle.node_pool.specs.declared.full.Full.{Full}
 use Rattle.rational128.specs.{Refusals.{operation_of}, declared.overflow.Overflow.{Overflow}}
 use Rattle.reduce_port.specs.Checks.{CalmUpTo, TripsWithin}

@@ -1,10 +1,10 @@
 -- The polynomial of a node over expanded children has the coefficients of that over the children themselves.
-use Rattle.expand_forms.proofs.Shared.{◌≡◌, ◌≢◌, ℕ, zero, suc, [], true, refl, sym, ap, ◌∙◌, subst, arith, negsuc, not, and_parts, eqb-true, Kind, no_zero, zero_test, factor_not_zero}
-use Rattle.expand_forms.proofs.Shared.{product_not_zero, negative_lowest, Fraction, inverse, is_zero_fraction, lowest, minus_one_fraction, negative, one_fraction, times, zero_fraction, Payload}
-use Rattle.expand_forms.proofs.Shared.{rational, named, bare, Tree, num, symbol, power, neg, sub, div, Trees, none, more, count, expanded, Polynomial, constant, raised, scaled, are_polynomials}
-use Rattle.expand_forms.proofs.Shared.{divisor_of, exponent_of, has_polynomial_root, is_divisor, is_exponent, is_polynomial, polynomial_of, product_of, sum_of, AreSame, IsExpanded, IsExpandedFrom}
-use Rattle.expand_forms.proofs.{Shared.{compound, grown, nth, takes, takes_kind, AreAnswers, EachTree}, Expansions.{constant_expanded, is_expanded, same_polynomial}, Numbers.{opposite_whole}}
-use Rattle.expand_forms.proofs.{SameCoefficients.{product_both, same_append, same_refl, scaled_same}, TreeMeanings.{minus_one_times}, TreeMonomials.{tree_monomials}}
+use Rattle.expand_forms.proofs.Shared.{◌≡◌, ◌≢◌, ℕ, [], true, refl, sym, ap, ◌∙◌, subst, arith, negsuc, not, and_parts, eqb-true, Kind, no_zero, zero_test, factor_not_zero, product_not_zero}
+use Rattle.expand_forms.proofs.Shared.{negative_lowest, Fraction, inverse, is_zero_fraction, lowest, minus_one_fraction, negative, one_fraction, times, zero_fraction, Payload, rational, named, bare}
+use Rattle.expand_forms.proofs.Shared.{Tree, num, symbol, power, neg, sub, div, Trees, none, more, count, expanded, constant, raised, scaled, are_polynomials, divisor_of, exponent_of}
+use Rattle.expand_forms.proofs.Shared.{has_polynomial_root, is_divisor, is_exponent, is_polynomial, polynomial_of, product_of, sum_of, AreSame, IsExpanded, IsExpandedFrom, compound, grown, nth, takes}
+use Rattle.expand_forms.proofs.{Shared.{takes_kind, AreAnswers, EachTree}, Expansions.{constant_expanded, is_expanded, same_polynomial}, Numbers.{opposite_whole}}
+use Rattle.expansions.proofs.{SameCoefficients.{product_both, same_append, same_refl, scaled_same, raised_same}, TreeMeanings.{minus_one_times}, TreeMonomials.{tree_monomials}}
 use Rattle.calc_terms.specs.declared.kind.Kind.TheVariants as kind
 
 -- the polynomial of a node over such children has the coefficients of another one
@@ -20,10 +20,6 @@ child_same t u p e = same_polynomial (tree_monomials t) (e p)
 
 pub child_expanded : (t u : Tree) → is_polynomial t ≡ true → IsExpandedFrom t u → IsExpanded u
 child_expanded t u p e = is_expanded (polynomial_of t) (tree_monomials t) (e p)
-
-pub raised_same : (n : ℕ) {v w : Polynomial} → AreSame v w → AreSame (raised v n) (raised w n)
-raised_same zero h = same_refl (raised [] zero)
-raised_same (suc n) h = product_both h (raised_same n h)
 
 -- ---- literals
 

@@ -3,7 +3,7 @@ use Rattle.expand_forms.proofs.Shared.{◌≡◌, ◌⊎◌, inl, inr, ℕ, suc,
 use Rattle.expand_forms.proofs.Shared.{mul-le, Within, names_of-append, within_both, within_eq, within_left, within_none, within_right, within_same, within_trans, root_most, Tree, num, symbol, undef}
 use Rattle.expand_forms.proofs.Shared.{add, mult, power, root, neg, sub, div, Trees, none, more, append, names, names_of, nodes, nodes_of, size, sizes, count_distinct, expanded, expansion_room}
 use Rattle.expand_forms.proofs.Shared.{most_terms, most_terms_of, node_bytes, sum_bytes, are_polynomials, is_polynomial, polynomial_of, AreExpandedFrom, IsOver, nodes_append, nodes_by_children}
-use Rattle.expand_forms.proofs.{Shared.{children_of, AreReadyFrom, IsReadyFrom, is_power_of_sum}, TermCounts.{answer_most, most_of_all, some_nodes, some_terms}, Widths.{names_rise}}
+use Rattle.expand_forms.proofs.Shared.{children_of, AreReadyFrom, IsReadyFrom, is_power_of_sum, answer_most, most_of_all, some_nodes, some_terms, names_rise}
 
 -- ---- trees
 

@@ -2,9 +2,8 @@
 use Rattle.expand_forms.proofs.Shared.{◌≡◌, ◌≤◌, ℕ, List, [], ◌∷◌, ◌++◌, Bool, true, false, refl, sym, ap, ◌∙◌, arith, pos, append-nil, not, if◌then◌else◌, no_one, one_is, zero_is, zero_test}
 use Rattle.expand_forms.proofs.Shared.{product_tree, Rat, ratio_of, value_of, Ratio, whole, Fraction, is_one_fraction, is_zero_fraction, lowest, one_fraction, zero_fraction, Tree, num, symbol, add}
 use Rattle.expand_forms.proofs.Shared.{none, more, count, IsNormal, expanded, normal, sum_tree, term_trees, AreMonomials, IsMonomial, Polynomial, coefficient_at, constant, factor, summand, variable}
-use Rattle.expand_forms.proofs.{Shared.{polynomial_of, AreSame, IsExpanded, IsSum, IsSumOf, children_of, nth, one_not_zero}, AllMonomials.{AllHave, normal_all}, Joins.{sum_polynomial_is}}
-use Rattle.expand_forms.proofs.{NormalForms.{normal_coefficient, normal_is, one_normal}, SameCoefficients.{normal_same, same_sym, same_trans}, TermPolynomials.{expanded_polynomial}}
-use Rattle.expand_forms.proofs.{TreeMonomials.{all_monomials}, Sums.{sum_is}, TermReadings.{sum_children}}
+use Rattle.expand_forms.proofs.Shared.{polynomial_of, AreSame, IsExpanded, IsSum, IsSumOf, children_of, nth, one_not_zero, AllHave, normal_all, sum_polynomial_is, expanded_polynomial}
+use Rattle.expand_forms.proofs.{Shared.{normal_coefficient, normal_is, one_normal, normal_same, same_sym, same_trans, all_monomials}, Sums.{sum_is}, TermReadings.{sum_children}}
 
 pub expanded_same : {v w : Polynomial} → AreSame v w → expanded v ≡ expanded w
 expanded_same h = ap (λ (u : Polynomial). sum_tree (term_trees u)) (normal_same h)

@@ -9,7 +9,7 @@ read_length [] (f ∷ m) r = absurd r
 read_length (x ∷ xs) [] r = absurd r
 
 -- one more behind
-pub read_more : (xs : List Read) (m : Monomial) (x : Read) (f : Rattle.expand_forms.specs.Polynomials.Factor) → AreRead xs m → IsRead x f → AreRead (xs ++ x ∷ []) (m ++ f ∷ [])
+pub read_more : (xs : List Read) (m : Monomial) (x : Read) (f : Rattle.expansions.specs.Polynomials.Factor) → AreRead xs m → IsRead x f → AreRead (xs ++ x ∷ []) (m ++ f ∷ [])
 read_more [] [] x f r h = (h, tt)
 read_more (y ∷ xs) (g ∷ m) x f r h = (r.0, read_more xs m x f r.1 h)
 read_more [] (g ∷ m) x f r h = absurd r

@@ -3,10 +3,8 @@ use Rattle.expand_forms.proofs.Shared.{◌≡◌, ◌≤◌, ◌<◌, ℕ, pos, 
 use Rattle.expand_forms.proofs.Shared.{lowest, one_fraction, alone, Payload, State, Stands, IsExpression, children_of, first_place, forest, kids_of, rest_trees, root_kind, Fraction, Tree, is_mult}
 use Rattle.expand_forms.proofs.Shared.{num, symbol, power, Trees, none, more, whole_num, factor_tree, factor_trees, Factor, IsMonomial, Monomial, HasMonomial, factors_in, grown, nth, plain, takes}
 use Rattle.expand_forms.proofs.Shared.{arity, empty, tree, join, Forest, holds, tree_at, AllExpressions, name_of, all-rest_trees, one_at, children_of-plain, whole_kids, found, found-kids}
-use Rattle.expand_forms.proofs.{Shared.{found-rest_trees, visit_here, visits_left, IsWhole, plains, flatten, node_of, visit_of, visits_of, AreFound, Visit}, FactorOrders.{symbol_is}}
+use Rattle.expand_forms.proofs.Shared.{found-rest_trees, visit_here, visits_left, IsWhole, plains, flatten, node_of, visit_of, visits_of, AreFound, Visit, symbol_is, behind-plains, trees_behind}
 use Rattle.expand_forms.specs.declared.factors.Factor.{Factor as Read}
-use Rattle.node_order.proofs.KeyLaws.{behind-plains}
-use Rattle.node_order.specs.Keys.{trees_behind}
 use Rattle.calc_terms.specs.declared.kind.Kind.TheVariants as kind
 
 -- ---- what stands at a factor's root

@@ -2,9 +2,9 @@
 use Rattle.expand_forms.proofs.Shared.{◌≡◌, ◌<◌, ℕ, ◌+◌, List, [], ◌∷◌, ◌++◌, true, refl, sym, ap, ◌∙◌, subst, arith, append_assoc, Tree, count, size, normal, term_trees, IsHeld, HasFewTerms}
 use Rattle.expand_forms.proofs.Shared.{Polynomial, polynomial_of, IsExpanded, IsSum, IsSumOf, IsTerm, terms_in, State, free_of, replaced_free, gives_itself, kept_after, kept_same, IsExpression, nth}
 use Rattle.expand_forms.proofs.Shared.{plain, Forest, Gives, IsHanded, KeepsFront, tree_of, holds, tree_at, without_root, KeepsRefusals, Stands, forest, behind_first, front_after_one, front_same}
-use Rattle.expand_forms.proofs.{Shared.{given_rest, given_told, gives_as}, Gathered.{IsGathered, few_behind, gathered_append, gathered_few, gathered_held, gathered_is, gathered_refl, gathered_second}}
-use Rattle.expand_forms.proofs.{Gathered.{gathered_sum, gathered_trans}, Joins.{IsNextSummand, next_summand, sum_polynomial_is}, NormalForms.{normal_is}, SameCoefficients.{same_is, same_trans}}
-use Rattle.expand_forms.proofs.{Splits.{held_behind}, TermPolynomials.{expanded_terms, tree_normal}, TermReadings.{beside}, Within.{within}}
+use Rattle.expand_forms.proofs.{Shared.{given_rest, given_told, gives_as}, Joins.{IsNextSummand, next_summand}, TermReadings.{beside}, Within.{within}}
+use Rattle.expansions.proofs.Gathered.{IsGathered, few_behind, gathered_append, gathered_few, gathered_held, gathered_is, gathered_refl, gathered_second, gathered_sum, gathered_trans}
+use Rattle.expansions.proofs.{TermPolynomials.{sum_polynomial_is, expanded_terms, tree_normal}, NormalForms.{normal_is}, SameCoefficients.{same_is, same_trans}, Held.{held_behind}}
 
 -- ---- a sum under way
 

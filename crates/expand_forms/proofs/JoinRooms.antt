@@ -1,6 +1,6 @@
 -- For how few bytes products of terms find no room in a sum.
 use Rattle.expand_forms.proofs.Shared.{ℕ, ◌+◌, ◌<◌, ◌≤◌, List, ◌∷◌, length, arith, size, HasFewTerms, sum_bytes, term_bytes, IsMonomial, Polynomial, Summand, polynomial_of, State, free_of, IsHanded}
-use Rattle.expand_forms.proofs.{Shared.{tree_of, Stands, forest, given_told}, FewTerms.{sum_most}, JoinLoops.{IsJoined, joined_lacks}, TermBytes.{terms_rise}, Widths.{few_factors}}
+use Rattle.expand_forms.proofs.{Shared.{tree_of, Stands, forest, given_told, sum_most, terms_rise, few_factors}, JoinLoops.{IsJoined, joined_lacks}}
 
 -- a term found none
 pub term_lacks : {ns : List (List ℕ)} {n i : ℕ} {left whole : Polynomial} {old now : State} (z : Summand) → IsMonomial z.monomial → IsJoined i left whole old now → Stands old → IsHanded i (forest old)

@@ -1,19 +1,11 @@
 -- A product of terms that is joined to a sum.
 use Rattle.expand_forms.proofs.Shared.{◌≡◌, ◌≢◌, ◌≤◌, ◌<◌, ℕ, zero, suc, ◌+◌, [], ◌∷◌, drop, Bool, true, false, refl, sym, ap, ◌∙◌, subst, arith, if◌then◌else◌, Equal, no_zero, zero_is}
 use Rattle.expand_forms.proofs.Shared.{not_from_false, Fraction, is_zero_fraction, plus, zero_fraction, Tree, Trees, add, mult, none, more, count, factor_trees, term_tree, term_trees, IsMonomial}
-use Rattle.expand_forms.proofs.Shared.{Monomial, Polynomial, Summand, monomial_times, summand, polynomial_of, IsPlace, IsSum, IsSumOf, with_term, HasMonomial, IsTerm, coefficient_in, term_cmp}
-use Rattle.expand_forms.proofs.Shared.{removed, Forest, tree_at, State, IsExpression, children_of, inserted, nth, plain, Gives, root_tree, without_root, Stands, forest, given_handed, given_other}
-use Rattle.expand_forms.proofs.{Shared.{given_rest, given_root, given_same, given_told, gives_as, seen}, MonomialTrees.{equal_is}, SameCoefficients.{same_is, same_trans}, SumPlaces.{IsAt, IsFound}}
-use Rattle.expand_forms.proofs.SumPlaces.{drop_at, drop_monomials, drop_normal, drop_trees, found, put_at, put_monomials, put_normal, put_same, put_trees, set_at, set_monomials, set_normal}
-use Rattle.expand_forms.proofs.{SumPlaces.{term_order}, TermPolynomials.{term_coefficient, term_factors, term_polynomial, terms_polynomial}, TermReadings.{beside, sum_children}}
-
--- ---- polynomials of sums and of terms
-
-pub sum_polynomial_is : {t : Tree} (s : IsSum t) → polynomial_of t ≡ s.summands
-sum_polynomial_is s = ap polynomial_of s.tree ∙ terms_polynomial s.summands s.monomials
-
-pub term_polynomial_is : {t : Tree} (x : IsTerm t) → polynomial_of t ≡ x.summand ∷ []
-term_polynomial_is x = ap polynomial_of x.tree ∙ term_polynomial x.summand x.monomial
+use Rattle.expand_forms.proofs.Shared.{Monomial, Polynomial, Summand, monomial_times, summand, polynomial_of, IsPlace, IsSum, IsSumOf, with_term, HasMonomial, coefficient_in, term_cmp, removed}
+use Rattle.expand_forms.proofs.Shared.{Forest, tree_at, State, IsExpression, children_of, inserted, nth, plain, Gives, root_tree, without_root, Stands, forest, given_handed, given_other, given_rest}
+use Rattle.expand_forms.proofs.{Shared.{given_root, given_same, given_told, gives_as, seen}, SumPlaces.{IsAt, IsFound, drop_at, drop_monomials, drop_normal, drop_trees, found, put_at, put_monomials}}
+use Rattle.expand_forms.proofs.{SumPlaces.{put_normal, put_same, put_trees, set_at, set_monomials, set_normal, term_order}, TermReadings.{beside, sum_children}}
+use Rattle.expansions.proofs.{MonomialTrees.{equal_is}, SameCoefficients.{same_is, same_trans}, TermPolynomials.{term_coefficient, term_factors, sum_polynomial_is}}
 
 -- ---- a term that has no partner
 

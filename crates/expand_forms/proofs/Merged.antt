@@ -1,8 +1,7 @@
 -- The factors of two terms, merged into new trees.
 use Rattle.expand_forms.proofs.Shared.{◌≡◌, ◌≤◌, ◌<◌, ◌^◌, ℕ, ◌+◌, [], ◌∷◌, ◌++◌, length, drop, refl, sym, ap, ◌∙◌, subst, arith, append_assoc, append-nil, Option, Some, length-append, Trees}
 use Rattle.expand_forms.proofs.Shared.{represents_count, factor_tree, factor_trees, AddsTrees, GoesOn, IsNext, Next, Monomial, monomial_times, State, Forest, arity, Gives, Stands, forest, arity-join}
-use Rattle.expand_forms.proofs.{AddedTrees.{adds_more, adds_none}, TermReadings.{count_factors, drop_length, drop_more, factors_append}}
-use Rattle.tree_handles.proofs.Releases.{arity_le, few_nodes}
+use Rattle.expand_forms.proofs.{Shared.{arity_le, few_nodes}, AddedTrees.{adds_more, adds_none}, TermReadings.{count_factors, drop_length, drop_more, factors_append}}
 
 -- so many factors of each are placed, and the product goes on with that of the others
 pub record IsMerged (m n : Monomial) (i j k : ℕ) (old now : Forest) : Type 0 where

@@ -3,7 +3,7 @@ use Rattle.expand_forms.proofs.Shared.{◌≡◌, ◌⊎◌, ◌<◌, ℕ, suc, 
 use Rattle.expand_forms.proofs.Shared.{Payload, kind_of_payload, rational, named, bare, Kind, Within, Less, Equal, tree_cmp_same, false_from_ne_true, count_distinct, is_among, names, names_of, Trees}
 use Rattle.expand_forms.proofs.Shared.{more, none, count, symbol, is_symbol, nth, grown, compound, plain, takes, takes_kind, IsExpression, AllExpressions, alone, Forest, empty, tree, join, holds}
 use Rattle.expand_forms.proofs.Shared.{tree_at, arity, AreNames, HasName, IsUnlistedBy, Unlisted, Names, Exponents, Terms, one_at, count-plains, found-join, no_visit, visit_here, visits_left, plains}
-use Rattle.expand_forms.proofs.{Shared.{visits_of, AreFound, Visit}, NameLists.{below_has, contained_has, has_contained}, Widths.{among_contained, names_rise}}
+use Rattle.expand_forms.proofs.Shared.{visits_of, AreFound, Visit, below_has, contained_has, has_contained, among_contained, names_rise}
 use Rattle.tree_handles.proofs.Visiting.{seen}
 use Rattle.calc_terms.specs.declared.kind.Kind.TheVariants as kind
 

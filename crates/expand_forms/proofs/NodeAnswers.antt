@@ -1,7 +1,7 @@
 -- What the answer of a node is: opposites, and products from the last factor on.
 use Rattle.expand_forms.proofs.Shared.{◌≡◌, ◌<◌, ◌≤◌, ℕ, negsuc, zero, suc, ◌+◌, true, refl, sym, ap, ◌∙◌, arith, Rat, ratio_of, value_of, Ratio, whole, lowest, minus_one_fraction, one_fraction, Tree}
-use Rattle.expand_forms.proofs.Shared.{Trees, num, mult, none, more, count, is_mult, expanded, constant, product, polynomial_of, product_of, IsExpanded, children_of, nth}
-use Rattle.expand_forms.proofs.{Expansions.{constant_expanded, expanded_same, is_expanded, same_polynomial}, Nodes.{from}, SameCoefficients.{product_right}, TreeMonomials.{tree_monomials}}
+use Rattle.expand_forms.proofs.Shared.{Trees, num, mult, none, more, count, is_mult, expanded, constant, product, polynomial_of, product_of, IsExpanded, children_of, nth, product_right}
+use Rattle.expand_forms.proofs.{Shared.{tree_monomials}, Expansions.{constant_expanded, expanded_same, is_expanded, same_polynomial}, Nodes.{from}}
 
 -- ---- opposites
 

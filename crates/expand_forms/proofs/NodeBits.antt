@@ -1,10 +1,21 @@
 -- By what bits the step of a node over expanded children is held.
 use Rattle.expand_forms.proofs.Shared.{◌≡◌, ◌<◌, ◌≤◌, ◌+◌, ◌*◌, ℕ, zero, suc, Result, true, sym, ap, ◌∙◌, subst, arith, IfErr, and_parts, bits, bits_of, high, low, most_bits, Fraction, inverse}
-use Rattle.expand_forms.proofs.Shared.{minus_one_fraction, Payload, Tree, add, power, sub, div, Trees, none, more, count, root_kind, AreHeldTogether, IsHeld, IsNoOverflow, scaled, divisor_of}
-use Rattle.expand_forms.proofs.Shared.{exponent_of, is_divisor, is_exponent, is_polynomial, polynomial_of, product_of, AreExpandedFrom, IsOver, children_of, grown, nth, OfOverflow, NumberFault}
-use Rattle.expand_forms.proofs.{ChildExpansions.{divisor_same, exponent_same}, Held.{held_more, held_opposite, held_product, one_held}, Nodes.{from}, TreeBits.{answers_held, difference_held}}
-use Rattle.expand_forms.proofs.{TreeBits.{expanded_held, held_together, power_within, quotient_held, sum_held}, TreeMonomials.{tree_monomials}}
+use Rattle.expand_forms.proofs.Shared.{IsExpandedFrom, are_polynomials, minus_one_fraction, Payload, Tree, add, power, sub, div, Trees, none, more, count, root_kind, AreHeldTogether, IsHeld}
+use Rattle.expand_forms.proofs.Shared.{IsNoOverflow, scaled, divisor_of, exponent_of, is_divisor, is_exponent, is_polynomial, polynomial_of, product_of, AreExpandedFrom, IsOver, children_of, grown}
+use Rattle.expand_forms.proofs.Shared.{nth, OfOverflow, NumberFault, held_more, held_opposite, held_product, one_held, answer_held, difference_held, held_together, power_within, quotient_held}
+use Rattle.expand_forms.proofs.{Shared.{sum_held, AreHeldFrom, tree_held, tree_monomials}, ChildExpansions.{divisor_same, exponent_same}, Nodes.{from}}
 use Rattle.calc_terms.specs.declared.kind.Kind.TheVariants as kind
+
+-- ---- the expanded trees of trees
+
+pub expanded_held : (t u : Tree) → is_polynomial t ≡ true → IsExpandedFrom t u → IsHeld (polynomial_of u) (high t) (low t)
+expanded_held t u p e = answer_held (tree_monomials t) (e p) (tree_held t p)
+
+pub answers_held : (ts us : Trees) → are_polynomials ts ≡ true → AreExpandedFrom ts us → AreHeldFrom ts us
+answers_held none none p e = tt
+answers_held none (more u us) p e = absurd e
+answers_held (more t ts) none p e = absurd e
+answers_held (more t ts) (more u us) p e = let (x, y) = and_parts (is_polynomial t) (are_polynomials ts) p in (expanded_held t u x e.0, answers_held ts us y e.1)
 
 -- ---- few bits, or more
 

@@ -5,10 +5,9 @@ use Rattle.expand_forms.proofs.Shared.{Trees, Within, add, bits_of, children_of,
 use Rattle.expand_forms.proofs.Shared.{is_polynomial, is_zero_fraction, low, minus_one_fraction, more, mult, names, names_of, neg, no_new_name, no_zero, none, nth, num, one_fraction, polynomial_of}
 use Rattle.expand_forms.proofs.Shared.{power, product, product_of, raised, root_kind, scaled, sub, sum_of, times, whole_numerator, within_both, within_left, within_none, within_of, within_same}
 use Rattle.expand_forms.proofs.Shared.{within_trans, zero_fraction, zero_times, one_not_zero, int_is_zero, normal, Part, each_once, has_factors, has_parts, multiplied, part, part_factor, parts_of}
-use Rattle.expand_forms.proofs.{Shared.{repeated, total, constant, summand, row}, Expansions.{constant_is_expanded}, FewTerms.{few_names}}
-use Rattle.expand_forms.proofs.{Gathered.{IsGathered, gathered_is, gathered_products, gathered_trans}, Names.{are_named, product_named}, NodeBits.{difference_over, few_bits, opposite_over}}
-use Rattle.expand_forms.proofs.{NodeBits.{power_over, product_over, quotient_over, sum_over}, NodeRooms.{names_from, nth_names}, Nodes.{from}, Rows.{is_nonzero}}
-use Rattle.expand_forms.proofs.SameCoefficients.{constant_product, scaled_one}
+use Rattle.expand_forms.proofs.Shared.{repeated, total, constant, summand, row, few_names, IsGathered, gathered_is, gathered_products, gathered_trans, are_named, product_named, constant_product}
+use Rattle.expand_forms.proofs.{Shared.{scaled_one}, Expansions.{constant_is_expanded}, NodeBits.{difference_over, few_bits, opposite_over, power_over, product_over, quotient_over, sum_over}}
+use Rattle.expand_forms.proofs.{NodeRooms.{names_from, nth_names}, Nodes.{from}, Rows.{is_nonzero}}
 use Rattle.calc_terms.specs.declared.kind.Kind.TheVariants as kind
 
 -- ---- how many parts there are

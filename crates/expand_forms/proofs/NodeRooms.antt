@@ -1,7 +1,7 @@
 -- For how few bytes a node over expanded children is refused.
 use Rattle.expand_forms.proofs.Shared.{◌≡◌, ℕ, zero, suc, ◌≤◌, [], length, true, false, arith, mul-le, Within, within_left, within_none, within_right, within_same, within_trans, Tree, Trees, none}
-use Rattle.expand_forms.proofs.{Shared.{more, names, names_of, size, has_polynomial_root, polynomial_of, product_of, AreExpanded, nth, has_factors, has_parts}, FewTerms.{some_expanded}, Nodes.{from}}
-use Rattle.expand_forms.proofs.{TermCounts.{product_length}, TermPolynomials.{tree_normal}}
+use Rattle.expand_forms.proofs.{Shared.{more, names, names_of, size, has_polynomial_root, polynomial_of, product_of, AreExpanded, nth, has_factors, has_parts}, Nodes.{from}}
+use Rattle.expansions.proofs.{FewTerms.{some_expanded}, TermCounts.{product_length}, TermPolynomials.{tree_normal}}
 
 -- ---- names of children
 

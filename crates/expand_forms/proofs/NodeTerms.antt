@@ -3,8 +3,8 @@ use Rattle.expand_forms.proofs.Shared.{◌≡◌, ℕ, zero, suc, ◌^◌, ◌�
 use Rattle.expand_forms.proofs.Shared.{mul-le, Within, no_new_name, within_beside, within_left, within_none, within_of, within_same, within_trans, HasNoNewName, inverse, minus_one_fraction, Payload}
 use Rattle.expand_forms.proofs.Shared.{rational, named, bare, Kind, Tree, symbol, neg, Trees, none, more, count, is_symbol, names, names_of, product_of_terms, sum_of_terms, terms, are_polynomials}
 use Rattle.expand_forms.proofs.Shared.{divisor_of, exponent_of, is_divisor, is_exponent, is_polynomial, polynomial_of, product_of, sum_of, AreExpandedFrom, IsExpandedFrom, children_of, compound}
-use Rattle.expand_forms.proofs.{Shared.{grown, nth, takes, takes_kind}, ChildExpansions.{exponent_same}, ChildRooms.{child_names}, FewTerms.{expanded_few, few_names}, Names.{expanded_no_new_name}}
-use Rattle.expand_forms.proofs.{TermCounts.{few_terms, product_length, raised_length, scaled_length, some_terms}, TermPolynomials.{tree_normal}}
+use Rattle.expand_forms.proofs.Shared.{grown, nth, takes, takes_kind, expanded_few, few_names, expanded_no_new_name, few_terms, product_length, raised_length, scaled_length, some_terms, tree_normal}
+use Rattle.expand_forms.proofs.{ChildExpansions.{exponent_same}, ChildRooms.{child_names}}
 use Rattle.calc_terms.specs.declared.kind.Kind.TheVariants as kind
 
 -- ---- answers

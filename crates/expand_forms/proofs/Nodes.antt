@@ -1,17 +1,12 @@
 -- A node is a polynomial by its root and its children.
-use Rattle.expand_forms.proofs.Shared.{◌≡◌, ◌<◌, ◌≤◌, ℕ, zero, suc, Bool, true, false, refl, ap, arith, ◌&&◌, Tree, Trees, none, more, count, nodes, nodes_of, are_polynomials}
-use Rattle.expand_forms.proofs.Shared.{has_polynomial_root, is_polynomial, nth, children_of}
+use Rattle.expand_forms.proofs.Shared.{◌≡◌, ◌<◌, ◌≤◌, ℕ, zero, suc, true, false, refl, ap, arith, ◌&&◌, Tree, Trees, none, more, count, nodes, nodes_of, are_polynomials, has_polynomial_root}
+use Rattle.expand_forms.proofs.Shared.{is_polynomial, nth, children_of}
 
 -- the trees from a place on, counted from 0
 abbrev pub from : ℕ → Trees → Trees
 from zero ts = ts
 from (suc n) none = none
 from (suc n) (more t ts) = from n ts
-
-pub and_false : (a : Bool) → (a && false) ≡ false
-and_false a = grind arith
-
--- ---- literals are polynomials
 
 -- ---- what the root and the children say of the tree
 

@@ -1,9 +1,8 @@
 -- A node over the expanded trees of its children, from the tree as it was.
 use Rattle.expand_forms.proofs.Shared.{◌≡◌, ℕ, ◌≤◌, ◌<◌, length, true, Result, sym, ap, ◌∙◌, subst, arith, IfErr, and_parts, AreSame, HasNoNewName, IsExpanded, Tree, Trees, none, more, names}
 use Rattle.expand_forms.proofs.Shared.{expanded, most_terms, node_bytes, are_polynomials, has_polynomial_root, is_polynomial, polynomial_of, AreExpanded, IsExpandedFrom, IsOver, IsPolynomial, OfFull}
-use Rattle.expand_forms.proofs.{Shared.{children_of, grown, NumberFault, EachTree}, ChildExpansions.{IsOver as IsOverSame, child_expanded, child_same, divisor_same, exponent_same, over_payload}}
-use Rattle.expand_forms.proofs.{Expansions.{constant_expanded, expanded_same, name_expanded}, SameCoefficients.{same_is, same_trans}, NodeTerms.{over_names, over_terms}, TermCounts.{most_of_all}}
-use Rattle.reduce_walk.specs.Leaves.{is_leaf}
+use Rattle.expand_forms.proofs.{Shared.{children_of, grown, NumberFault, EachTree, same_is, same_trans, most_of_all, is_leaf}, ChildExpansions.{IsOver as IsOverSame, child_expanded, child_same}}
+use Rattle.expand_forms.proofs.{ChildExpansions.{divisor_same, exponent_same, over_payload}, Expansions.{constant_expanded, expanded_same, name_expanded}, NodeTerms.{over_names, over_terms}}
 
 -- ---- children
 

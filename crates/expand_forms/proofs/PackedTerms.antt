@@ -2,9 +2,10 @@
 use Rattle.expand_forms.proofs.Shared.{◌≡◌, ◌≤◌, ◌<◌, ℕ, zero, suc, ◌+◌, ◌-◌, ◌*◌, ◌/◌, ◌%◌, ◌^◌, List, [], ◌∷◌, ◌++◌, length, get_or, drop, replicate, Option, Some, inl, inr, refl, sym, ap, ◌∙◌}
 use Rattle.expand_forms.proofs.Shared.{subst, arith, append-nil, append_assoc, reverse, mul_assoc, mul_comm, length-reverse, reverse-append, name_of, Name, Less, nat_cmp, slice_cmp, AreAhead}
 use Rattle.expand_forms.proofs.Shared.{BeginsWith, Factor, HasExponents, IsMonomial, IsNamed, IsRead, Monomial, factor, Forest, AreNames, AreOf, AreZero, IsBelowNames, IsOfNames, factors_of, led}
-use Rattle.expand_forms.proofs.{Shared.{AreComing, BeginsOtherwise, IsTaken, IsUnlistedBy, Unlisted, Names, Exponents, Terms, monomial_of, unpacked, Visit}, Masses.{later_exponents}}
-use Rattle.expand_forms.proofs.{NamedMonomials.{packed_length}, NameLists.{AllHaveNames, all_have, below_has, dropped, dropped_all, later_names}, TreeMonomials.{below_more}}
-use Rattle.expand_forms.specs.{Named.{named, names_of}, declared.factors.Factor.{Factor as Read}}
+use Rattle.expand_forms.proofs.Shared.{AreComing, BeginsOtherwise, IsTaken, IsUnlistedBy, Unlisted, Names, Exponents, Terms, monomial_of, unpacked, Visit}
+use Rattle.expansions.proofs.{Masses.{later_exponents}, NamedMonomials.{packed_length}, NameLists.{AllHaveNames, all_have, below_has, dropped, dropped_all, later_names}, TreeMonomials.{below_more}}
+use Rattle.expansions.specs.Named.{named, names_of}
+use Rattle.expand_forms.specs.declared.factors.Factor.{Factor as Read}
 use Rattle.polynomials.specs.Polynomials.{Monomial as Packed}
 
 -- ---- the exponent of one name

@@ -2,9 +2,10 @@
 use Rattle.expand_forms.proofs.Shared.{◌≡◌, ℕ, ℤ, pos, zero, suc, ◌+◌, ◌<◌, ◌≤◌, List, [], ◌∷◌, ◌++◌, length, get_or, drop, take, refl, sym, ap, ◌∙◌, subst, arith, append-nil, append_assoc, to_z}
 use Rattle.expand_forms.proofs.Shared.{of_z, told, length-take-le, take_more, name_of, Ratio, whole, Name, w128, Rat, lowest, ratio_of, value_of, length-append, num, zero_fraction, AddsTrees}
 use Rattle.expand_forms.proofs.Shared.{AreMonomials, AreNamed, AreRead, Forest, Gives, IsRead, Monomial, Polynomial, Trees, add, append, count, factor, more, sizes, sum_tree, term_bytes, term_tree}
-use Rattle.expand_forms.proofs.{Shared.{term_trees, terms_bytes, factors_of, monomial_of, Term}, AddedTrees.{adds_more}, AllMonomials.{AllHave}, FactorLists.{read_more}, FewTerms.{named_monomials}}
-use Rattle.expand_forms.proofs.{OrderedTerms.{named_term, named_terms}, TermBytes.{IsNamedMonomial, terms_most, terms_rise}, Widths.{few_factors}}
-use Rattle.expand_forms.specs.{Named.{named, names_of}, declared.factors.Factor.{Factor as Read}}
+use Rattle.expand_forms.proofs.{Shared.{term_trees, terms_bytes, factors_of, monomial_of, Term}, AddedTrees.{adds_more}, FactorLists.{read_more}}
+use Rattle.expansions.proofs.{AllMonomials.{AllHave}, FewTerms.{named_monomials}, OrderedTerms.{named_term, named_terms}, TermBytes.{IsNamedMonomial, terms_most, terms_rise}, Widths.{few_factors}}
+use Rattle.expansions.specs.Named.{named, names_of}
+use Rattle.expand_forms.specs.declared.factors.Factor.{Factor as Read}
 
 -- ---- factors of a packed monomial
 

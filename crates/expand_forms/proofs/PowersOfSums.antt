@@ -5,10 +5,9 @@ use Rattle.expand_forms.proofs.Shared.{OfOverflow, Payload, Polynomial, Summand,
 use Rattle.expand_forms.proofs.Shared.{divisor_of, eqb-true, expanded, exponent_of, factor_tree, factor_trees, grown, has_polynomial_root, is_divisor, is_exponent, is_one_fraction, is_polynomial}
 use Rattle.expand_forms.proofs.Shared.{monomial_tree, more, most_bits, most_terms, named, names, node_bytes, nodes, none, normal, nth, num, polynomial_of, power, product_tree, rational, root_kind}
 use Rattle.expand_forms.proofs.Shared.{root_size, size, sizes, sum_tree, symbol, takes, takes_kind, term_tree, term_trees, whole_num, AreReady, AreReadyFrom, IsOverReady, IsLeft, IsReady, IsReadyFrom}
-use Rattle.expand_forms.proofs.{Shared.{has_power_of_sum, is_power_of_sum, answers_count, set_child, set_tree}, ChildExpansions.{IsOver as IsOverSame, divisor_same, exponent_same, over_payload}}
-use Rattle.expand_forms.proofs.{ChildRooms.{narrower, room_above, room_at_node, root_bytes}, Expansions.{expanded_same, is_expanded, same_polynomial}, NodeBits.{over_kind}}
-use Rattle.expand_forms.proofs.{SameCoefficients.{same_is, same_trans}, TreeMonomials.{tree_monomials}, Nodes.{from}}
-use Rattle.reduce_walk.proofs.Bytes.{root_over}
+use Rattle.expand_forms.proofs.{Shared.{has_power_of_sum, is_power_of_sum, answers_count, set_child, set_tree, same_is, same_trans, tree_monomials, root_over}, ChildExpansions.{IsOver as IsOverSame}}
+use Rattle.expand_forms.proofs.{ChildExpansions.{divisor_same, exponent_same, over_payload}, ChildRooms.{narrower, room_above, room_at_node, root_bytes}}
+use Rattle.expand_forms.proofs.{Expansions.{expanded_same, is_expanded, same_polynomial}, NodeBits.{over_kind}, Nodes.{from}}
 use Rattle.reduce_walk.specs.Answers.{IsNext}
 use Rattle.expand_forms.proofs.OverAnswers as over
 use Rattle.tree_handles.specs.declared.fault.NumberFault.TheVariants as number

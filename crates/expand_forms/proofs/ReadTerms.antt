@@ -3,10 +3,9 @@ use Rattle.expand_forms.proofs.Shared.{◌≡◌, ◌⊎◌, ◌≤◌, ◌<◌,
 use Rattle.expand_forms.proofs.Shared.{IsBeforeAll, IsNormal, IsNamed, AreMonomials, IsExpanded, Monomial, Polynomial, Summand, Tree, Trees, count, coefficient_in, factors_in, root_kind, more, names}
 use Rattle.expand_forms.proofs.Shared.{none, normal, nth, polynomial_of, HasExponents, HaveExponents, summand, term_trees, terms_in, value_of, AreNames, IsListOf, IsOfNames, named_polynomial}
 use Rattle.expand_forms.proofs.Shared.{AreAmong, AreListed, IsSummandTree, IsUnlistedBy, monomial_of, AreTermsOf, summand_of, Term, Unlisted, Names, Exponents, Terms, length-append}
-use Rattle.expand_forms.proofs.{AllMonomials.{AllHave, normal_all}, MonomialTrees.{less_apart}, Names.{tree_named}, NamedPolynomials.{named_same}, NormalForms.{normal_is}}
-use Rattle.expand_forms.proofs.{SameCoefficients.{same_cons, same_is, same_normal, same_trans, same_turned}, NameLists.{taken_all}, TermPolynomials.{expanded_terms, term_coefficient, term_factors}}
-use Rattle.expand_forms.proofs.TermPolynomials.{tree_normal}
-use Rattle.expand_forms.specs.Named.{named}
+use Rattle.expansions.proofs.{AllMonomials.{AllHave, normal_all}, MonomialTrees.{less_apart}, Names.{tree_named}, NamedPolynomials.{named_same}, NormalForms.{normal_is}, SameCoefficients.{same_cons}}
+use Rattle.expansions.proofs.{SameCoefficients.{same_is, same_normal, same_trans, same_turned}, NameLists.{taken_all}, TermPolynomials.{expanded_terms, term_coefficient, term_factors, tree_normal}}
+use Rattle.expansions.specs.Named.{named}
 use Rattle.polynomials.proofs.Worth.{same_cons as values_cons, same_is as values_is, same_trans as values_trans}
 use Rattle.polynomials.specs.{Terms.{polynomial_of as terms_of}, Unfits.{HasMonomial as Has, IsCaused, OfCoefficient}, declared.unfit.Unfit.{Unfit}}
 use Rattle.polynomials.specs.declared.unfit.Unfit.TheVariants as unfit

@@ -1,80 +1,77 @@
 -- The names that the proofs share.
-pub use Rattle.calc_algebra.proofs.{InverseLaws.{Inverts-surd_of, factor_not_zero, inverse_times_itself, negative_times, product_not_zero}, MeaningLaws.{Means-Same, Same-sym, one_meaning, whole_one}}
-pub use Rattle.calc_algebra.proofs.Names.{Within, names_of-append, no_new_name, within_beside, within_both, within_eq, within_left, within_none, within_of, within_right, within_same, within_trans}
-pub use Rattle.calc_algebra.proofs.{NumberClasses.{one_not_zero}, PowerLaws.{rational_power, surd_power-surd_of}, PowerRewrites.{exponent_is, power_whole}, SquareClassLaws.{Same-Agree, Same-trans}}
-pub use Rattle.calc_algebra.proofs.{SurdLaws.{Agree, Agree-Same, Agree-surd_times_right, Agree-trans, one_inverse, times_zero}, TermLaws.{Same-append, Same-eq, Same-refl, Same-surd_power}}
-pub use Rattle.calc_algebra.proofs.{TermLaws.{Same-surd_scale, Same-surd_times, joined_radicand, surd_times-terms, zero_term}, TreeOrderLaws.{tree_chain, tree_cmp_equal, tree_cmp_refl, tree_cmp_same}}
-pub use Rattle.calc_algebra.proofs.TreeOrderLaws.{tree_cmp_total, tree_cmp_turned, trees_cmp_turned}
-pub use Rattle.calc_algebra.specs.{Meanings.{Assignment, Binding, IsAssignment, IsWholePower, Means, MeansProduct, MeansSum}, Numbers.{IsNumber, is_term}, Reduced.{HasForm, IsFrontForm, IsPowerForm}}
-pub use Rattle.calc_algebra.specs.Reduced.{IsProductForm, IsSumForm, NoneIs, RisesBy, Split, base_of, is_num_one, is_one_add, is_opaque_exponent, is_undistributed, num_one, number_terms, other_terms}
-pub use Rattle.calc_algebra.specs.{Reduced.{part_of, product_tree, split, split_product}, Rewritings.{HasNoNewName}, Surds.{Surd, surd_of, surd_one}, TreeOrder.{tree_cmp, trees_cmp}}
-unfoldable pub use Rattle.calc_algebra.specs.{Numbers.{is_number}, Reduced.{is_reduced}}
-pub use Rattle.calc_bits.proofs.Quotients.{cancel_right, den_divides, magnitude_cross, magnitude_lowest, magnitude_scale, magnitude_times, over_multiple, plus_den, plus_over, times_den, whole_over}
-pub use Rattle.calc_bits.proofs.Quotients.{whole_over-abs}
+pub use Rattle.breakers.proofs.Runs.{calm_checks_raise_no_trips}
+pub use Rattle.breakers.specs.{declared.watch.Interrupted.{Interrupted}, Breakers.{TripsRose}, Watch.{states}}
+pub use Rattle.calc_algebra.proofs.{InverseLaws.{factor_not_zero, inverse_times_itself, product_not_zero}, Names.{Within, names_of-append, no_new_name, within_beside, within_both, within_eq}}
+pub use Rattle.calc_algebra.proofs.{Names.{within_left, within_none, within_of, within_right, within_same, within_trans}, NumberClasses.{one_not_zero}, TreeOrderLaws.{tree_chain, tree_cmp_same}}
+pub use Rattle.calc_algebra.specs.{Reduced.{product_tree}, Rewritings.{HasNoNewName}, TreeOrder.{tree_cmp}}
+pub use Rattle.calc_bits.proofs.{Quotients.{den_divides, magnitude_lowest}, Fitting.{multiple_fits, sum_fits_over}}
 pub use Rattle.calc_bits.specs.Denominators.{magnitude_over}
-pub use Rattle.calc_measures.specs.{Literals.{half_literal, opposite, or_literal, whole_literal, whole_value}, Measures.{HighLow, bits, bits_of, bounds, bounds_of_terms, ceil_log2, high, low}}
-pub use Rattle.calc_measures.specs.Measures.{most_bits, power_bounds}
+pub use Rattle.calc_measures.specs.{Literals.{opposite, whole_literal, whole_value}, Measures.{bits, bits_of, high, low, most_bits}}
 pub use Rattle.calc_terms.proofs.{FractionFacts.{no_one, no_zero, one_is, whole_denominator, whole_numerator, zero_is, zero_test}, Sizes.{num_most, payload_most, root_most}}
-pub use Rattle.calc_terms.specs.{Fits.{fraction_fits, fraction_power, sum_fits}, FractionLaws.{negative_lowest, one_times, plus_negative, times_assoc, times_comm, times_plus, zero_plus, zero_times}}
-pub use Rattle.calc_terms.specs.Fractions.{Fraction, den_pos, fraction_cmp, fraction_path, inverse, inverse_of, is_one_fraction, is_zero_fraction, lowest, minus_one_fraction, mul_pos, negative, plus}
-pub use Rattle.calc_terms.specs.{Fractions.{plus_assoc, plus_comm, plus_lowest, times, times_lowest, whole_fraction}, Integers.{int_is_one, int_is_zero}, Kind.{code_of}, Leaf.{name_of}}
-pub use Rattle.calc_terms.specs.{Name.{before_zero, padded}, Payload.{Payload, bare, kind_of_payload, named, rational, size_of_payload}, Rat.{ratio_of, value_of}, Ratio.{IsRat, Ratio, whole}}
-pub use Rattle.calc_terms.specs.Trees.{AllParts, AllPartsOf, HasTwo, Tree, Trees, add, append, count, div, is_add, is_mult, is_num, is_symbol, is_undef, more, mult, names, names_of, neg, nodes}
-pub use Rattle.calc_terms.specs.{Trees.{nodes_of, none, num, power, root, root_code, root_kind, root_size, size, sizes, sub, symbol, undef, whole_num}, declared.kind.Kind.{Kind}}
-pub use Rattle.calc_terms.specs.{declared.name.Name.{Name}, declared.rat.Rat.{Rat}}
+pub use Rattle.calc_terms.specs.{Fits.{fraction_fits, sum_fits}, FractionLaws.{negative_lowest, zero_plus, zero_times}, Fractions.{Fraction, inverse, is_one_fraction, is_zero_fraction, lowest}}
+pub use Rattle.calc_terms.specs.{Fractions.{minus_one_fraction, negative, plus, plus_assoc, plus_comm, plus_lowest, times}, Integers.{int_is_one, int_is_zero}, Kind.{code_of}, Leaf.{name_of}}
+pub use Rattle.calc_terms.specs.{Payload.{Payload, bare, kind_of_payload, named, rational, size_of_payload}, Rat.{ratio_of, value_of}, Ratio.{IsRat, Ratio, whole}, Trees.{Tree, Trees, add, append}}
+pub use Rattle.calc_terms.specs.Trees.{count, div, is_add, is_mult, is_num, is_symbol, more, mult, names, names_of, neg, nodes, nodes_of, none, num, power, root, root_kind, root_size, size, sizes}
+pub use Rattle.calc_terms.specs.{Trees.{sub, symbol, undef, whole_num}, declared.kind.Kind.{Kind}, declared.name.Name.{Name}, declared.rat.Rat.{Rat}}
 unfoldable pub use Rattle.calc_terms.specs.Fractions.{one_fraction, zero_fraction}
 pub use Rattle.child_lists.proofs.{LastSums.{last_with, lists_behind, only_child, only_owned}, ListedChildren.{lists_at, lists_listed, lists_none, lists_with}, PutBefore.{kept_kids}}
 pub use Rattle.child_lists.specs.Lists.{Lists}
 pub use Rattle.coefficients.proofs.Steps.{many_factors, one_value}
-pub use Rattle.expand_forms.specs.ExpandedTrees.{IsBeforeAll, IsNormal, expanded, factor_tree, factor_trees, joined, monomial_cmp, monomial_tree, normal, sum_tree, term_tree, term_trees, with_summand}
-pub use Rattle.expand_forms.specs.{ExpandedTrees.{without_zeros}, ExpansionBits.{AreHeldTogether, AreWhole, HasExponents, HaveExponents, IsHeld, IsNoOverflow, mass}, ExpansionRoom.{AreNamed}}
-pub use Rattle.expand_forms.specs.ExpansionRoom.{HasFewTerms, IsNamed, count_distinct, expansion_room, factor_bytes, is_among, most_terms, most_terms_of, node_bytes, number_bytes, product_of_terms}
-pub use Rattle.expand_forms.specs.{ExpansionRoom.{sum_bytes, sum_of_terms, term_bytes, terms, terms_bytes}, Listed.{AreAhead, AreRead}, Merging.{AddsTrees, AreFactors, BeginsWith, GoesOn, IsFirst}}
-pub use Rattle.expand_forms.specs.{Merging.{IsNext}, Named.{AreNames, AreNamesBelow, AreOf, AreZero, HaveNames, IsBelowNames, IsListOf, IsOfNames, IsWithin, StartNamesFrom, factors_of, led}}
-pub use Rattle.expand_forms.specs.{Named.{named_polynomial}, PackedOrder.{behind_cmp, eight_names, exponents_cmp, first_exponent, kind_with, packed_term_cmp}, Parts.{Part, each_once, has_factors}}
-pub use Rattle.expand_forms.specs.{Parts.{has_parts, multiplied, part, part_factor, parts_of, repeated, total}, PolynomialTrees.{are_polynomials, divisor_of, exponent_of, has_polynomial_root}}
-pub use Rattle.expand_forms.specs.{PolynomialTrees.{is_divisor, is_exponent, is_nonzero, is_polynomial, is_small, natural_of, polynomial_of, product_of, sum_of}, Polynomials.{AreMonomials, Factor}}
-pub use Rattle.expand_forms.specs.Polynomials.{IsBelowAll, IsMonomial, Monomial, Polynomial, Summand, coefficient_at, constant, factor, is_same_monomial, monomial_times, product, raised, scaled}
-pub use Rattle.expand_forms.specs.{Polynomials.{summand, summand_times, variable, with_factor}, PowersOfSums.{AreReady, AreReadyFrom, IsLeft, IsOverReady, IsReady, IsReadyFrom, has_power_of_sum}}
-pub use Rattle.expand_forms.specs.{PowersOfSums.{is_power_of_sum}, Reading.{AreAmong, AreComing, AreListed, BeginsOtherwise, HasName, IsSummandTree, IsTaken, IsUnlistedBy}}
-pub use Rattle.expand_forms.specs.{Rows.{row, with_coefficient}, Sums.{AreExpanded, AreSame, IsExpanded, IsPlace, IsSum, IsSumOf, with_term}, Terms.{HasMonomial, IsMonomialKey, IsRead, IsTerm}}
-pub use Rattle.expand_forms.specs.{Terms.{coefficient_in, factors_in, first_place, led_by, monomial_in, term_cmp, terms_in}, Values.{factor_value, given, monomial_value, polynomial_value}}
-pub use Rattle.expand_forms.specs.{Values.{summand_value}, Walks.{AreExpandedFrom, IsExpandedFrom, IsOver, IsPolynomial, MayLack, MayOverflow}, declared.merging.Next.{Next}}
-pub use Rattle.expand_forms.specs.{declared.unlisted.Unlisted.{Unlisted}, declared.unlisted.Unlisted.TheVariants.{Exponents, Names, Terms}}
-unfoldable pub use Rattle.expand_forms.specs.PackedOrder.{packed_cmp}
+pub use Rattle.expand_forms.specs.{Listed.{AreAhead, AreRead}, Merging.{AddsTrees, AreFactors, BeginsWith, GoesOn, IsFirst, IsNext}, Parts.{Part, each_once, has_factors, has_parts, multiplied, part}}
+pub use Rattle.expand_forms.specs.{Parts.{part_factor, parts_of, repeated, total}, PowersOfSums.{AreReady, AreReadyFrom, IsLeft, IsOverReady, IsReady, IsReadyFrom, has_power_of_sum, is_power_of_sum}}
+pub use Rattle.expand_forms.specs.{Reading.{AreComing, AreListed, BeginsOtherwise, IsSummandTree, IsTaken, IsUnlistedBy}, Rows.{row, with_coefficient}, Sums.{IsPlace, with_term}}
+pub use Rattle.expand_forms.specs.{Terms.{IsMonomialKey, IsRead}, Walks.{IsNoOverflow, AreExpandedFrom, IsExpandedFrom, IsOver, IsPolynomial, MayLack, MayOverflow}, declared.merging.Next.{Next}}
+pub use Rattle.expand_forms.specs.{declared.unlisted.Unlisted.{Unlisted}, declared.unlisted.Unlisted.TheVariants.{Exponents, Names, Terms}, ByValues.{CanName}}
+pub use Rattle.expansions.proofs.{AllMonomials.{AllHave, normal_all}, OrderedTerms.{AreFine, are_fine, named_terms, ordered_monomials, ordered_normal}, TreeBits.{AreHeldFrom, difference_held}}
+pub use Rattle.expansions.proofs.{TreeBits.{held_together, power_within, quotient_held, sum_held, tree_held}, Gathered.{IsGathered, gathered_append, gathered_is, gathered_products, gathered_refl}}
+pub use Rattle.expansions.proofs.{Gathered.{gathered_trans}, TreeMonomials.{all_monomials, monomial_times_monomial, tree_monomials}, Widths.{among_contained, few_factors, names_rise}}
+pub use Rattle.expansions.proofs.{Held.{answer_held, held_more, held_opposite, held_product, one_held}, TermCounts.{answer_most, few_terms, most_of_all, product_length, raised_length, scaled_length}}
+pub use Rattle.expansions.proofs.{TermCounts.{some_nodes, some_terms, within_room}, Names.{are_named, expanded_no_new_name, product_named}, NameLists.{below_has, below_push, contained_has, dropped}}
+pub use Rattle.expansions.proofs.{NameLists.{dropped_all, has_at, has_contained, is_less, name_same, names_length, not_first, taken}, MonomialProducts.{both_first}}
+pub use Rattle.expansions.proofs.{SameCoefficients.{constant_product, normal_same, product_both, product_right, same_is, same_sym, same_trans, scaled_one}, EachNamed.{each_named}}
+pub use Rattle.expansions.proofs.{FewTerms.{expanded_few, few_append, few_as, few_names, few_none, few_normal, sum_most}, TermPolynomials.{expanded_polynomial, sum_polynomial_is, term_coefficient}}
+pub use Rattle.expansions.proofs.{TermPolynomials.{tree_normal}, PackedOrders.{exponents_order, factors_decide, kinds_decide, next_none, next_some, packed_order, packed_term_total}}
+pub use Rattle.expansions.proofs.{TermBytes.{factors_most, terms_rise}, Masses.{later_exponents}, ListLaws.{list_as, list_power, list_product, list_sum}, NamedMonomials.{named_monomial}}
+pub use Rattle.expansions.proofs.{NormalForms.{normal_coefficient, normal_is, one_normal}, FactorTrees.{on_factor, on_monomial}, Turned.{product_turned}, FactorOrders.{symbol_is}}
+pub use Rattle.expansions.specs.ExpandedTrees.{IsBeforeAll, IsNormal, expanded, factor_tree, factor_trees, monomial_cmp, monomial_tree, normal, sum_tree, term_tree, term_trees}
+pub use Rattle.expansions.specs.{ExpansionBits.{AreHeldTogether, AreWhole, HasExponents, HaveExponents, IsHeld, mass}, ExpansionRoom.{AreNamed, HasFewTerms, IsNamed, count_distinct, expansion_room}}
+pub use Rattle.expansions.specs.ExpansionRoom.{factor_bytes, is_among, most_terms, most_terms_of, node_bytes, number_bytes, product_of_terms, sum_bytes, sum_of_terms, term_bytes, terms, terms_bytes}
+pub use Rattle.expansions.specs.Named.{AreNames, AreNamesBelow, AreOf, AreZero, IsBelowNames, IsListOf, IsOfNames, StartNamesFrom, factors_of, led, named_polynomial, AreAmong, HasName}
+pub use Rattle.expansions.specs.{PackedOrder.{exponents_cmp, first_exponent, kind_with, packed_term_cmp}, PolynomialTrees.{are_polynomials, divisor_of, exponent_of, has_polynomial_root, is_divisor}}
+pub use Rattle.expansions.specs.{PolynomialTrees.{is_exponent, is_polynomial, is_small, natural_of, polynomial_of, product_of, sum_of}, Polynomials.{AreMonomials, Factor, IsMonomial, Monomial}}
+pub use Rattle.expansions.specs.Polynomials.{Polynomial, Summand, coefficient_at, constant, factor, is_same_monomial, monomial_times, product, raised, scaled, summand, summand_times, variable}
+pub use Rattle.expansions.specs.{Sums.{AreExpanded, AreSame, IsExpanded, IsSum, IsSumOf}, Terms.{HasMonomial, IsTerm, coefficient_in, factors_in, first_place, led_by, monomial_in, term_cmp, terms_in}}
+pub use Rattle.node_order.proofs.{KeyLaws.{behind-plains}, RankLaws.{sorted_by_calls}}
+pub use Rattle.node_order.specs.Keys.{trees_behind}
 pub use Rattle.node_pool.specs.{State.{State, free_of}, declared.full.Full.{Full}}
-pub use Rattle.number_forms.proofs.{ByKind.{children_number}, Rooms.{full_as, refusal_as}}
+pub use Rattle.number_forms.proofs.{ByKind.{children_number}, Rooms.{full_as, refusal_as}, TermTrees.{if_given}, Shaped.{two_from}}
 pub use Rattle.number_forms.specs.Sums.{removed}
-pub use Rattle.polynomials.proofs.Coefficients.{one_unpacked, same_coefficient}
-pub use Rattle.polynomials.specs.{Packed.{unpacked}, Polynomials.{one_monomial, worth}, Terms.{AreTermsOf, summand_of}, declared.term.Term.{Term}}
+pub use Rattle.polynomials.specs.{Packed.{unpacked}, Terms.{AreTermsOf, summand_of}, declared.term.Term.{Term}}
 unfoldable pub use Rattle.polynomials.specs.Packed.{monomial_of}
 pub use Rattle.rational128.proofs.{LowestTerms.{ratio_parts}, Reciprocals.{negative_parts}, Signed.{told}}
-pub use Rattle.reduce_port.specs.{Faults.{CountsRefusals, IfFull, IfInterrupted, fault_of}, declared.fault.ReduceFault.{ReduceFault}}
-pub use Rattle.reduce_walk.proofs.{Bits.{child_bits, own_bits}, Walks.{answers_count, nodes_append, nodes_by_children}}
-pub use Rattle.reduce_walk.specs.Answers.{AreAnswers, EachTree}
-pub use Rattle.std.proofs.Common.{Bool, Err, IsPermutation, List, Ok, Option, Result, Some, [], ap, append-nil, append_assoc, arith, below_more, cond, drop, eqb, false, get_or, get_or-set_other}
-pub use Rattle.std.proofs.Common.{get_or-set_same, inl, inr, length, map, max, min, negsuc, of_z, pos, refl, replicate, rules, set, subst, suc, sum_by, sym, take, to_z, true, vec_capacity, zero, ℕ, ℤ}
-pub use Rattle.std.proofs.{Common.{◌%◌, ◌*ℤ◌, ◌*◌, ◌++◌, ◌+ℤ◌, ◌+◌, ◌-◌, ◌/◌, ◌<◌, ◌^◌, ◌↔◌, ◌∙◌, ◌∷◌, ◌≡◌, ◌≢◌, ◌≤◌, ◌⊎◌}, Math.Nat.{div-div-eq-div-mul, dvd-mul_left, dvd_refl, le-max_left}}
-pub use Rattle.std.proofs.{Math.Nat.{le-max_right, max-le, mul_assoc, mul_comm, one-dvd, one-le-pow, pow-le-pow_left, pow-le-pow_right, pow-succ', pow-zero}, lemmas.Bool.{and_from, and_parts, eq-eqb}}
-pub use Rattle.std.proofs.{lemmas.Bool.{eqb-true, false_from_ne_true, ne_eqb, not_from_false}, lemmas.Int.{ints, to_z-of_z}, lemmas.List.{drop_all, get_or_default, length-append, length-map}}
-pub use Rattle.std.proofs.{lemmas.List.{length-reverse, length-set, length-take-le, reverse-append, reverse-reverse, take_all, take_more}, lemmas.List.Elements.{All-from_recursion, Contains-push}}
-pub use Rattle.std.proofs.{lemmas.List.Elements.{recursion_from_All}, lemmas.List.Sorted.{All-permutation, IsPermutation-keeps, sum_by-IsPermutation}, lemmas.Nat.{mul-le, pow-add, pow_below}}
-pub use Rattle.std.proofs.{lemmas.Nat.Gcd.{dvd_trans}, lemmas.Slice.Eq.{bytes_eq-Decides}}
-pub use Rattle.std.specs.{Cmp.Lexicographic.{nat_list_cmp_total, slice_cmp}, Int.{bytes_high_first, w128, ◌∣◌}, List.{AllByRecursion, swap}, Ordering.{int_cmp, is_eq, is_lt, nat_cmp, ordering_index}}
-pub use Rattle.std.specs.{Ordering.{ordering_reverse, ordering_then}, Prelude.{Contains, FitsSigned, IfErr, IfOk, IsSorted, IsTrue, None, OnOk, if◌then◌else◌, insert, is_err, is_ok, nat_abs, neg_ℤ}}
-pub use Rattle.std.specs.{Prelude.{not, reverse, ◌&&◌, ◌==◌, ◌||◌}, Str.{bytes_eq}, declared.cmp.Ordering.{Ordering}, declared.cmp.Ordering.TheVariants.{Equal, Greater, Less}}
+pub use Rattle.rational128.specs.declared.overflow.Overflow.{Overflow}
+pub use Rattle.reduce_port.specs.{Faults.{CountsRefusals, IfFull, IfInterrupted, fault_of}, declared.fault.ReduceFault.{ReduceFault}, Checks.{CalmUpTo, TripsWithin}}
+pub use Rattle.reduce_walk.proofs.{Bits.{child_bits, own_bits}, Walks.{answers_count, nodes_append, nodes_by_children}, Bytes.{root_over}, Port.{unfit_after_checks}}
+pub use Rattle.reduce_walk.specs.{Answers.{AreAnswers, EachTree}, Leaves.{is_leaf}}
+pub use Rattle.std.proofs.Common.{Bool, Err, List, Ok, Option, Result, Some, [], ap, append-nil, append_assoc, arith, below_more, cond, drop, eqb, false, get_or, inl, inr, length, map, min, negsuc}
+pub use Rattle.std.proofs.Common.{of_z, pos, refl, replicate, rules, subst, suc, sym, take, to_z, true, vec_capacity, zero, ℕ, ℤ, ◌%◌, ◌*◌, ◌++◌, ◌+◌, ◌-◌, ◌/◌, ◌<◌, ◌^◌, ◌↔◌, ◌∙◌, ◌∷◌, ◌≡◌, ◌≢◌, ◌≤◌}
+pub use Rattle.std.proofs.{Common.{◌⊎◌}, Math.Nat.{le-max_left, le-max_right, max-le, mul_assoc, mul_comm, pow-le-pow_left}, lemmas.Bool.{and_parts, eq-eqb, eqb-true, false_from_ne_true}}
+pub use Rattle.std.proofs.{lemmas.Bool.{not_from_false}, lemmas.Int.{ints, to_z-of_z}, lemmas.List.{drop_all, get_or_default, length-append, length-map, length-reverse, length-take-le}}
+pub use Rattle.std.proofs.{lemmas.List.{reverse-append, take_all, take_more}, lemmas.Nat.{mul-le, pow-add, pow_below}, lemmas.Result.{on_ok_weaker}}
+pub use Rattle.std.specs.{Cmp.Lexicographic.{slice_cmp}, Int.{w128, ◌∣◌}, Ordering.{int_cmp, nat_cmp}, Prelude.{Contains, FitsSigned, IfErr, IfOk, IsTrue, None, OnOk, if◌then◌else◌, is_err, is_ok}}
+pub use Rattle.std.specs.{Prelude.{nat_abs, neg_ℤ, not, reverse, ◌&&◌, ◌==◌, ◌||◌}, declared.cmp.Ordering.TheVariants.{Equal, Greater, Less}}
 pub use Rattle.tree_handles.proofs.{Beside.{gives_itself, gives_rest, gives_without}, Cuts.{represents_count}, Filling.{changes_after, changes_as, changes_free, changes_front, changes_last}}
 pub use Rattle.tree_handles.proofs.{Filling.{changes_last_front, changes_none, children_told, front_again, hole_stays}, Forests.{all-rest_trees, arity-join, bytes_in-join, join-empty, join_assoc}}
 pub use Rattle.tree_handles.proofs.{Forests.{keeps_after}, FreeBytes.{refused_below, replaced_free}, Fronts.{behind_first, behind_later, behind_new, front_after, front_after_one, front_after_two}}
 pub use Rattle.tree_handles.proofs.{Fronts.{front_at, front_end, front_put, front_same, front_without}, Given.{given_apart, given_handed, given_other, given_rest, given_root, given_same, given_told}}
 pub use Rattle.tree_handles.proofs.Given.{gives, gives_as, handed_at, owned, represents_handed, represents_join, represents_node, represents_none}
-pub use Rattle.tree_handles.proofs.{Joins.{holds-left, kids_of-join_left, tree_at-join_left}, Lasts.{apart, ends_as, ends_at, expression_root, kids_of_last, last_rest, last_root, last_tree}}
-pub use Rattle.tree_handles.proofs.{Lasts.{other_root}, Measures.{one_at}, NextChildren.{last_child, next_child}, Outcomes.{by_test, eqb-sym, if_map, or_true, passed_on, passed_result}, Parts.{at}}
-pub use Rattle.tree_handles.proofs.{Plains.{alone, children_of-plain, count-plains, size-plain, sizes-plains, whole_kids}, Refused.{kept_after, kept_same, refused_as, refuses_after}}
-pub use Rattle.tree_handles.proofs.{Room.{given_free, released_free}, Roots.{root-left, root_held}, Seen.{expression, product_kind, seen, sum_kind}, Visiting.{found, found-join, found-kids}}
-pub use Rattle.tree_handles.proofs.Visiting.{found-rest_trees, next_is, no_visit, some_next, visit_here, visits_left}
+pub use Rattle.tree_handles.proofs.{Joins.{holds-left, kids_of-join_left, tree_at-join_left}, Lasts.{apart, ends_as, ends_at, kids_of_last, last_rest, last_root, last_tree, other_root}}
+pub use Rattle.tree_handles.proofs.{Measures.{one_at}, NextChildren.{last_child, next_child}, Outcomes.{eqb-sym, if_map, or_true, passed_on, passed_result}, Parts.{at}, Plains.{alone}}
+pub use Rattle.tree_handles.proofs.{Plains.{children_of-plain, count-plains, size-plain, sizes-plains, whole_kids}, Refused.{kept_after, kept_same, refused_as, refuses_after}}
+pub use Rattle.tree_handles.proofs.{Room.{given_free, released_free}, Roots.{root-left, root_held}, Seen.{expression, live, product_kind, seen, sum_kind}, Visiting.{found, found-join, found-kids}}
+pub use Rattle.tree_handles.proofs.{Visiting.{found-rest_trees, next_is, no_visit, some_next, visit_here, visits_left}, Releases.{arity_le, few_nodes}, Distinct.{holds-tree_at, nth_root}}
 pub use Rattle.tree_handles.specs.{Children.{root_ids}, Expressions.{AllExpressions, IsExpression, IsWhole, children_of, compound, grown, inserted, nth, plain, plains, takes, takes_kind}}
 pub use Rattle.tree_handles.specs.{Faults.{Faults, IfOverflow, OfOverflow}, Forest.{Forest, Label, arity, bytes_in, empty, flatten, join, kids, node_of, one_tree, rest_trees, root_id, tree, tree_nth}}
 pub use Rattle.tree_handles.specs.{Forest.{with_nth}, Handed.{Ends, Gives, IsHanded, KeepsFront, tree_of}, Holes.{ChangesTree, set_child, set_tree}, Inside.{holds, kids_of, tree_at}, Lacking.{OfFull}}
 pub use Rattle.tree_handles.specs.{Roots.{adopted, behind_root, has_root, put, root_tree, without_root}, Standing.{IsRefused, KeepsRefusals, LacksBytes, Stands, forest}}
-pub use Rattle.tree_handles.specs.{Visits.{AreFound, visit_of, visits_of}, declared.fault.NumberFault.{NumberFault}, declared.visits.Visit.{Visit}}
+pub use Rattle.tree_handles.specs.{Visits.{AreFound, visit_of, visits_of}, declared.fault.NumberFault.{NumberFault}, declared.visits.Visit.{Visit}, Causes.{Overflows}}

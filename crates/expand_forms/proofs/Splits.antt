@@ -1,23 +1,7 @@
 -- Polynomials in two parts, one of which is joined to a sum: both are held as the whole is.
-use Rattle.expand_forms.proofs.Shared.{◌≡◌, ◌⊎◌, inl, inr, ℕ, zero, suc, ◌+◌, ◌^◌, ◌≤◌, ◌<◌, [], ◌∷◌, ◌++◌, pos, Bool, true, false, refl, sym, ap, ◌∙◌, subst, arith, mul-le, pow-add, pow_below}
-use Rattle.expand_forms.proofs.Shared.{magnitude_over, den_divides, magnitude_lowest, fraction_fits, sum_fits, Fraction, lowest, Tree, Trees, count, normal, sum_tree, term_trees, AreWhole, IsHeld}
-use Rattle.expand_forms.proofs.{Shared.{mass, AreMonomials, Polynomial, Summand, polynomial_of, IsExpanded, IsSum, coefficient_in, children_of, nth, ◌∣◌}, Joins.{sum_polynomial_is}}
-use Rattle.expand_forms.proofs.{Masses.{exponents_right, mass_append, whole_right}, TermPolynomials.{terms_polynomial, term_coefficient, term_polynomial, tree_normal}, TermReadings.{sum_children}}
-use Rattle.calc_bits.proofs.Fitting.{multiple_fits, sum_fits_over}
-
--- the part that stands behind
-pub held_behind : (v w : Polynomial) {h l : ℕ} → IsHeld (v ++ w) h l → IsHeld w h l
-held_behind v w x = grind (arith, whole_right, mass_append, exponents_right)
-
--- ---- an expanded tree has a normal polynomial, or is 0
-
-pub normal_or_none : (t : Tree) → IsExpanded t → (normal (polynomial_of t) ≡ polynomial_of t) ⊎ (normal (polynomial_of t) ≡ [])
-normal_or_none t e = by (normal (polynomial_of t)) refl (tree_normal t)
-  where
-    by : (w : Polynomial) → normal (polynomial_of t) ≡ w → AreMonomials w → (w ≡ polynomial_of t) ⊎ (w ≡ [])
-    by [] q m = inr refl
-    by (s ∷ []) q m = inl (sym (ap polynomial_of e ∙ ap (λ (u : Polynomial). polynomial_of (sum_tree (term_trees u))) q ∙ term_polynomial s m.0))
-    by (s ∷ u ∷ w) q m = inl (sym (ap polynomial_of e ∙ ap (λ (x : Polynomial). polynomial_of (sum_tree (term_trees x))) q ∙ terms_polynomial (s ∷ u ∷ w) m))
+use Rattle.expand_forms.proofs.Shared.{◌≡◌, ℕ, zero, suc, ◌+◌, ◌^◌, ◌≤◌, ◌<◌, [], ◌∷◌, pos, Bool, true, false, refl, sym, ap, ◌∙◌, subst, arith, mul-le, pow-add, pow_below, magnitude_over}
+use Rattle.expand_forms.proofs.Shared.{den_divides, magnitude_lowest, fraction_fits, sum_fits, Fraction, lowest, Tree, Trees, count, term_trees, AreWhole, IsHeld, mass, Polynomial, Summand}
+use Rattle.expand_forms.proofs.{Shared.{polynomial_of, IsSum, coefficient_in, children_of, nth, ◌∣◌, sum_polynomial_is, term_coefficient, multiple_fits, sum_fits_over}, TermReadings.{sum_children}}
 
 -- ---- what fits
 

@@ -2,7 +2,7 @@
 use Rattle.expand_forms.proofs.Shared.{◌≡◌, ◌≢◌, ◌≤◌, ◌<◌, ℕ, zero, suc, [], ◌∷◌, Bool, true, false, refl, sym, ap, ◌∙◌, arith, if◌then◌else◌, Less, product_tree, tree_cmp, tree_chain, zero_plus}
 use Rattle.expand_forms.proofs.Shared.{Fraction, plus, plus_assoc, plus_comm, zero_fraction, Tree, none, more, count, IsBeforeAll, IsNormal, monomial_cmp, term_tree, term_trees, AreMonomials}
 use Rattle.expand_forms.proofs.Shared.{IsMonomial, Monomial, Polynomial, Summand, coefficient_at, is_same_monomial, summand, AreSame, IsPlace, factors_in, term_cmp, removed, inserted, nth}
-use Rattle.expand_forms.proofs.{MonomialTrees.{turned}, NormalForms.{before_more}, SameCoefficients.{same_cons, same_refl, same_second, same_trans}, TermPolynomials.{term_factors}}
+use Rattle.expansions.proofs.{MonomialTrees.{turned}, NormalForms.{before_more}, SameCoefficients.{same_cons, same_refl, same_second, same_trans}, TermPolynomials.{term_factors}}
 
 -- ---- terms and summands
 

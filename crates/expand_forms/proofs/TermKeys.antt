@@ -1,6 +1,6 @@
 -- The keys of monomials, and their order.
 use Rattle.expand_forms.proofs.Shared.{◌≡◌, ◌≢◌, [], ◌∷◌, refl, sym, ap, ◌∙◌, arith, None, Less, Greater, product_tree, tree_cmp, one_fraction, Tree, num, count, root_kind, factor_trees, monomial_cmp}
-use Rattle.expand_forms.proofs.{Shared.{Monomial, HasMonomial, IsMonomialKey, factors_in, term_cmp, Forest}, FactorTrees.{on_factor, on_monomial}}
+use Rattle.expand_forms.proofs.Shared.{Monomial, HasMonomial, IsMonomialKey, factors_in, term_cmp, Forest, on_factor, on_monomial}
 use Rattle.calc_terms.specs.declared.kind.Kind.TheVariants as kind
 
 -- ---- how many factors there are

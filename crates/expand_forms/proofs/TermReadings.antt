@@ -3,8 +3,8 @@ use Rattle.expand_forms.proofs.Shared.{◌≡◌, ◌≤◌, ◌<◌, ℕ, ℤ, 
 use Rattle.expand_forms.proofs.Shared.{one_is, whole_denominator, whole_numerator, int_is_one, value_of, Fraction, is_one_fraction, lowest, one_fraction, plus, plus_lowest, Tree, num, symbol, mult}
 use Rattle.expand_forms.proofs.Shared.{power, Trees, more, append, count, is_add, is_mult, is_num, root_kind, factor_tree, factor_trees, term_tree, term_trees, IsFirst, IsNext, Next, Factor}
 use Rattle.expand_forms.proofs.Shared.{IsMonomial, Monomial, summand, IsSum, HasMonomial, IsRead, IsTerm, coefficient_in, factors_in, first_place, led_by, terms_in, holds-left, tree_at-join_left}
-use Rattle.expand_forms.proofs.{Shared.{IsExpression, children_of, nth, plain, Forest, Gives, tree_at, name_of}, FactorTrees.{on_factor}, MonomialProducts.{below_times, both_first, left_first}}
-use Rattle.expand_forms.proofs.{MonomialProducts.{put_first, right_is_first}, SumPlaces.{summand_at}, TermPolynomials.{term_factors}}
+use Rattle.expand_forms.proofs.{Shared.{IsExpression, children_of, nth, plain, Forest, Gives, tree_at, name_of}, SumPlaces.{summand_at}}
+use Rattle.expansions.proofs.{FactorTrees.{on_factor}, MonomialProducts.{below_times, both_first, left_first, put_first, right_is_first}, TermPolynomials.{term_factors}}
 use Rattle.expand_forms.specs.declared.factors.Factor.{Factor as Read}
 use Rattle.calc_terms.specs.declared.kind.Kind.TheVariants as kind
 

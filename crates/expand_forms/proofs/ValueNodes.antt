@@ -1,8 +1,7 @@
 -- Nodes over expanded children that are expanded as values.
 use Rattle.expand_forms.proofs.Shared.{◌≡◌, ℕ, List, [], ◌∷◌, subst, true, false, Result, Ok, Err, OnOk, is_err, is_ok, Contains, AreSame, IsMonomial, Tree, names, within_trans, children_of, nth}
-use Rattle.expand_forms.proofs.{Shared.{Polynomial, product, AreNames, IsListOf, named_polynomial, Term}, ChildRooms.{child_names}, NodeRooms.{nth_names}, AllMonomials.{AllHave}}
-use Rattle.expand_forms.proofs.{NamedMonomials.{named_monomial}, SameCoefficients.{product_both, same_sym, same_trans}, Turned.{product_turned}}
-use Rattle.expand_forms.specs.ByValues.{CanName}
+use Rattle.expand_forms.proofs.Shared.{Polynomial, product, AreNames, IsListOf, named_polynomial, Term, AllHave, named_monomial, product_both, same_sym, same_trans, product_turned, CanName}
+use Rattle.expand_forms.proofs.{ChildRooms.{child_names}, NodeRooms.{nth_names}}
 use Rattle.polynomials.specs.{Polynomials.{Polynomial as Packed}, Terms.{polynomial_of as packed_of}}
 
 -- ---- what a test tells

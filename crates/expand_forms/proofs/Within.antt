@@ -1,7 +1,6 @@
 -- A node below another one, beside the last tree.
 use Rattle.expand_forms.proofs.Shared.{arith, ◌≡◌, ◌<◌, ℕ, Bool, true, false, cond, eqb, ap, ◌∙◌, eq-eqb, tree_at-join_left, or_true, at, root_held, IsExpression, plain, Forest, arity, root_id}
-use Rattle.expand_forms.proofs.Shared.{tree_nth, Gives, holds, kids_of, tree_at, Tree}
-use Rattle.tree_handles.proofs.Distinct.{holds-tree_at, nth_root}
+use Rattle.expand_forms.proofs.Shared.{tree_nth, Gives, holds, kids_of, tree_at, Tree, holds-tree_at, nth_root}
 
 pub inside_itself : (i : ℕ) (f : Forest) → holds i f ≡ true → holds i (tree_at i f) ≡ true
 inside_itself i f h =

@@ -1,6 +1,7 @@
 -- Monomials as lists of their factors, and as nodes that a walk comes to.
 use Rattle.std.specs.Prelude.{◌≡◌, ⊤, List, [], ◌∷◌}
-use Rattle.expand_forms.specs.{declared.factors.Factor.{Factor as Read}, ExpandedTrees.{factor_trees}, Polynomials.{IsMonomial, Monomial}, Terms.{IsRead}}
+use Rattle.expand_forms.specs.{declared.factors.Factor.{Factor as Read}, Terms.{IsRead}}
+use Rattle.expansions.specs.{ExpandedTrees.{factor_trees}, Polynomials.{IsMonomial, Monomial}}
 use Rattle.tree_handles.specs.{declared.visits.Visit.{Visit}, Expressions.{AllExpressions, plains}, Forest.{Forest}, Visits.{visits_of, AreFound}}
 
 -- factors as the code has them are those of a monomial, in their order

@@ -3,8 +3,8 @@ use Rattle.std.specs.{Prelude.{ℕ, ◌≡◌, ◌≤◌, ◌+◌, [], ◌∷◌
 use Rattle.std.specs.{Ordering.{nat_cmp}, Cmp.Lexicographic.{slice_cmp}}
 use Rattle.calc_terms.specs.Trees.{Trees, count, is_mult}
 use Rattle.child_lists.specs.Lists.{Lists}
-use Rattle.expand_forms.specs.{declared.factors.Factor.{Factor as Read}, declared.factors.Factors.{Factors}, declared.merging.Next.{Next}, Polynomials.{Factor, Monomial, factor, monomial_times}}
-use Rattle.expand_forms.specs.Terms.{IsRead, factors_in, first_place}
+use Rattle.expand_forms.specs.{declared.factors.Factor.{Factor as Read}, declared.factors.Factors.{Factors}, declared.merging.Next.{Next}, Terms.{IsRead}}
+use Rattle.expansions.specs.{Polynomials.{Factor, Monomial, factor, monomial_times}, Terms.{factors_in, first_place}}
 use Rattle.tree_handles.specs.{Expressions.{children_of, plain}, Forest.{Forest, join}, Handed.{Represents}, Inside.{tree_at}}
 
 -- the product begins with this factor, which the first factors of one monomial or of both make, and goes on with the product of the others

@@ -1,7 +1,7 @@
 -- Nodes as sums of trees times fractions, and as products of trees.
 use Rattle.std.specs.Prelude.{ℕ, zero, suc, Bool, true, false, List, [], ◌∷◌, ◌++◌}
 use Rattle.calc_terms.specs.{Fractions.{Fraction, inverse, minus_one_fraction, one_fraction}, Trees.{Tree, add, mult, power, neg, sub, div, Trees, none, more}}
-use Rattle.expand_forms.specs.{Polynomials.{Polynomial, scaled}, PolynomialTrees.{divisor_of, exponent_of, polynomial_of}}
+use Rattle.expansions.specs.{Polynomials.{Polynomial, scaled}, PolynomialTrees.{divisor_of, exponent_of, polynomial_of}}
 
 -- ---- what is added
 

@@ -1,7 +1,8 @@
 -- Powers of sums, which are left to be raised where their parent is expanded.
 use Rattle.std.specs.Prelude.{◌≡◌, ◌≤◌, ◌<◌, ◌⊎◌, Bool, true, false, ◌||◌}
 use Rattle.calc_terms.specs.Trees.{Tree, add, count, power, Trees, none, more}
-use Rattle.expand_forms.specs.{ExpandedTrees.{expanded}, PolynomialTrees.{exponent_of, has_polynomial_root, is_polynomial, polynomial_of}, Sums.{AreExpanded, IsExpanded}, Walks.{IsOver}}
+use Rattle.expansions.specs.{ExpandedTrees.{expanded}, PolynomialTrees.{exponent_of, has_polynomial_root, is_polynomial, polynomial_of}, Sums.{AreExpanded, IsExpanded}}
+use Rattle.expand_forms.specs.Walks.{IsOver}
 use Rattle.reduce_walk.specs.Answers.{AreAnswers, EachTree, IsOver as IsOverAnswers}
 use Rattle.tree_handles.specs.Expressions.{children_of}
 

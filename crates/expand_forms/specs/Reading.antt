@@ -1,9 +1,10 @@
 -- Expanded trees read into sorted lists of terms.
-use Rattle.std.specs.Prelude.{ℕ, ◌≡◌, ◌≢◌, ◌≤◌, ◌⊎◌, ⊤, List, [], ◌∷◌, drop, length, Contains, Option}
+use Rattle.std.specs.Prelude.{ℕ, ◌≡◌, ◌≢◌, ◌≤◌, ⊤, List, [], ◌∷◌, drop, length, Option}
 use Rattle.calc_terms.specs.{Fractions.{zero_fraction}, Trees.{Tree}}
-use Rattle.expand_forms.specs.{declared.factors.Factor.{Factor as Read}, declared.unlisted.Unlisted.{Unlisted}, declared.unlisted.Unlisted.TheVariants.{Names, Exponents, Terms}}
-use Rattle.expand_forms.specs.{ExpandedTrees.{IsBeforeAll, term_tree}, ExpansionRoom.{IsNamed}, Listed.{AreAhead}, Merging.{BeginsWith}, Named.{IsWithin, led, named, named_polynomial}}
-use Rattle.expand_forms.specs.{Polynomials.{IsMonomial, Monomial, Polynomial, Summand}, Sums.{AreSame}}
+use Rattle.expand_forms.specs.{declared.factors.Factor.{Factor as Read}, declared.unlisted.Unlisted.{Unlisted}, declared.unlisted.Unlisted.TheVariants.{Names, Exponents, Terms}, Listed.{AreAhead}}
+use Rattle.expand_forms.specs.Merging.{BeginsWith}
+use Rattle.expansions.specs.{ExpandedTrees.{IsBeforeAll, term_tree}, ExpansionRoom.{IsNamed}, Named.{IsWithin, led, named, named_polynomial}, Polynomials.{IsMonomial, Monomial, Polynomial, Summand}}
+use Rattle.expansions.specs.Sums.{AreSame}
 use Rattle.polynomials.specs.{Packed.{monomial_of}, Terms.{IsNormal, polynomial_of}, Unfits.{HasMonomial}, declared.term.Term.{Term}}
 use Rattle.tree_handles.specs.{Forest.{Forest}, declared.visits.Visit.{Visit}}
 
@@ -12,15 +13,6 @@ abbrev pub IsUnlistedBy : Type 0 → Type 0 → Type 0 → Unlisted → Type 0
 IsUnlistedBy names exponents terms Names = names
 IsUnlistedBy names exponents terms Exponents = exponents
 IsUnlistedBy names exponents terms Terms = terms
-
--- each of these names is one of the others
-abbrev pub AreAmong : List (List ℕ) → List (List ℕ) → Type 0
-AreAmong ns xs = (x : List ℕ) → Contains xs x → Contains ns x
-
--- the name is one of these
-abbrev pub HasName : List ℕ → List (List ℕ) → Type 0
-HasName x [] = ⊥
-HasName x (y ∷ ns) = (y ≡ x) ⊎ HasName x ns
 
 -- ---- factors
 

@@ -1,7 +1,7 @@
 -- A row of the products of two expanded trees.
 use Rattle.std.specs.Prelude.{ℕ, drop, map}
 use Rattle.calc_terms.specs.{Fractions.{Fraction}, Trees.{Tree}}
-use Rattle.expand_forms.specs.{ExpandedTrees.{normal}, Polynomials.{Polynomial, product, summand}, PolynomialTrees.{polynomial_of}}
+use Rattle.expansions.specs.{ExpandedTrees.{normal}, Polynomials.{Polynomial, product, summand}, PolynomialTrees.{polynomial_of}}
 
 -- the same monomials, each with the fraction c
 abbrev pub with_coefficient : Fraction → Polynomial → Polynomial

@@ -1,16 +1,18 @@
 //! The product of two terms, added to a sum that stands last.
-ghost use Rattle.expand_forms.specs.ExpansionBits.{IsHeld, IsNoOverflow};
+ghost use Rattle.expansions.specs.ExpansionBits.{IsHeld};
+ghost use Rattle.expand_forms.specs.Walks.{IsNoOverflow};
 ghost use Rattle.std.specs.Prelude.{◌≡◌, ◌<◌, ◌+◌, ℕ, [], ◌∷◌, IfErr, OnOk, length, false};
 ghost use Rattle.calc_terms.specs.Fractions.{is_zero_fraction};
 ghost use Rattle.calc_terms.specs.Rat.{value_of};
 ghost use Rattle.calc_terms.specs.Trees.{add, count, mult};
 ghost use Rattle.child_lists.specs.Lists.{Lists};
-ghost use Rattle.expand_forms.specs.ExpandedTrees.{factor_trees};
-ghost use Rattle.expand_forms.specs.ExpansionRoom.{number_bytes, term_bytes};
-ghost use Rattle.expand_forms.specs.Polynomials.{Monomial, monomial_times, summand};
-ghost use Rattle.expand_forms.specs.PolynomialTrees.{polynomial_of};
-ghost use Rattle.expand_forms.specs.Sums.{IsSum, IsSumOf, with_term};
-ghost use Rattle.expand_forms.specs.Terms.{HasMonomial};
+ghost use Rattle.expansions.specs.ExpandedTrees.{factor_trees};
+ghost use Rattle.expansions.specs.ExpansionRoom.{number_bytes, term_bytes};
+ghost use Rattle.expansions.specs.Polynomials.{Monomial, monomial_times, summand};
+ghost use Rattle.expansions.specs.PolynomialTrees.{polynomial_of};
+ghost use Rattle.expansions.specs.Sums.{IsSum, IsSumOf};
+ghost use Rattle.expand_forms.specs.Sums.{with_term};
+ghost use Rattle.expansions.specs.Terms.{HasMonomial};
 ghost use Rattle.node_pool.specs.State.{free_of};
 ghost use Rattle.tree_handles.specs.Lacking.{OfFull};
 ghost use Rattle.tree_handles.specs.Causes.{IsCaused};

@@ -3,11 +3,11 @@ ghost use Rattle.std.specs.Prelude.{◌≡◌, ◌<◌, ◌+◌, ◌^◌, ◌++�
 ghost use Rattle.calc_terms.specs.Rat.{value_of};
 ghost use Rattle.calc_terms.specs.declared.kind.Kind.TheVariants as kinds;
 ghost use Rattle.calc_terms.specs.Trees.{is_mult, root_kind};
-ghost use Rattle.expand_forms.specs.Named.{IsListOf, names_of};
+ghost use Rattle.expansions.specs.Named.{IsListOf, names_of};
 ghost use Rattle.expand_forms.specs.ByValues.{CanName};
-ghost use Rattle.expand_forms.specs.Polynomials.{Polynomial, product, raised, scaled};
+ghost use Rattle.expansions.specs.Polynomials.{Polynomial, product, raised, scaled};
 ghost use Rattle.expand_forms.specs.Parts.{has_parts};
-ghost use Rattle.expand_forms.specs.PolynomialTrees.{has_polynomial_root, polynomial_of};
+ghost use Rattle.expansions.specs.PolynomialTrees.{has_polynomial_root, polynomial_of};
 ghost use Rattle.expand_forms.specs.PowersOfSums.{AreReady, IsReady, is_power_of_sum};
 ghost use Rattle.polynomials.specs.Polynomials.{HaveExponents};
 ghost use Rattle.polynomials.specs.Terms.{IsNormal, polynomial_of as polynomial_in};
@@ -207,7 +207,7 @@ fn list_raised(pool: &Pool, child: Id, lists: &mut TermLists) -> bool
 }
 
 /// The product of two lists, of which rows run over the one with fewer terms.
-#[tactic(auto, using(crate::proofs::TermReadings::if_ok_map, crate::proofs::ListLaws::list_product))]
+#[tactic(auto, using(crate::proofs::TermReadings::if_ok_map, expansions::proofs::ListLaws::list_product))]
 fn multiply(
     a: &[Term],
     b: &[Term],

@@ -2,10 +2,11 @@
 ghost use Rattle.std.specs.Prelude.{◌≡◌, ◌≤◌, ◌<◌, drop, true};
 ghost use Rattle.calc_terms.specs.Rat.{value_of};
 ghost use Rattle.calc_terms.specs.Trees.{count, is_mult, power, symbol, whole_num};
-ghost use Rattle.expand_forms.specs.ExpandedTrees.{factor_tree};
+ghost use Rattle.expansions.specs.ExpandedTrees.{factor_tree};
 ghost use Rattle.expand_forms.specs.Merging.{AreFactors, BeginsWith};
-ghost use Rattle.expand_forms.specs.Polynomials.{Factor as FactorOf, Monomial};
-ghost use Rattle.expand_forms.specs.Terms.{HasMonomial, IsRead, coefficient_in, factors_in, first_place};
+ghost use Rattle.expansions.specs.Polynomials.{Factor as FactorOf, Monomial};
+ghost use Rattle.expansions.specs.Terms.{HasMonomial, coefficient_in, factors_in, first_place};
+ghost use Rattle.expand_forms.specs.Terms.{IsRead};
 ghost use Rattle.tree_handles.specs.Expressions.{IsExpression, children_of, nth, plain};
 ghost use Rattle.tree_handles.specs.Inside.{tree_at};
 ghost use Rattle.tree_handles.specs.Standing.{Stands, forest};

@@ -1,16 +1,17 @@
 //! Products of terms, joined to a sum that stands last.
-ghost use Rattle.expand_forms.specs.ExpansionBits.{IsHeld, IsNoOverflow};
+ghost use Rattle.expansions.specs.ExpansionBits.{IsHeld};
+ghost use Rattle.expand_forms.specs.Walks.{IsNoOverflow};
 ghost use Rattle.std.specs.Prelude.{◌≡◌, ◌<◌, ◌+◌, ℕ, List, [], ◌∷◌, ◌++◌, IfErr, OnOk, ◌^◌, false};
 ghost use Rattle.calc_terms.specs.Fractions.{is_zero_fraction};
 ghost use Rattle.calc_terms.specs.Rat.{value_of};
 ghost use Rattle.calc_terms.specs.Trees.{size};
 ghost use Rattle.child_lists.specs.Lists.{Lists};
-ghost use Rattle.expand_forms.specs.ExpansionRoom.{HasFewTerms, sum_bytes};
-ghost use Rattle.expand_forms.specs.Polynomials.{product};
-ghost use Rattle.expand_forms.specs.PolynomialTrees.{polynomial_of};
+ghost use Rattle.expansions.specs.ExpansionRoom.{HasFewTerms, sum_bytes};
+ghost use Rattle.expansions.specs.Polynomials.{product};
+ghost use Rattle.expansions.specs.PolynomialTrees.{polynomial_of};
 ghost use Rattle.expand_forms.specs.Rows.{row};
-ghost use Rattle.expand_forms.specs.Sums.{IsExpanded, IsSum, IsSumOf};
-ghost use Rattle.expand_forms.specs.Terms.{IsTerm};
+ghost use Rattle.expansions.specs.Sums.{IsExpanded, IsSum, IsSumOf};
+ghost use Rattle.expansions.specs.Terms.{IsTerm};
 ghost use Rattle.node_pool.specs.State.{free_of};
 ghost use Rattle.tree_handles.specs.Lacking.{OfFull};
 ghost use Rattle.tree_handles.specs.Causes.{IsCaused};

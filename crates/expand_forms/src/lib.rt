@@ -6,7 +6,6 @@ mod by_values;
 mod expansion;
 mod factors;
 mod joining;
-mod laws;
 mod merging;
 mod monomials;
 mod naming;

@@ -1,16 +1,18 @@
 //! The factors of two terms, merged in the order of their names.
-ghost use Rattle.expand_forms.specs.ExpansionBits.{HasExponents, IsNoOverflow};
+ghost use Rattle.expansions.specs.ExpansionBits.{HasExponents};
+ghost use Rattle.expand_forms.specs.Walks.{IsNoOverflow};
 ghost use Rattle.std.specs.Cmp.Lexicographic.{slice_cmp};
 ghost use Rattle.std.specs.Ordering.{nat_cmp};
 ghost use Rattle.std.specs.Prelude.{◌≡◌, ◌≤◌, ◌<◌, ◌*◌, [], IfOk, IfErr, OnOk, length, ℕ, ◌^◌, ◌+◌};
 ghost use Rattle.calc_terms.specs.Leaf.{name_of};
 ghost use Rattle.calc_terms.specs.Rat.{value_of};
 ghost use Rattle.calc_terms.specs.Trees.{num, power, symbol as symbol_tree};
-ghost use Rattle.expand_forms.specs.ExpandedTrees.{factor_tree, factor_trees};
-ghost use Rattle.expand_forms.specs.ExpansionRoom.{factor_bytes};
+ghost use Rattle.expansions.specs.ExpandedTrees.{factor_tree, factor_trees};
+ghost use Rattle.expansions.specs.ExpansionRoom.{factor_bytes};
 ghost use Rattle.expand_forms.specs.Merging.{AddsTrees, AreFactors, BeginsWith, GoesOn, IsFirst};
-ghost use Rattle.expand_forms.specs.Polynomials.{Factor as FactorOf, IsMonomial, Monomial, monomial_times};
-ghost use Rattle.expand_forms.specs.Terms.{HasMonomial, IsRead};
+ghost use Rattle.expansions.specs.Polynomials.{Factor as FactorOf, IsMonomial, Monomial, monomial_times};
+ghost use Rattle.expansions.specs.Terms.{HasMonomial};
+ghost use Rattle.expand_forms.specs.Terms.{IsRead};
 ghost use Rattle.node_pool.specs.State.{free_of};
 ghost use Rattle.tree_handles.specs.Lacking.{OfFull};
 ghost use Rattle.std.specs.declared.cmp.Ordering.TheVariants.{Equal};

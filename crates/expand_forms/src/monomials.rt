@@ -1,13 +1,14 @@
 //! New terms: the monomials of two terms multiplied, and then a coefficient.
-ghost use Rattle.expand_forms.specs.ExpansionBits.{HasExponents, IsNoOverflow};
+ghost use Rattle.expansions.specs.ExpansionBits.{HasExponents};
+ghost use Rattle.expand_forms.specs.Walks.{IsNoOverflow};
 ghost use Rattle.std.specs.Prelude.{◌≡◌, ◌<◌, [], ◌∷◌, IfOk, IfErr, OnOk, if◌then◌else◌, length, true, ℕ, ◌^◌};
 ghost use Rattle.calc_terms.specs.Rat.{value_of};
 ghost use Rattle.calc_terms.specs.Trees.{is_mult, more, mult, num};
-ghost use Rattle.expand_forms.specs.ExpandedTrees.{factor_trees, term_tree};
-ghost use Rattle.expand_forms.specs.ExpansionRoom.{number_bytes, term_bytes};
+ghost use Rattle.expansions.specs.ExpandedTrees.{factor_trees, term_tree};
+ghost use Rattle.expansions.specs.ExpansionRoom.{number_bytes, term_bytes};
 ghost use Rattle.expand_forms.specs.Merging.{AreFactors};
-ghost use Rattle.expand_forms.specs.Polynomials.{Monomial, monomial_times, summand};
-ghost use Rattle.expand_forms.specs.Terms.{HasMonomial, led_by};
+ghost use Rattle.expansions.specs.Polynomials.{Monomial, monomial_times, summand};
+ghost use Rattle.expansions.specs.Terms.{HasMonomial, led_by};
 ghost use Rattle.node_pool.specs.State.{free_of};
 ghost use Rattle.tree_handles.specs.Lacking.{OfFull};
 ghost use Rattle.tree_handles.specs.Causes.{IsCaused};

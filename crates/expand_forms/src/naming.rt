@@ -2,9 +2,9 @@
 ghost use Rattle.std.specs.Prelude.{◌≡◌, ◌≤◌, ◌<◌, ◌⊎◌, ℕ, List, IfErr, OnOk, drop, false, insert, length, min, take, true, vec_capacity};
 ghost use Rattle.calc_terms.specs.Leaf.{name_of};
 ghost use Rattle.calc_terms.specs.Trees.{names as names_in};
-ghost use Rattle.expand_forms.specs.ExpansionRoom.{count_distinct};
-ghost use Rattle.expand_forms.specs.Named.{AreNames, AreNamesBelow, StartNamesFrom, names_of};
-ghost use Rattle.expand_forms.specs.Reading.{AreAmong, HasName, IsUnlistedBy};
+ghost use Rattle.expansions.specs.ExpansionRoom.{count_distinct};
+ghost use Rattle.expansions.specs.Named.{AreNames, AreNamesBelow, StartNamesFrom, names_of, AreAmong, HasName};
+ghost use Rattle.expand_forms.specs.Reading.{IsUnlistedBy};
 ghost use Rattle.tree_handles.specs.Expressions.{IsExpression, plain};
 ghost use Rattle.tree_handles.specs.Inside.{tree_at};
 ghost use Rattle.tree_handles.specs.Standing.{Stands, forest};

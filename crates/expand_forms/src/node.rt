@@ -1,19 +1,19 @@
 //! One node over expanded children.
 ghost use Rattle.calc_measures.specs.Measures.{bits_of};
-ghost use Rattle.expand_forms.specs.ExpansionBits.{AreHeldTogether, IsHeld, IsNoOverflow};
-ghost use Rattle.expand_forms.specs.Walks.{IsOver};
+ghost use Rattle.expansions.specs.ExpansionBits.{AreHeldTogether, IsHeld};
+ghost use Rattle.expand_forms.specs.Walks.{IsNoOverflow, IsOver};
 ghost use Rattle.std.specs.Prelude.{ℕ, List, ◌≡◌, ◌≤◌, ◌<◌, ◌+◌, ◌^◌, [], ◌∷◌, ◌++◌, IfOk, IfErr, OnOk, length, true};
 ghost use Rattle.calc_algebra.specs.Rewritings.{HasNoNewName};
 ghost use Rattle.calc_terms.specs.Fractions.{one_fraction};
 ghost use Rattle.calc_terms.specs.Trees.{Tree, names, num, size};
 ghost use Rattle.child_lists.specs.Lists.{Lists};
-ghost use Rattle.expand_forms.specs.ExpandedTrees.{expanded};
-ghost use Rattle.expand_forms.specs.ExpansionRoom.{HasFewTerms, node_bytes, sum_bytes};
-ghost use Rattle.expand_forms.specs.Named.{IsListOf, names_of};
+ghost use Rattle.expansions.specs.ExpandedTrees.{expanded};
+ghost use Rattle.expansions.specs.ExpansionRoom.{HasFewTerms, node_bytes, sum_bytes};
+ghost use Rattle.expansions.specs.Named.{IsListOf, names_of};
 ghost use Rattle.expand_forms.specs.Parts.{has_factors, has_parts, multiplied, parts_of, total};
-ghost use Rattle.expand_forms.specs.Polynomials.{Polynomial};
-ghost use Rattle.expand_forms.specs.PolynomialTrees.{has_polynomial_root, is_polynomial, polynomial_of};
-ghost use Rattle.expand_forms.specs.Sums.{AreExpanded, IsSum, IsSumOf};
+ghost use Rattle.expansions.specs.Polynomials.{Polynomial};
+ghost use Rattle.expansions.specs.PolynomialTrees.{has_polynomial_root, is_polynomial, polynomial_of};
+ghost use Rattle.expansions.specs.Sums.{AreExpanded, IsSum, IsSumOf};
 ghost use Rattle.node_pool.specs.State.{free_of};
 ghost use Rattle.tree_handles.specs.Lacking.{OfFull};
 ghost use Rattle.tree_handles.specs.Causes.{IsCaused};

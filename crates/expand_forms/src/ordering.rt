@@ -3,10 +3,12 @@ ghost use Rattle.std.specs.Prelude.{◌≡◌, ◌<◌, ◌≤◌, true, IfOk, I
 ghost use Rattle.std.specs.declared.cmp.Ordering.TheVariants.{Equal};
 ghost use Rattle.calc_terms.specs.Trees.{Tree, count, is_mult};
 ghost use Rattle.child_lists.specs.Lists.{Lists};
-ghost use Rattle.expand_forms.specs.ExpandedTrees.{monomial_cmp};
-ghost use Rattle.expand_forms.specs.Polynomials.{Monomial};
-ghost use Rattle.expand_forms.specs.Sums.{IsPlace, IsSum};
-ghost use Rattle.expand_forms.specs.Terms.{HasMonomial, IsMonomialKey, term_cmp};
+ghost use Rattle.expansions.specs.ExpandedTrees.{monomial_cmp};
+ghost use Rattle.expansions.specs.Polynomials.{Monomial};
+ghost use Rattle.expand_forms.specs.Sums.{IsPlace};
+ghost use Rattle.expansions.specs.Sums.{IsSum};
+ghost use Rattle.expansions.specs.Terms.{HasMonomial, term_cmp};
+ghost use Rattle.expand_forms.specs.Terms.{IsMonomialKey};
 ghost use Rattle.tree_handles.specs.Expressions.{IsExpression, children_of, nth, plain};
 ghost use Rattle.tree_handles.specs.Inside.{tree_at};
 ghost use Rattle.tree_handles.specs.Standing.{Stands, forest};

@@ -1,6 +1,6 @@
 //! The order of packed monomials, which is that of their trees.
 ghost use Rattle.std.specs.Prelude.{◌≡◌, ◌<◌, ◌^◌, ℕ, [], IsPermutation, IsSorted, length, reverse, slice_index_or};
-ghost use Rattle.expand_forms.specs.PackedOrder.{behind_cmp, exponents_cmp, first_cmp, first_exponent, kind_with, packed_cmp, packed_term_cmp};
+ghost use Rattle.expansions.specs.PackedOrder.{behind_cmp, exponents_cmp, first_cmp, first_exponent, kind_with, packed_cmp, packed_term_cmp};
 ghost use Rattle.polynomials.specs.Packed.{monomial_of};
 ghost use Rattle.polynomials.specs.declared.term.Term.{Term as TermOf};
 
@@ -37,7 +37,7 @@ fn know_bits(monomial: u64)
 
 /// The exponents of a packed monomial, in the order of their names.
 #[inline(always)]
-#[tactic(auto, using(crate::proofs::PackedOrders::be_bytes))]
+#[tactic(auto, using(expansions::proofs::PackedOrders::be_bytes))]
 pub(crate) fn exponents_of(monomial: u64) -> [u8; 8]
     ensures { result ≡ reverse (monomial_of monomial) }
 {

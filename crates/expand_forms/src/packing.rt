@@ -1,12 +1,13 @@
 //! The monomials of terms, packed into 64 bits.
 ghost use Rattle.std.specs.Prelude.{◌≡◌, ◌≤◌, ◌<◌, ◌*◌, ◌^◌, ◌-◌, IfErr, IfOk, length};
 ghost use Rattle.calc_terms.specs.Leaf.{name_of};
-ghost use Rattle.expand_forms.specs.ExpansionBits.{HasExponents};
-ghost use Rattle.expand_forms.specs.ExpansionRoom.{IsNamed};
-ghost use Rattle.expand_forms.specs.Named.{AreNames, IsOfNames, named, names_of};
-ghost use Rattle.expand_forms.specs.Polynomials.{Factor as FactorOf, Monomial};
+ghost use Rattle.expansions.specs.ExpansionBits.{HasExponents};
+ghost use Rattle.expansions.specs.ExpansionRoom.{IsNamed};
+ghost use Rattle.expansions.specs.Named.{AreNames, IsOfNames, named, names_of};
+ghost use Rattle.expansions.specs.Polynomials.{Factor as FactorOf, Monomial};
 ghost use Rattle.expand_forms.specs.Reading.{AreComing, IsTaken, IsUnlistedBy};
-ghost use Rattle.expand_forms.specs.Terms.{HasMonomial, IsRead};
+ghost use Rattle.expansions.specs.Terms.{HasMonomial};
+ghost use Rattle.expand_forms.specs.Terms.{IsRead};
 ghost use Rattle.polynomials.specs.Packed.{monomial_of};
 ghost use Rattle.tree_handles.specs.Expressions.{IsExpression, plain};
 ghost use Rattle.tree_handles.specs.Inside.{tree_at};

@@ -4,9 +4,9 @@ ghost use Rattle.calc_terms.specs.Fractions.{inverse, is_zero_fraction, minus_on
 ghost use Rattle.calc_terms.specs.Rat.{value_of};
 ghost use Rattle.calc_terms.specs.Trees.{count};
 ghost use Rattle.expand_forms.specs.Parts.{has_factors, has_parts, multiplied, part, part_factor, parts_of};
-ghost use Rattle.expand_forms.specs.PolynomialTrees.{divisor_of, exponent_of as natural_exponent, has_polynomial_root, is_divisor, is_exponent};
+ghost use Rattle.expansions.specs.PolynomialTrees.{divisor_of, exponent_of as natural_exponent, has_polynomial_root, is_divisor, is_exponent};
 ghost use Rattle.expand_forms.specs.PowersOfSums.{AreReady, IsReady};
-ghost use Rattle.expand_forms.specs.Sums.{AreExpanded, IsExpanded};
+ghost use Rattle.expansions.specs.Sums.{AreExpanded, IsExpanded};
 ghost use Rattle.tree_handles.specs.Expressions.{IsExpression, children_of, nth, plain};
 ghost use Rattle.tree_handles.specs.Inside.{holds, tree_at};
 ghost use Rattle.tree_handles.specs.Standing.{Stands, forest};

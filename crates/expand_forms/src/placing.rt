@@ -1,12 +1,12 @@
 //! Lists of terms placed as trees.
 ghost use Rattle.std.specs.Prelude.{◌≡◌, ◌<◌, ◌≤◌, ◌+◌, ◌^◌, ℕ, List, [], IfOk, IfErr, OnOk, length};
 ghost use Rattle.calc_terms.specs.Rat.{value_of};
-ghost use Rattle.expand_forms.specs.ExpandedTrees.{expanded, sum_tree, term_tree, term_trees};
-ghost use Rattle.expand_forms.specs.ExpansionRoom.{AreNamed, HasFewTerms, number_bytes, sum_bytes, term_bytes, terms_bytes};
+ghost use Rattle.expansions.specs.ExpandedTrees.{expanded, sum_tree, term_tree, term_trees};
+ghost use Rattle.expansions.specs.ExpansionRoom.{AreNamed, HasFewTerms, number_bytes, sum_bytes, term_bytes, terms_bytes};
 ghost use Rattle.expand_forms.specs.Listed.{AreRead};
 ghost use Rattle.expand_forms.specs.Merging.{AddsTrees};
-ghost use Rattle.expand_forms.specs.Named.{IsListOf, named, named_polynomial, names_of};
-ghost use Rattle.expand_forms.specs.Polynomials.{AreMonomials, Polynomial, summand};
+ghost use Rattle.expansions.specs.Named.{IsListOf, named, named_polynomial, names_of};
+ghost use Rattle.expansions.specs.Polynomials.{AreMonomials, Polynomial, summand};
 ghost use Rattle.node_pool.specs.State.{free_of};
 ghost use Rattle.polynomials.specs.Packed.{monomial_of};
 ghost use Rattle.polynomials.specs.Terms.{polynomial_of};

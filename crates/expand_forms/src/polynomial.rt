@@ -3,7 +3,7 @@ ghost use Rattle.std.specs.Prelude.{◌≡◌, ◌<◌, ◌^◌, Some, nat_abs};
 ghost use Rattle.calc_measures.specs.Literals.{whole_literal, whole_value};
 ghost use Rattle.calc_terms.specs.Rat.{value_of};
 ghost use Rattle.calc_terms.specs.Trees.{neg as neg_of};
-ghost use Rattle.expand_forms.specs.PolynomialTrees.{has_polynomial_root, is_divisor, is_exponent, is_nonzero, is_polynomial, is_small};
+ghost use Rattle.expansions.specs.PolynomialTrees.{has_polynomial_root, is_divisor, is_exponent, is_nonzero, is_polynomial, is_small};
 ghost use Rattle.tree_handles.specs.Expressions.{IsExpression, plain};
 ghost use Rattle.tree_handles.specs.Inside.{tree_at};
 ghost use Rattle.tree_handles.specs.Standing.{Stands, forest};

@@ -2,8 +2,8 @@
 ghost use Rattle.std.specs.Prelude.{◌≡◌, ◌≤◌, ◌<◌, ◌+◌, ◌↔◌, [], ◌∷◌, IfOk, IfErr, IsTrue, OnOk, true};
 ghost use Rattle.calc_measures.specs.Measures.{most_bits};
 ghost use Rattle.calc_terms.specs.Trees.{Tree, count, is_add, size};
-ghost use Rattle.expand_forms.specs.ExpandedTrees.{expanded};
-ghost use Rattle.expand_forms.specs.PolynomialTrees.{exponent_of as natural_exponent, has_polynomial_root, is_polynomial, polynomial_of};
+ghost use Rattle.expansions.specs.ExpandedTrees.{expanded};
+ghost use Rattle.expansions.specs.PolynomialTrees.{exponent_of as natural_exponent, has_polynomial_root, is_polynomial, polynomial_of};
 ghost use Rattle.expand_forms.specs.PowersOfSums.{AreReady, IsLeft, IsOverReady, IsReadyFrom, has_power_of_sum, is_power_of_sum};
 ghost use Rattle.expand_forms.specs.Walks.{IsOver, IsPolynomial, MayLack};
 ghost use Rattle.node_pool.specs.State.{free_of};

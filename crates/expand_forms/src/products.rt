@@ -1,12 +1,13 @@
 //! Expanded trees multiplied.
-ghost use Rattle.expand_forms.specs.ExpansionBits.{IsHeld, IsNoOverflow};
+ghost use Rattle.expansions.specs.ExpansionBits.{IsHeld};
+ghost use Rattle.expand_forms.specs.Walks.{IsNoOverflow};
 ghost use Rattle.std.specs.Prelude.{ℕ, List, ◌≡◌, ◌<◌, ◌*◌, ◌+◌, ◌^◌, [], ◌∷◌, IfOk, IfErr, OnOk};
 ghost use Rattle.calc_terms.specs.Trees.{size};
-ghost use Rattle.expand_forms.specs.ExpandedTrees.{expanded};
-ghost use Rattle.expand_forms.specs.ExpansionRoom.{HasFewTerms, number_bytes, sum_bytes};
-ghost use Rattle.expand_forms.specs.Polynomials.{product};
-ghost use Rattle.expand_forms.specs.PolynomialTrees.{polynomial_of};
-ghost use Rattle.expand_forms.specs.Sums.{IsExpanded, IsSum};
+ghost use Rattle.expansions.specs.ExpandedTrees.{expanded};
+ghost use Rattle.expansions.specs.ExpansionRoom.{HasFewTerms, number_bytes, sum_bytes};
+ghost use Rattle.expansions.specs.Polynomials.{product};
+ghost use Rattle.expansions.specs.PolynomialTrees.{polynomial_of};
+ghost use Rattle.expansions.specs.Sums.{IsExpanded, IsSum};
 ghost use Rattle.node_pool.specs.State.{free_of};
 ghost use Rattle.tree_handles.specs.Lacking.{OfFull};
 ghost use Rattle.tree_handles.specs.Causes.{IsCaused};

@@ -1,13 +1,13 @@
 //! Expanded trees, read into sorted lists of terms.
 ghost use Rattle.std.specs.Prelude.{◌≡◌, ◌≤◌, ◌<◌, [], ◌∷◌, ◌++◌, IfErr, OnOk, length, vec_capacity};
 ghost use Rattle.calc_terms.specs.Trees.{names as names_in};
-ghost use Rattle.expand_forms.specs.ExpandedTrees.{IsBeforeAll, normal};
-ghost use Rattle.expand_forms.specs.ExpansionBits.{HasExponents, HaveExponents};
-ghost use Rattle.expand_forms.specs.Named.{AreNames, IsListOf, names_of};
-ghost use Rattle.expand_forms.specs.Polynomials.{Polynomial, Summand};
-ghost use Rattle.expand_forms.specs.PolynomialTrees.{polynomial_of};
-ghost use Rattle.expand_forms.specs.Reading.{AreAmong, AreListed, IsSummandTree, IsUnlistedBy};
-ghost use Rattle.expand_forms.specs.Sums.{IsExpanded};
+ghost use Rattle.expansions.specs.ExpandedTrees.{IsBeforeAll, normal};
+ghost use Rattle.expansions.specs.ExpansionBits.{HasExponents, HaveExponents};
+ghost use Rattle.expansions.specs.Named.{AreNames, IsListOf, names_of, AreAmong};
+ghost use Rattle.expansions.specs.Polynomials.{Polynomial, Summand};
+ghost use Rattle.expansions.specs.PolynomialTrees.{polynomial_of};
+ghost use Rattle.expand_forms.specs.Reading.{AreListed, IsSummandTree, IsUnlistedBy};
+ghost use Rattle.expansions.specs.Sums.{IsExpanded};
 ghost use Rattle.tree_handles.specs.Expressions.{IsExpression, plain};
 ghost use Rattle.tree_handles.specs.Inside.{tree_at};
 ghost use Rattle.tree_handles.specs.Standing.{Stands, forest};

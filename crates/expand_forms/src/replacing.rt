@@ -2,12 +2,12 @@
 ghost use Rattle.std.specs.Prelude.{◌≡◌, ◌<◌, ◌≤◌, ◌*◌, ◌^◌, [], IfOk, IfErr, OnOk, length};
 ghost use Rattle.calc_terms.specs.Rat.{value_of};
 ghost use Rattle.calc_terms.specs.Trees.{mult};
-ghost use Rattle.expand_forms.specs.ExpandedTrees.{factor_trees, term_tree};
-ghost use Rattle.expand_forms.specs.ExpansionRoom.{factor_bytes, term_bytes};
+ghost use Rattle.expansions.specs.ExpandedTrees.{factor_trees, term_tree};
+ghost use Rattle.expansions.specs.ExpansionRoom.{factor_bytes, term_bytes};
 ghost use Rattle.expand_forms.specs.Listed.{AreRead};
 ghost use Rattle.expand_forms.specs.Merging.{AddsTrees};
-ghost use Rattle.expand_forms.specs.Polynomials.{Monomial, summand};
-ghost use Rattle.expand_forms.specs.Terms.{led_by};
+ghost use Rattle.expansions.specs.Polynomials.{Monomial, summand};
+ghost use Rattle.expansions.specs.Terms.{led_by};
 ghost use Rattle.node_pool.specs.State.{free_of};
 ghost use Rattle.tree_handles.specs.Handed.{Gives, KeepsFront};
 ghost use Rattle.tree_handles.specs.Standing.{KeepsRefusals, LacksBytes, Refuses, Stands, forest};

@@ -2,7 +2,7 @@
 ghost use Rattle.std.specs.Prelude.{◌≡◌, ◌+◌, [], ◌∷◌, IfOk, IfErr, OnOk, true};
 ghost use Rattle.calc_measures.specs.Measures.{most_bits};
 ghost use Rattle.calc_terms.specs.Trees.{Tree, size};
-ghost use Rattle.expand_forms.specs.PolynomialTrees.{is_polynomial};
+ghost use Rattle.expansions.specs.PolynomialTrees.{is_polynomial};
 ghost use Rattle.expand_forms.specs.PowersOfSums.{IsOverReady, IsReadyFrom};
 ghost use Rattle.expand_forms.specs.Walks.{IsPolynomial, MayLack};
 ghost use Rattle.node_pool.specs.State.{free_of};

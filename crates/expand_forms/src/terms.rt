@@ -2,7 +2,7 @@
 ghost use Rattle.std.specs.Prelude.{◌≡◌, ◌<◌, true};
 ghost use Rattle.calc_terms.specs.Trees.{count};
 ghost use Rattle.child_lists.specs.Lists.{Lists};
-ghost use Rattle.expand_forms.specs.Terms.{terms_in};
+ghost use Rattle.expansions.specs.Terms.{terms_in};
 ghost use Rattle.tree_handles.specs.Expressions.{IsExpression, nth, plain};
 ghost use Rattle.tree_handles.specs.Inside.{holds, tree_at};
 ghost use Rattle.tree_handles.specs.Standing.{Stands, forest};

@@ -2,8 +2,8 @@
 ghost use Rattle.std.specs.Prelude.{◌≡◌, ◌<◌, IfSome, drop, length};
 ghost use Rattle.expand_forms.specs.Listed.{AreAhead};
 ghost use Rattle.expand_forms.specs.Merging.{BeginsWith};
-ghost use Rattle.expand_forms.specs.Polynomials.{Monomial};
-ghost use Rattle.expand_forms.specs.Terms.{HasMonomial};
+ghost use Rattle.expansions.specs.Polynomials.{Monomial};
+ghost use Rattle.expansions.specs.Terms.{HasMonomial};
 ghost use Rattle.tree_handles.specs.Expressions.{IsExpression, plain};
 ghost use Rattle.tree_handles.specs.Inside.{tree_at};
 ghost use Rattle.tree_handles.specs.Standing.{Stands, forest};

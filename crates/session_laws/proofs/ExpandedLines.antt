@@ -5,7 +5,7 @@ use Rattle.session_laws.proofs.Shared.{tree_expanded_reduced, TripsWithin, IsRep
 use Rattle.session_laws.proofs.{Shared.{IsReply}, AskedLines.{commanded_report, commanded_reply}, ExpressionReplies.{reply_to_text, reply_to_tree}}
 use Rattle.breakers.specs.State.{State as Breaker}
 use Rattle.calc_measures.specs.Measures.{bits as bits_of}
-use Rattle.expand_forms.proofs.{ExpandedMeanings.{expanded_means}, NormalForms.{one_normal_form}}
+use Rattle.expansions.proofs.{ExpandedMeanings.{expanded_means}, NormalForms.{one_normal_form}}
 use Rattle.calc_session.specs.Expanding.{is_interrupted, does_not_fit, lacks_bytes}
 use Rattle.session_laws.specs.ExpansionsMeant.{AsksExpansionOf, HaveSameCoefficients, TellsExpansion}
 

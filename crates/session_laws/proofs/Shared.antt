@@ -21,8 +21,8 @@ pub use Rattle.calc_terms.proofs.Sizes.{num_least}
 pub use Rattle.calc_terms.specs.{Node.{Node}, Trees.{Tree, depth, is_undef, more, names, nodes, none, size, undef}}
 pub use Rattle.calc_tokens.specs.Placed.{Placed}
 pub use Rattle.dual_diff.specs.Derivatives.{HasDerivative, derivative}
-pub use Rattle.expand_forms.proofs.ReducedExpansions.{tree_expanded_reduced}
-pub use Rattle.expand_forms.specs.{ExpandedTrees.{expanded, sum_tree, term_trees}, ExpansionRoom.{expansion_room}, PolynomialTrees.{is_polynomial, polynomial_of}}
+pub use Rattle.expansions.proofs.ReducedExpansions.{tree_expanded_reduced}
+pub use Rattle.expansions.specs.{ExpandedTrees.{expanded, sum_tree, term_trees}, ExpansionRoom.{expansion_room}, PolynomialTrees.{is_polynomial, polynomial_of}}
 pub use Rattle.linear_solve.specs.{Equations.{Equation, nodes_of_sides}, Fitting.{Misfit}, RisingNames.{AreNamesOf}}
 unfoldable pub use Rattle.linear_solve.specs.Solving.{solving}
 pub use Rattle.name_table.specs.{Filling.{Filling, NamedTree, filled, filling, fills, lacks, too_deep, value_in, values}, Held.{AreRoots, IsHeld, held_by, holders_in}, Storing.{IsStorable}}

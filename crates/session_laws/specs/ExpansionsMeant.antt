@@ -4,7 +4,7 @@ use Rattle.calc_algebra.specs.Rewritings.{KeepsMeanings}
 use Rattle.calc_commands.specs.Commands.{IsCommandLine, expand}
 use Rattle.calc_language.specs.Faces.{face}
 use Rattle.calc_terms.specs.Trees.{Tree}
-use Rattle.expand_forms.specs.{ExpandedTrees.{expanded}, Polynomials.{Monomial, coefficient_at}, PolynomialTrees.{is_polynomial, polynomial_of}}
+use Rattle.expansions.specs.{ExpandedTrees.{expanded}, Polynomials.{Monomial, coefficient_at}, PolynomialTrees.{is_polynomial, polynomial_of}}
 use Rattle.calc_session.specs.{Calculating.{ExpressionBecomes}, Expanding.{expansion_text}, States.{State}}
 
 -- in a state the line asks for the expansion of a text that becomes this tree

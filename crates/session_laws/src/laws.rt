@@ -23,8 +23,8 @@ ghost use Rattle.calc_terms.specs.Trees.{Tree, depth, names, nodes, size, undef}
 ghost use Rattle.calc_tokens.specs.Limits.{line_limit};
 ghost use Rattle.calc_tokens.specs.Placed.{Placed};
 ghost use Rattle.dual_diff.specs.Derivatives.{HasDerivative, derivative};
-ghost use Rattle.expand_forms.specs.ExpansionRoom.{expansion_room};
-ghost use Rattle.expand_forms.specs.PolynomialTrees.{is_polynomial};
+ghost use Rattle.expansions.specs.ExpansionRoom.{expansion_room};
+ghost use Rattle.expansions.specs.PolynomialTrees.{is_polynomial};
 ghost use Rattle.linear_solve.specs.Equations.{Equation, nodes_of_sides};
 ghost use Rattle.linear_solve.specs.Fitting.{Misfit};
 ghost use Rattle.linear_solve.specs.RisingNames.{AreNamesOf};

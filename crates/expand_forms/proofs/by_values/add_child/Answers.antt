@@ -1,5 +1,5 @@
-use Rattle.expand_forms.proofs.{Shared.{◌∙◌, List, sym, subst, Term, IsListOf, forest, plain, polynomial_of, tree_at, value_of}, ListLaws.{list_sum}, ValueNodes.{passed}}
-use Rattle.expand_forms.specs.Named.{names_of}
+use Rattle.expand_forms.proofs.{Shared.{◌∙◌, List, sym, subst, Term, IsListOf, forest, plain, polynomial_of, tree_at, value_of, list_sum}, ValueNodes.{passed}}
+use Rattle.expansions.specs.Named.{names_of}
 use Rattle.expand_forms.proofs.by_values.add_child.Goals as goal
 
 pub returns-clause-list : goal.returns-clause-list

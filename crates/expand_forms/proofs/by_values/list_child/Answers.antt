@@ -1,5 +1,5 @@
 use Rattle.expand_forms.proofs.{Shared.{names, AreAmong, ◌∙◌, List, sym, subst, Name, IsListOf, forest, plain, polynomial_of, tree_at}, PowersOfSums.{ready_expanded}, ValueNodes.{went}}
-use Rattle.expand_forms.specs.Named.{names_of}
+use Rattle.expansions.specs.Named.{names_of}
 use Rattle.expand_forms.proofs.by_values.list_child.Goals as goal
 
 pub read_terms-requires-clause-expanded : goal.read_terms-requires-clause-expanded

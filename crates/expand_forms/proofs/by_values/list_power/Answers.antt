@@ -1,5 +1,5 @@
-use Rattle.expand_forms.proofs.{Shared.{◌∙◌, List, sym, subst, Term, IsListOf, forest, plain, polynomial_of, tree_at}, ListLaws.{list_power}, ValueNodes.{went}}
-use Rattle.expand_forms.specs.Named.{names_of}
+use Rattle.expand_forms.proofs.{Shared.{◌∙◌, List, sym, subst, Term, IsListOf, forest, plain, polynomial_of, tree_at, list_power}, ValueNodes.{went}}
+use Rattle.expansions.specs.Named.{names_of}
 use Rattle.expand_forms.proofs.by_values.list_power.Goals as goal
 
 pub returns-clause-list : goal.returns-clause-list

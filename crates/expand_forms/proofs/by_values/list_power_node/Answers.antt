@@ -1,6 +1,6 @@
 use Rattle.expand_forms.proofs.Shared.{children_number, ◌≡◌, ◌∙◌, ap, arith, sym, subst, true, raised, IsExpanded, children_of, exponent_of, forest, has_polynomial_root, is_exponent, nth, plain}
-use Rattle.expand_forms.proofs.{Shared.{polynomial_of, tree_at, IsReady}, ListLaws.{list_as}, SameCoefficients.{same_is}, NodeKinds.{power_node}}
-use Rattle.expand_forms.proofs.{PowersOfSums.{exponent_expanded, ready_nth, two_children}, ValueNodes.{can_name_child}}
+use Rattle.expand_forms.proofs.{Shared.{polynomial_of, tree_at, IsReady}, NodeKinds.{power_node}, PowersOfSums.{exponent_expanded, ready_nth, two_children}, ValueNodes.{can_name_child}}
+use Rattle.expansions.proofs.{ListLaws.{list_as}, SameCoefficients.{same_is}}
 use Rattle.expand_forms.proofs.by_values.list_power_node.Goals as goal
 
 pub child_id-requires-clause-within : goal.child_id-requires-clause-within

@@ -1,7 +1,7 @@
 use Rattle.expand_forms.proofs.Shared.{◌≡◌, ◌<◌, ◌+◌, ◌-◌, ◌∙◌, ℕ, ap, refl, sym, subst, arith, children_of, count, forest, plain, polynomial_of, product, product_of, tree_at, IsReady}
-use Rattle.expand_forms.proofs.{ValueNodes.{can_name_child, passed}, ListLaws.{list_as, list_none, list_power}, NodeAnswers.{product_from, product_from_none, product_polynomial_of}, Nodes.{from}}
-use Rattle.expand_forms.proofs.{PowersOfSums.{ready_nth}, SameCoefficients.{same_is}}
-use Rattle.expand_forms.specs.Named.{names_of}
+use Rattle.expand_forms.proofs.{ValueNodes.{can_name_child, passed}, NodeAnswers.{product_from, product_from_none, product_polynomial_of}, Nodes.{from}, PowersOfSums.{ready_nth}}
+use Rattle.expansions.proofs.{ListLaws.{list_as, list_none, list_power}, SameCoefficients.{same_is}}
+use Rattle.expansions.specs.Named.{names_of}
 use Rattle.expand_forms.proofs.by_values.list_products.Goals as goal
 
 pub loop-left-init : goal.loop-left-init

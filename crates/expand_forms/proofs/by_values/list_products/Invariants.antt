@@ -1,5 +1,5 @@
 use Rattle.expand_forms.proofs.{Shared.{◌≡◌, ◌≤◌, children_of, count, plain, product_of, tree_at, forest, IsListOf}, Nodes.{from}}
-use Rattle.expand_forms.specs.Named.{names_of}
+use Rattle.expansions.specs.Named.{names_of}
 use Rattle.expand_forms.proofs.by_values.list_products.Given as goal
 
 abbrev pub invariant-loop-left : goal.invariant-loop-left

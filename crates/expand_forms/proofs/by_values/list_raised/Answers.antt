@@ -1,7 +1,7 @@
 use Rattle.expand_forms.proofs.Shared.{◌∙◌, List, length, ap, arith, sym, subst, names, Name, Term, AreNames, IsListOf, raised, AreAmong, IsExpanded, children_number, children_of, exponent_of, forest}
-use Rattle.expand_forms.proofs.{Shared.{has_polynomial_root, is_exponent, plain, polynomial_of, tree_at}, ListLaws.{list_as, list_power}, NameLists.{names_length}, SameCoefficients.{same_is}}
-use Rattle.expand_forms.proofs.{NodeChildren.{expanded_nth}, NodeKinds.{power_node}, PowersOfSums.{power_kind, ready_power, two_children}, ValueNodes.{can_name_child, passed, went}}
-use Rattle.expand_forms.specs.Named.{names_of}
+use Rattle.expand_forms.proofs.{Shared.{has_polynomial_root, is_exponent, plain, polynomial_of, tree_at, list_as, list_power, names_length, same_is}, NodeChildren.{expanded_nth}}
+use Rattle.expand_forms.proofs.{NodeKinds.{power_node}, PowersOfSums.{power_kind, ready_power, two_children}, ValueNodes.{can_name_child, passed, went}}
+use Rattle.expansions.specs.Named.{names_of}
 use Rattle.expand_forms.proofs.by_values.list_raised.Goals as goal
 
 pub child_id-base-requires-clause-within : goal.child_id-base-requires-clause-within

@@ -1,5 +1,5 @@
-use Rattle.expand_forms.proofs.{Shared.{◌∙◌, ap, take, arith, take_all, forest, plain, tree_at, value_of, parts_of, total}, ValueNodes.{can_name_child}, ListLaws.{list_as}}
-use Rattle.expand_forms.proofs.{NodeParts.{total_more, total_parts}, SameCoefficients.{same_is}}
+use Rattle.expand_forms.proofs.{Shared.{◌∙◌, ap, take, arith, take_all, forest, plain, tree_at, value_of, parts_of, total}, ValueNodes.{can_name_child}, NodeParts.{total_more, total_parts}}
+use Rattle.expansions.proofs.{ListLaws.{list_as}, SameCoefficients.{same_is}}
 use Rattle.expand_forms.proofs.by_values.list_sum.Goals as goal
 
 pub part_at-part-requires-clause-within : goal.part_at-part-requires-clause-within

@@ -1,5 +1,5 @@
 use Rattle.expand_forms.proofs.Shared.{◌≡◌, take, plain, tree_at, forest, IsListOf, parts_of, total}
-use Rattle.expand_forms.specs.Named.{names_of}
+use Rattle.expansions.specs.Named.{names_of}
 use Rattle.expand_forms.proofs.by_values.list_sum.Given as goal
 
 abbrev pub invariant-loop-at : goal.invariant-loop-at

@@ -1,12 +1,10 @@
 use Rattle.expand_forms.proofs.Shared.{◌*◌, ◌≤◌, ◌≡◌, ◌↔◌, ◌+◌, ◌<◌, ℕ, Err, Result, rules, sym, subst, arith, Ends, HasNoNewName, Tree, behind_first, behind_new, bits, expansion_room, forest}
 use Rattle.expand_forms.proofs.Shared.{free_of, front_after_one, front_same, front_without, given_handed, given_rest, given_told, gives_as, gives_rest, kept_after, last_tree, nodes, replaced_free}
-use Rattle.expand_forms.proofs.{Shared.{size, tree_of, without_root, Forest, CountsRefusals, IfFull, IfInterrupted, fault_of, ReduceFault, passed_result, LacksBytes}, AnswerFaults.{caused_full}}
-use Rattle.expand_forms.proofs.{AnswerFaults.{caused_overflow, no_interruption, refusal, told_full, told_interruption, told_overflow, told_refusals}, Names.{expanded_no_new_name}}
-use Rattle.expand_forms.proofs.{NodeBits.{beyond_bits}, TermCounts.{some_nodes, within_room}}
-use Rattle.breakers.specs.{Breakers.{TripsRose}, Watch.{states}}
-use Rattle.breakers.proofs.Runs.{calm_checks_raise_no_trips}
-use Rattle.reduce_port.specs.{Checks.{CalmUpTo, TripsWithin}, Faults.{IfOverflow}}
-use Rattle.reduce_walk.proofs.Port.{overflow_as, unfit_after_checks}
+use Rattle.expand_forms.proofs.Shared.{size, tree_of, without_root, Forest, CountsRefusals, IfFull, IfInterrupted, fault_of, ReduceFault, passed_result, LacksBytes, expanded_no_new_name, some_nodes}
+use Rattle.expand_forms.proofs.{Shared.{within_room, TripsRose, states, calm_checks_raise_no_trips, CalmUpTo, TripsWithin, unfit_after_checks}, AnswerFaults.{caused_full, caused_overflow}}
+use Rattle.expand_forms.proofs.{AnswerFaults.{no_interruption, refusal, told_full, told_interruption, told_overflow, told_refusals}, NodeBits.{beyond_bits}}
+use Rattle.reduce_port.specs.Faults.{IfOverflow}
+use Rattle.reduce_walk.proofs.Port.{overflow_as}
 use Rattle.reduce_port.specs.declared.fault.ReduceFault.TheVariants as fault
 use Rattle.expand_forms.proofs.expansion.expand.Goals as goal
 

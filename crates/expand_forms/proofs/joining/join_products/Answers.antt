@@ -1,7 +1,7 @@
 use Rattle.expand_forms.proofs.Shared.{rules, ◌+◌, ◌<◌, ◌∙◌, ◌++◌, drop, ap, sym, subst, arith, value_of, size, normal, IsNoOverflow, sum_bytes, Polynomial, product, polynomial_of, row, IsExpanded}
 use Rattle.expand_forms.proofs.Shared.{free_of, OfFull, gives_rest, passed_on, full_as, IsExpression, plain, Forest, tree_of, tree_at, without_root, forest, behind_first, front_after_one}
-use Rattle.expand_forms.proofs.{Shared.{given_handed, given_rest, lists_listed}, Gathered.{gathered_append, gathered_products, gathered_refl}, JoinLoops.{IsNextPart, IsNextTerm, joined_all}}
-use Rattle.expand_forms.proofs.{JoinLoops.{joined_lacks, joined_more, joined_none, next_part, next_term, part_few, part_held, place_read, terms_read}, Joins.{no_summands}, ListedTerms.{lists_beside}}
+use Rattle.expand_forms.proofs.{Shared.{given_handed, given_rest, lists_listed, gathered_append, gathered_products, gathered_refl}, JoinLoops.{IsNextPart, IsNextTerm, joined_all, joined_lacks}}
+use Rattle.expand_forms.proofs.{JoinLoops.{joined_more, joined_none, next_part, next_term, part_few, part_held, place_read, terms_read}, Joins.{no_summands}, ListedTerms.{lists_beside}}
 use Rattle.expand_forms.proofs.{Rows.{is_nonzero, next_coefficient, rows_next}, TermReadings.{beside}, joining.join_products.Given.{Over}, joining.join_products.Goals.{After-coefficient-factor}}
 use Rattle.expand_forms.proofs.joining.join_products.Goals as goal
 

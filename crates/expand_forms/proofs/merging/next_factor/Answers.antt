@@ -1,4 +1,4 @@
-use Rattle.expand_forms.proofs.{Shared.{arith, refl, subst, HasExponents, BeginsWith, IsMonomial, monomial_times}, MonomialProducts.{both_first}, TermReadings.{next_first, next_left}}
+use Rattle.expand_forms.proofs.{Shared.{arith, refl, subst, HasExponents, BeginsWith, IsMonomial, monomial_times, both_first}, TermReadings.{next_first, next_left}}
 use Rattle.expand_forms.proofs.merging.next_factor.Goals as goal
 
 pub first_of-requires : goal.first_of-requires

@@ -1,7 +1,7 @@
 use Rattle.expand_forms.proofs.Shared.{◌≡◌, ◌+◌, ℕ, ◌∙◌, ap, sym, subst, arith, ◌<◌, ◌*◌, length, drop, BeginsWith, factor_trees, HasExponents, factor_bytes, AddsTrees, GoesOn, IsNext, Monomial}
-use Rattle.expand_forms.proofs.Shared.{monomial_times, HasMonomial, free_of, OfFull, kept_after, kept_same, passed_on, plain, tree_at, forest, front_after, front_same, Option}
-use Rattle.expand_forms.proofs.{AddedTrees.{adds_beside, adds_free, factors_beside, head_beside}, Masses.{later_exponents}, Merged.{IsMerged, all_gone, few_merged, merged_all, merged_length}}
-use Rattle.expand_forms.proofs.{Merged.{merged_more, merged_none}, TermBytes.{factors_most}, TermReadings.{drop_length, drop_monomial, has_count}, merging.place_factors.Goals.{In-Some, In_ok-_factor}}
+use Rattle.expand_forms.proofs.Shared.{monomial_times, HasMonomial, free_of, OfFull, kept_after, kept_same, passed_on, plain, tree_at, forest, front_after, front_same, Option, later_exponents}
+use Rattle.expand_forms.proofs.{Shared.{factors_most}, AddedTrees.{adds_beside, adds_free, factors_beside, head_beside}, Merged.{IsMerged, all_gone, few_merged, merged_all, merged_length}}
+use Rattle.expand_forms.proofs.{Merged.{merged_more, merged_none}, TermReadings.{drop_length, drop_monomial, has_count}, merging.place_factors.Goals.{In-Some, In_ok-_factor}}
 use Rattle.expand_forms.specs.declared.factors.Factor.{Factor as Read}
 use Rattle.tree_handles.specs.declared.fault.NumberFault.TheVariants as fault
 use Rattle.expand_forms.proofs.merging.place_factors.Goals as goal

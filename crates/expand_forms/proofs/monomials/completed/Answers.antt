@@ -1,6 +1,5 @@
-use Rattle.expand_forms.proofs.Shared.{given_root, rules, ◌≡◌, ◌≤◌, ◌∙◌, ap, refl, sym, subst, product_tree, value_of, Tree, count, is_mult, mult, many_factors, expression, seen, led_by}
-use Rattle.expand_forms.proofs.Shared.{children_of, tree_of, behind_first, behind_new, front_after_one, front_same, front_without, given_handed, given_rest, given_told, gives_as}
-use Rattle.tree_handles.proofs.Seen.{live}
+use Rattle.expand_forms.proofs.Shared.{given_root, rules, ◌≡◌, ◌≤◌, ◌∙◌, ap, refl, sym, subst, product_tree, value_of, Tree, count, is_mult, mult, many_factors, expression, seen, led_by, children_of}
+use Rattle.expand_forms.proofs.Shared.{tree_of, behind_first, behind_new, front_after_one, front_same, front_without, given_handed, given_rest, given_told, gives_as, live}
 use Rattle.expand_forms.proofs.TermReadings.{led_some, led_term}
 use Rattle.expand_forms.proofs.monomials.completed.Goals as goal
 

@@ -1,6 +1,6 @@
-use Rattle.expand_forms.proofs.Shared.{◌≤◌, ℕ, List, length, take, drop, subst, sym, name_of, Name, AreNamesBelow, StartNamesFrom, HasName}
-use Rattle.expand_forms.proofs.{NameLists.{insert_kept, insert_only, insert_there, insert_names}, naming.add_name.Goals.{After-insert_name}}
-use Rattle.expand_forms.specs.Named.{names_of}
+use Rattle.expand_forms.proofs.{Shared.{◌≤◌, ℕ, List, length, take, drop, subst, sym, name_of, Name, AreNamesBelow, StartNamesFrom, HasName}, naming.add_name.Goals.{After-insert_name}}
+use Rattle.expansions.proofs.NameLists.{insert_kept, insert_only, insert_there, insert_names}
+use Rattle.expansions.specs.Named.{names_of}
 use Rattle.expand_forms.proofs.naming.add_name.Goals as goal
 
 module _ (c : After-insert_name) where

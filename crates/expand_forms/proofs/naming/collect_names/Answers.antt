@@ -1,7 +1,7 @@
 use Rattle.expand_forms.proofs.Shared.{◌≡◌, ◌<◌, List, length, min, subst, sym, ap, ◌∙◌, arith, vec_capacity, name_of, Name, count_distinct, forest, names, passed_on, plain, tree_at, AreNames}
-use Rattle.expand_forms.proofs.{Shared.{IsUnlistedBy, found}, NameLists.{contained_has, has_contained, names_length}, NamedNodes.{AreCollected, collected_all, collected_none, more_names, next_node}}
+use Rattle.expand_forms.proofs.{Shared.{IsUnlistedBy, found, contained_has, has_contained, names_length}, NamedNodes.{AreCollected, collected_all, collected_none, more_names, next_node}}
 use Rattle.expand_forms.proofs.{NamedNodes.{unlisted_names}, naming.collect_names.Goals.{in-Sym, in_default}}
-use Rattle.expand_forms.specs.Named.{names_of}
+use Rattle.expansions.specs.Named.{names_of}
 use Rattle.calc_terms.specs.declared.kind.Kind.TheVariants as kind
 use Rattle.expand_forms.proofs.naming.collect_names.Goals as goal
 

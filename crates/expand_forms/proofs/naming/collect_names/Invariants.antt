@@ -1,5 +1,5 @@
 use Rattle.expand_forms.proofs.{Shared.{◌≤◌, length, vec_capacity, names, plain, tree_at, forest, AreNames}, NamedNodes.{AreCollected}}
-use Rattle.expand_forms.specs.Named.{names_of}
+use Rattle.expansions.specs.Named.{names_of}
 use Rattle.expand_forms.proofs.naming.collect_names.Given as goal
 
 abbrev pub invariant-loop-node : goal.invariant-loop-node

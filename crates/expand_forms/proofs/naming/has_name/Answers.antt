@@ -1,5 +1,5 @@
-use Rattle.expand_forms.proofs.{Shared.{◌≡◌, ◌+◌, suc, drop, subst, arith, name_of, Name, List, ℕ, HasName}, NameLists.{dropped_all, dropped, has_at, name_same, not_first}}
-use Rattle.expand_forms.specs.Named.{names_of}
+use Rattle.expand_forms.proofs.Shared.{◌≡◌, ◌+◌, suc, drop, subst, arith, name_of, Name, List, ℕ, HasName, dropped_all, dropped, has_at, name_same, not_first}
+use Rattle.expansions.specs.Named.{names_of}
 use Rattle.expand_forms.proofs.naming.has_name.Goals as goal
 
 pub loop-other-init : goal.loop-other-init

@@ -1,5 +1,5 @@
 use Rattle.expand_forms.proofs.Shared.{drop, name_of, HasName}
-use Rattle.expand_forms.specs.Named.{names_of}
+use Rattle.expansions.specs.Named.{names_of}
 use Rattle.expand_forms.proofs.naming.has_name.Given as goal
 
 abbrev pub invariant-loop-other : goal.invariant-loop-other

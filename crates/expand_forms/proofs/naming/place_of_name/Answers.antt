@@ -1,5 +1,5 @@
-use Rattle.expand_forms.proofs.{Shared.{◌≡◌, ◌+◌, ℕ, suc, ◌∙◌, List, subst, sym, take, arith, name_of, Name, nat_cmp, slice_cmp, AreNamesBelow}, NameLists.{below_push, is_less, taken}}
-use Rattle.expand_forms.specs.Named.{names_of}
+use Rattle.expand_forms.proofs.Shared.{◌≡◌, ◌+◌, ℕ, suc, ◌∙◌, List, subst, sym, take, arith, name_of, Name, nat_cmp, slice_cmp, AreNamesBelow, below_push, is_less, taken}
+use Rattle.expansions.specs.Named.{names_of}
 use Rattle.expand_forms.proofs.naming.place_of_name.Goals as goal
 
 pub loop-at-preserved : goal.loop-at-preserved

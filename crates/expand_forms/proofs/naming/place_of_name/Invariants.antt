@@ -1,5 +1,5 @@
 use Rattle.expand_forms.proofs.Shared.{take, name_of, AreNamesBelow}
-use Rattle.expand_forms.specs.Named.{names_of}
+use Rattle.expansions.specs.Named.{names_of}
 use Rattle.expand_forms.proofs.naming.place_of_name.Given as goal
 
 abbrev pub invariant-loop-at : goal.invariant-loop-at

@@ -1,6 +1,6 @@
 use Rattle.expand_forms.proofs.Shared.{◌∙◌, ◌<◌, ap, subst, sym, IsListOf, OfFull, Tree, children_of, expression, free_of, has_polynomial_root, names, node_bytes, passed_on, polynomial_of, seen}
-use Rattle.expand_forms.proofs.{Shared.{tree_of, AreReady}, FewTerms.{few_names}, PowersOfSums.{all_ready}, node.expand_node.Goals.{Then-expand_values}}
-use Rattle.expand_forms.specs.Named.{names_of}
+use Rattle.expand_forms.proofs.{Shared.{tree_of, AreReady, few_names}, PowersOfSums.{all_ready}, node.expand_node.Goals.{Then-expand_values}}
+use Rattle.expansions.specs.Named.{names_of}
 use Rattle.tree_handles.specs.declared.fault.NumberFault.TheVariants as fault
 use Rattle.expand_forms.proofs.node.expand_node.Goals as goal
 

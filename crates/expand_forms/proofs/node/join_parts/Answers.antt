@@ -1,9 +1,8 @@
 use Rattle.expand_forms.proofs.Shared.{rules, ◌≡◌, ◌<◌, ◌≤◌, ◌+◌, ◌∙◌, ◌++◌, drop, length, ap, sym, subst, arith, Tree, size, polynomial_of, value_of, row, IsExpanded, IsTerm, AreExpanded}
 use Rattle.expand_forms.proofs.Shared.{has_polynomial_root, scaled, gives_rest, IsExpression, children_of, plain, Forest, tree_of, tree_at, without_root, forest, behind_first, front_after_one}
-use Rattle.expand_forms.proofs.{Shared.{given_rest, given_handed, sum_bytes, free_of, OfFull, passed_on, full_as, IsNoOverflow, drop_all, has_parts, parts_of, total}, JoinLoops.{joined_none}}
-use Rattle.expand_forms.proofs.{JoinLoops.{IsNextPart, joined_all, joined_lacks, joined_more, part_few, part_held}, Gathered.{gathered_append, gathered_is, gathered_refl, gathered_trans}}
-use Rattle.expand_forms.proofs.{PowersOfSums.{all_ready}, NodeParts.{one_term, part_row}, TermReadings.{beside}, Within.{IsWithin, within}, FewTerms.{few_as, few_append}}
-use Rattle.expand_forms.proofs.node.join_parts.Goals.{After-part_at-part}
+use Rattle.expand_forms.proofs.Shared.{given_rest, given_handed, sum_bytes, free_of, OfFull, passed_on, full_as, IsNoOverflow, drop_all, has_parts, parts_of, total, gathered_append, gathered_is}
+use Rattle.expand_forms.proofs.{Shared.{gathered_refl, gathered_trans, few_as, few_append}, JoinLoops.{joined_none, IsNextPart, joined_all, joined_lacks, joined_more, part_few, part_held}}
+use Rattle.expand_forms.proofs.{PowersOfSums.{all_ready}, NodeParts.{one_term, part_row}, TermReadings.{beside}, Within.{IsWithin, within}, node.join_parts.Goals.{After-part_at-part}}
 use Rattle.expand_forms.proofs.node.join_parts.Goals as goal
 
 pub part_count-at-end-requires : goal.part_count-at-end-requires

@@ -1,5 +1,5 @@
 use Rattle.expand_forms.proofs.Shared.{◌≡◌, ◌<◌, ◌∙◌, true, ap, refl, sym, arith, rules, names, size, plain, Forest, arity, bytes_in, at, tree_at, forest, front_end, front_same, gives_as, node_bytes}
-use Rattle.expand_forms.proofs.{Shared.{free_of, OfFull, passed_on, refused_below, size-plain, bits_of, high, low, OfOverflow, has_factors, has_parts}, FewTerms.{few_names}, NodeKinds.{leaf_itself}}
+use Rattle.expand_forms.proofs.{Shared.{free_of, OfFull, passed_on, refused_below, size-plain, bits_of, high, low, OfOverflow, has_factors, has_parts, few_names}, NodeKinds.{leaf_itself}}
 use Rattle.expand_forms.proofs.{NodeRooms.{leaf_size}, NodeBits.{few_bits, over_kind, within_bits}, NodeParts.{factors_over, parts_over}}
 use Rattle.tree_handles.specs.declared.fault.NumberFault.TheVariants as fault
 use Rattle.expand_forms.proofs.node.place_expansion.Goals as goal

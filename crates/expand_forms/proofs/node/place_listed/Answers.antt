@@ -1,6 +1,6 @@
 use Rattle.expand_forms.proofs.Shared.{◌<◌, inl, List, length, ap, refl, subst, sym, arith, rules, Name, Term, IsListOf, Polynomial, behind_first, free_of, front_after, front_at, front_same}
 use Rattle.expand_forms.proofs.{Shared.{front_without, given_other, gives_as, gives_without, node_bytes, owned, passed_on}, node.place_listed.Goals.{After-deref_mut}}
-use Rattle.expand_forms.specs.Named.{names_of}
+use Rattle.expansions.specs.Named.{names_of}
 use Rattle.expand_forms.proofs.node.place_listed.Goals as goal
 
 -- the terms that are placed

@@ -1,4 +1,4 @@
-use Rattle.expand_forms.proofs.{Shared.{◌≡◌, ◌∙◌, sym, ap, code_of, kind_with, nat_cmp}, PackedOrders.{exponents_order, factors_decide, kinds_decide, packed_order}}
+use Rattle.expand_forms.proofs.Shared.{◌≡◌, ◌∙◌, sym, ap, code_of, kind_with, nat_cmp, exponents_order, factors_decide, kinds_decide, packed_order}
 use Rattle.expand_forms.proofs.packed_order.compare_packed.Goals as goal
 
 pub returns : goal.returns

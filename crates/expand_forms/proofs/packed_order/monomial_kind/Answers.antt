@@ -1,5 +1,4 @@
-use Rattle.expand_forms.proofs.{Shared.{ℕ, ◌+◌, ◌∙◌, drop, ap, sym, kind_with}, PackedOrders.{next_none, next_some}, packed_order.monomial_kind.Goals.{then-exponent-ne0+else-only-ne0}}
-use Rattle.expand_forms.proofs.packed_order.monomial_kind.Goals.{else-exponent-ne0}
+use Rattle.expand_forms.proofs.{Shared.{ℕ, ◌+◌, ◌∙◌, drop, ap, sym, kind_with, next_none, next_some}, packed_order.monomial_kind.Goals.{then-exponent-ne0+else-only-ne0, else-exponent-ne0}}
 use Rattle.expand_forms.proofs.packed_order.monomial_kind.Goals as goal
 
 pub loop-exponent-preserved : goal.loop-exponent-preserved

@@ -1,6 +1,4 @@
-use Rattle.expand_forms.proofs.{Shared.{rules}, PackedOrders.{packed_term_total}}
-use Rattle.node_order.proofs.RankLaws.{sorted_by_calls}
-use Rattle.expand_forms.specs.PackedOrder.{packed_term_cmp}
+use Rattle.expand_forms.proofs.Shared.{rules, packed_term_total, sorted_by_calls, packed_term_cmp}
 use Rattle.expand_forms.proofs.packed_order.sort_terms.Goals as goal
 
 pub returns-clause-rising : goal.returns-clause-rising

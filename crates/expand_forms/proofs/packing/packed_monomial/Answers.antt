@@ -1,6 +1,6 @@
-use Rattle.expand_forms.proofs.Shared.{◌≡◌, ◌<◌, ◌≤◌, ℕ, suc, ◌+◌, ◌-◌, ◌*◌, ◌^◌, length, subst, sym, ap, ◌∙◌, arith, name_of, HasExponents, forest, passed_on, IsTaken, IsUnlistedBy}
-use Rattle.expand_forms.proofs.{NameLists.{names_length}, PackedTerms.{IsPacked, name_at, overflow, packed_all, packed_more, packed_none, too_large, unlisted_more}}
-use Rattle.expand_forms.specs.Named.{names_of}
+use Rattle.expand_forms.proofs.Shared.{◌≡◌, ◌<◌, ◌≤◌, ℕ, suc, ◌+◌, ◌-◌, ◌*◌, ◌^◌, length, subst, sym, ap, ◌∙◌, arith, name_of, HasExponents, forest, passed_on, IsTaken, IsUnlistedBy, names_length}
+use Rattle.expand_forms.proofs.PackedTerms.{IsPacked, name_at, overflow, packed_all, packed_more, packed_none, too_large, unlisted_more}
+use Rattle.expansions.specs.Named.{names_of}
 use Rattle.expand_forms.proofs.packing.packed_monomial.Goals as goal
 
 pub loop-name-init : goal.loop-name-init

@@ -1,5 +1,5 @@
 use Rattle.expand_forms.proofs.{Shared.{HasMonomial, IsNamed, Monomial, forest, plain, tree_at}, PackedTerms.{IsPackedTo}}
-use Rattle.expand_forms.specs.Named.{names_of}
+use Rattle.expansions.specs.Named.{names_of}
 use Rattle.expand_forms.proofs.packing.packed_monomial.Given as goal
 
 abbrev pub invariant-loop-name : goal.invariant-loop-name

@@ -1,4 +1,5 @@
-use Rattle.expand_forms.proofs.{Shared.{drop}, FactorOrders.{names_equal as names_cmp}, PackedTerms.{exponent_of, taken_first}, ValueLaws.{names_equal}}
+use Rattle.expand_forms.proofs.{Shared.{drop}, PackedTerms.{exponent_of, taken_first}}
+use Rattle.expansions.proofs.{FactorOrders.{names_equal as names_cmp}, ValueLaws.{names_equal}}
 use Rattle.expand_forms.proofs.packing.take_exponent.Goals as goal
 
 pub small_exponent-requires : goal.small_exponent-requires

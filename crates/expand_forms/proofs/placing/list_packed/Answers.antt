@@ -1,7 +1,8 @@
 use Rattle.expand_forms.proofs.{Shared.{sym, ◌≡◌, ◌<◌, ◌≤◌, ℕ, zero, suc, List, length, get_or, refl, ap, subst, arith, length-map, name_of, factors_of, AreRead}, PlacedTerms.{IsListedTo}}
-use Rattle.expand_forms.proofs.{PlacedTerms.{listed_none, listed_all, listed_push, listed_skip, small_told, whole_read}, PackedOrders.{packed_length}}
-use Rattle.expand_forms.proofs.placing.list_packed.Goals.{then-exponent-ne0, else-exponent-ne0}
-use Rattle.expand_forms.specs.{declared.factors.Factor.{Factor as Read}, Named.{names_of}}
+use Rattle.expand_forms.proofs.{PlacedTerms.{listed_none, listed_all, listed_push, listed_skip, small_told, whole_read}, placing.list_packed.Goals.{then-exponent-ne0, else-exponent-ne0}}
+use Rattle.expansions.proofs.PackedOrders.{packed_length}
+use Rattle.expand_forms.specs.declared.factors.Factor.{Factor as Read}
+use Rattle.expansions.specs.Named.{names_of}
 use Rattle.expand_forms.proofs.placing.list_packed.Goals as goal
 
 pub loop-place-init : goal.loop-place-init

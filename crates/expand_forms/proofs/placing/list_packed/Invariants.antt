@@ -1,4 +1,4 @@
-use Rattle.expand_forms.specs.Named.{names_of}
+use Rattle.expansions.specs.Named.{names_of}
 use Rattle.expand_forms.proofs.PlacedTerms.{IsListedTo}
 use Rattle.expand_forms.proofs.placing.list_packed.Given as goal
 

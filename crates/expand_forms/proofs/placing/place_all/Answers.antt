@@ -1,6 +1,6 @@
 use Rattle.expand_forms.proofs.Shared.{◌<◌, length, List, subst, arith, take_all, Term, AddsTrees, term_trees, terms_bytes, free_of, passed_on, kept_after, kept_same, forest, front_after, front_same}
-use Rattle.expand_forms.proofs.{AddedTrees.{adds_free, adds_none}, OrderedTerms.{named_terms}, PlacedTerms.{next_lacks, placed_more}}
-use Rattle.expand_forms.specs.Named.{names_of}
+use Rattle.expand_forms.proofs.{Shared.{named_terms}, AddedTrees.{adds_free, adds_none}, PlacedTerms.{next_lacks, placed_more}}
+use Rattle.expansions.specs.Named.{names_of}
 use Rattle.expand_forms.proofs.placing.place_all.Goals as goal
 
 pub loop-term-init : goal.loop-term-init

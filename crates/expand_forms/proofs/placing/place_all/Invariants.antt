@@ -1,5 +1,5 @@
-use Rattle.expand_forms.proofs.{Shared.{◌≡◌, [], take, AddsTrees, term_trees, KeepsFront, KeepsRefusals, Stands, forest}, OrderedTerms.{named_terms}}
-use Rattle.expand_forms.specs.Named.{names_of}
+use Rattle.expand_forms.proofs.Shared.{◌≡◌, [], take, AddsTrees, term_trees, KeepsFront, KeepsRefusals, Stands, forest, named_terms}
+use Rattle.expansions.specs.Named.{names_of}
 use Rattle.expand_forms.proofs.placing.place_all.Given as goal
 
 abbrev pub invariant-loop-term : goal.invariant-loop-term

@@ -1,6 +1,6 @@
-use Rattle.expand_forms.proofs.{Shared.{◌∙◌, ap, refl, sym, subst, length, arith, HasFewTerms, Polynomial, gives_as, refusal_as, sum_tree, term_trees}, EachNamed.{each_named}, FewTerms.{few_normal}}
-use Rattle.expand_forms.proofs.{OrderedTerms.{AreFine, are_fine, ordered_monomials, ordered_normal}, PlacedTerms.{named_length}, TermBytes.{terms_rise}, TermReadings.{if_ok_map}}
-use Rattle.expand_forms.specs.Named.{names_of}
+use Rattle.expand_forms.proofs.Shared.{◌∙◌, ap, refl, sym, subst, length, arith, HasFewTerms, Polynomial, gives_as, refusal_as, sum_tree, term_trees, each_named, few_normal, AreFine, are_fine}
+use Rattle.expand_forms.proofs.{Shared.{ordered_monomials, ordered_normal, terms_rise}, PlacedTerms.{named_length}, TermReadings.{if_ok_map}}
+use Rattle.expansions.specs.Named.{names_of}
 use Rattle.expand_forms.proofs.placing.place_terms.Goals as goal
 
 pub returns-clause-ok : goal.returns-clause-ok

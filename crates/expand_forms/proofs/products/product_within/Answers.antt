@@ -1,7 +1,7 @@
 use Rattle.expand_forms.proofs.Shared.{◌∙◌, ap, refl, sym, subst, ◌<◌, ◌+◌, ◌≤◌, ◌*◌, arith, expanded, product, Polynomial, polynomial_of, IsExpanded, gives_rest, kept_after, IsExpression, plain}
 use Rattle.expand_forms.proofs.Shared.{root_ids, Forest, kids_of_last, tree_at, without_root, forest, behind_new, front_after_one, front_same, given_rest, given_told, gives_as, HasFewTerms, sum_bytes}
 use Rattle.expand_forms.proofs.{Shared.{free_of, OfFull, passed_on, full_as, given_free, mul-le, refused_below, IsHeld, IsNoOverflow, lists_none}, Expansions.{empty_sum, nothing_added, sum_same}}
-use Rattle.expand_forms.proofs.{FewTerms.{few_append, few_none, few_product, some_few}, TermBytes.{some_bytes}}
+use Rattle.expansions.proofs.{FewTerms.{few_append, few_none, few_product, some_few}, TermBytes.{some_bytes}}
 use Rattle.tree_handles.specs.declared.fault.NumberFault.TheVariants as fault
 use Rattle.expand_forms.proofs.products.product_within.Goals as goal
 

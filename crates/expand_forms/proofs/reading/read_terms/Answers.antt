@@ -1,9 +1,8 @@
 use Rattle.expand_forms.proofs.Shared.{◌≡◌, ◌<◌, ◌++◌, ◌∷◌, [], ℕ, suc, length, take, drop, true, vec_capacity, subst, sym, ap, ◌∙◌, arith, refl, length-append, HaveExponents, Tree, Trees, count}
 use Rattle.expand_forms.proofs.Shared.{forest, is_add, kids_of, more, none, normal, nth, passed_on, plain, polynomial_of, rest_trees, root_ids, root_kind, sum_kind, terms_in, tree_at, IsUnlistedBy}
-use Rattle.expand_forms.proofs.{Shared.{next_child, last_child}, NameLists.{names_length}, ReadTerms.{IsNextSummand, alone_is, count_is, few_taken, if_err_map, listed_all, listed_first, listed_more}}
-use Rattle.expand_forms.proofs.{ReadTerms.{listed_none, summand_at, unlisted_as}, TermReadings.{sum_terms_in}, reading.read_terms.Goals.{in-Add, in_default, In-Some, Else-term_count-eq0}}
-use Rattle.std.proofs.lemmas.Result.{on_ok_weaker}
-use Rattle.expand_forms.specs.Named.{names_of}
+use Rattle.expand_forms.proofs.{Shared.{next_child, last_child, names_length, on_ok_weaker}, ReadTerms.{IsNextSummand, alone_is, count_is, few_taken, if_err_map, listed_all, listed_first}}
+use Rattle.expand_forms.proofs.{ReadTerms.{listed_more, listed_none, summand_at, unlisted_as}, TermReadings.{sum_terms_in}, reading.read_terms.Goals.{in-Add, in_default, In-Some, Else-term_count-eq0}}
+use Rattle.expansions.specs.Named.{names_of}
 use Rattle.calc_terms.specs.declared.kind.Kind.TheVariants as kind
 use Rattle.expand_forms.proofs.reading.read_terms.Goals as goal
 

@@ -1,5 +1,5 @@
 use Rattle.expand_forms.proofs.Shared.{◌≡◌, ◌≤◌, length, take, drop, vec_capacity, normal, polynomial_of, root_ids, plain, rest_trees, tree_at, kids_of, forest, AreListed}
-use Rattle.expand_forms.specs.Named.{names_of}
+use Rattle.expansions.specs.Named.{names_of}
 use Rattle.expand_forms.proofs.reading.read_terms.Given as goal
 
 abbrev pub invariant-loop-term : goal.invariant-loop-term

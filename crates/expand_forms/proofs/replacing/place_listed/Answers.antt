@@ -1,6 +1,5 @@
 use Rattle.expand_forms.proofs.Shared.{◌<◌, ◌*◌, length, take, subst, arith, AddsTrees, Monomial, factor_trees, factor_bytes, free_of, passed_on, kept_after, kept_same, forest, front_after}
-use Rattle.expand_forms.proofs.{Shared.{front_same, length-take-le, take_all}, FactorLists.{read_length}, AddedTrees.{adds_free, adds_none}, PlacedFactors.{placed_more, read_at}}
-use Rattle.expand_forms.proofs.TermBytes.{factors_most}
+use Rattle.expand_forms.proofs.{Shared.{front_same, length-take-le, take_all, factors_most}, FactorLists.{read_length}, AddedTrees.{adds_free, adds_none}, PlacedFactors.{placed_more, read_at}}
 use Rattle.expand_forms.proofs.replacing.place_listed.Goals as goal
 
 pub loop-factor-init : goal.loop-factor-init

@@ -1,9 +1,9 @@
 use Rattle.expand_forms.proofs.Shared.{◌∙◌, ◌≡◌, ◌+◌, ℕ, true, refl, sym, subst, ap, arith, rules, OfFull, Tree, behind_first, behind_new, children_of, expression, free_of, front_after_one}
 use Rattle.expand_forms.proofs.Shared.{front_same, front_without, given_handed, gives, gives_as, given_rest, given_told, has_polynomial_root, if_map, kept_same, no_new_name, own_bits, passed_on}
 use Rattle.expand_forms.proofs.Shared.{polynomial_of, represents_handed, seen, tree_of, size, within_same, names, most_terms, replaced_free, IsListOf, MayLack, IfErr, AreReady, is_power_of_sum}
-use Rattle.expand_forms.proofs.{Shared.{refused_as}, FewTerms.{few_names}, ListLaws.{list_as}, PowersOfSums.{children_ready, lacks, leaf_ready, left_from, left_power, no_result, over_ready}}
-use Rattle.expand_forms.proofs.{PowersOfSums.{placed_from, polynomial_root, same}, TermCounts.{few_terms, most_of_all}, step.expand_next.Goals.{Then-expand_values}}
-use Rattle.expand_forms.specs.Named.{names_of}
+use Rattle.expand_forms.proofs.{Shared.{refused_as, few_names, list_as, few_terms, most_of_all}, PowersOfSums.{children_ready, lacks, leaf_ready, left_from, left_power, no_result, over_ready}}
+use Rattle.expand_forms.proofs.{PowersOfSums.{placed_from, polynomial_root, same}, step.expand_next.Goals.{Then-expand_values}}
+use Rattle.expansions.specs.Named.{names_of}
 use Rattle.expand_forms.proofs.OverAnswers as over
 use Rattle.tree_handles.specs.declared.fault.NumberFault.TheVariants as fault
 use Rattle.expand_forms.proofs.step.expand_next.Goals as goal

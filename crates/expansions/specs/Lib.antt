@@ -1,0 +1,10 @@
+pub mod Polynomials
+pub mod Values
+pub mod PolynomialTrees
+pub mod ExpandedTrees
+pub mod ExpansionRoom
+pub mod ExpansionBits
+pub mod Terms
+pub mod Sums
+pub mod Named
+pub mod PackedOrder
