@@ -1,13 +1,10 @@
--- The names of a tree, node by node, and how many there are.
-use Rattle.expand_forms.proofs.Shared.{◌≡◌, ◌⊎◌, ◌<◌, ℕ, suc, List, [], ◌∷◌, ◌++◌, length, inl, inr, Bool, true, false, refl, sym, ap, ◌∙◌, subst, arith, append-nil, append_assoc, ◌==◌, if◌then◌else◌}
-use Rattle.expand_forms.proofs.Shared.{Payload, kind_of_payload, rational, named, bare, Kind, Within, Less, Equal, tree_cmp_same, false_from_ne_true, count_distinct, is_among, names, names_of, Trees}
-use Rattle.expand_forms.proofs.Shared.{more, none, count, symbol, is_symbol, nth, grown, compound, plain, takes, takes_kind, IsExpression, AllExpressions, alone, Forest, empty, tree, join, holds}
-use Rattle.expand_forms.proofs.Shared.{tree_at, arity, AreNames, HasName, IsUnlistedBy, Unlisted, Names, Exponents, Terms, one_at, count-plains, found-join, no_visit, visit_here, visits_left, plains}
-use Rattle.expand_forms.proofs.Shared.{visits_of, AreFound, Visit, below_has, contained_has, has_contained, among_contained, names_rise}
+-- The names of a tree, node by node.
+use Rattle.expand_forms.proofs.Shared.{◌≡◌, ◌⊎◌, ℕ, List, [], ◌∷◌, ◌++◌, inl, inr, true, refl, sym, ap, ◌∙◌, subst, arith, append-nil, append_assoc, ◌==◌, Payload, kind_of_payload, rational, named}
+use Rattle.expand_forms.proofs.Shared.{bare, Kind, names, names_of, Trees, more, none, count, symbol, is_symbol, nth, grown, compound, plain, takes, takes_kind, IsExpression, AllExpressions, alone}
+use Rattle.expand_forms.proofs.Shared.{Forest, empty, tree, join, holds, tree_at, arity, HasName, one_at, count-plains, found-join, no_visit, visit_here, visits_left, plains, visits_of, AreFound}
+use Rattle.expand_forms.proofs.Shared.{Visit}
 use Rattle.tree_handles.proofs.Visiting.{seen}
 use Rattle.calc_terms.specs.declared.kind.Kind.TheVariants as kind
-
--- ---- names in two lists
 
 -- ---- a node over its children
 
@@ -61,8 +58,6 @@ pub record AreCollected (ns : List (List ℕ)) (left : List Visit) (total : List
   pub found : AreFound base trees
   pub whole : AllExpressions trees
   pub all : (x : List ℕ) → HasName x total → HasName x ns ⊎ HasName x (names_of (plains trees))
-  pub only : (x : List ℕ) → HasName x ns → HasName x total
-  pub ahead : (x : List ℕ) → HasName x (names_of (plains trees)) → HasName x total
 
 pub collected_none : (i : ℕ) (f : Forest) {left : List Visit} → IsExpression i f → left ≡ visits_of (tree_at i f) → AreFound f (tree_at i f) → AreCollected [] left (names (plain (tree_at i f))) f
 collected_none i f x e d = record {
@@ -71,8 +66,6 @@ collected_none i f x e d = record {
   found = d;
   whole = x.whole;
   all = λ y h. inr (subst (HasName y) (sym one) h);
-  only = λ y h. absurd h;
-  ahead = λ y h. subst (HasName y) one h;
 }
   where
     one : names_of (plains (tree_at i f)) ≡ names (plain (tree_at i f))
@@ -82,21 +75,20 @@ collected_none i f x e d = record {
 pub record IsNextNode (ns : List (List ℕ)) (v : Visit) (left : List Visit) (total : List (List ℕ)) (base : Forest) : Type 0 where
   pub live : holds v.id base ≡ true
   pub symbol-is : v.kind ≡ kind.Sym → is_symbol (plain (tree_at v.id base)) ≡ true
-  pub inside : v.kind ≡ kind.Sym → (x : List ℕ) → plain (tree_at v.id base) ≡ symbol x → HasName x total
   pub with_name : v.kind ≡ kind.Sym → (x : List ℕ) (ms : List (List ℕ)) → plain (tree_at v.id base) ≡ symbol x → HasName x ms
-      → ((y : List ℕ) → HasName y ns → HasName y ms) → ((y : List ℕ) → HasName y ms → (x ≡ y) ⊎ HasName y ns) → AreCollected ms left total base
+      → ((y : List ℕ) → HasName y ns → HasName y ms) → AreCollected ms left total base
   pub without : (v.kind ≡ kind.Sym → ⊥) → AreCollected ns left total base
 
 name_is : {x y : List ℕ} → symbol x ≡ symbol y → x ≡ y
 name_is e = cc
 
 pub next_node : {ns total : List (List ℕ)} {v : Visit} {xs left : List Visit} {base : Forest} → AreCollected ns xs total base → xs ≡ v ∷ left → IsNextNode ns v left total base
-next_node {ns} {total} {v} {xs} {left} {base} w e = by w.trees (sym w.left-are ∙ e) w.found w.whole w.all w.ahead
+next_node {ns} {total} {v} {xs} {left} {base} w e = by w.trees (sym w.left-are ∙ e) w.found w.whole w.all
   where
     by : (f : Forest) → visits_of f ≡ v ∷ left → AreFound base f → AllExpressions f → ((x : List ℕ) → HasName x total → HasName x ns ⊎ HasName x (names_of (plains f)))
-        → ((x : List ℕ) → HasName x (names_of (plains f)) → HasName x total) → IsNextNode ns v left total base
-    by empty q d h all ahead = absurd cc
-    by (tree l k r) q d h all ahead =
+        → IsNextNode ns v left total base
+    by empty q d h all = absurd cc
+    by (tree l k r) q d h all =
         let here = visit_here l k r q in
         let s = seen l k r d here in
         let kind-is : v.kind ≡ kind_of_payload l.payload = ap (λ (y : Visit). y.kind) here in
@@ -109,10 +101,7 @@ next_node {ns} {total} {v} {xs} {left} {base} w e = by w.trees (sym w.left-are �
         record {
           live = s.live;
           symbol-is = λ z. let (y, p) = name_alone l.payload (arity k) h.0 (sym kind-is ∙ z) in ap is_symbol (t-is ∙ ap (λ (x : Payload). grown x (plains k)) p);
-          inside = λ z x g. let (y, p) = name_alone l.payload (arity k) h.0 (sym kind-is ∙ z) in
-              ahead x (subst (HasName x) (sym parts) (subst (λ (u : Payload). HasName x (own_names u ++ names_of (plains (join k r)))) (sym p)
-              (inl (name_is (sym (t-is ∙ ap (λ (u : Payload). grown u (plains k)) p) ∙ g)))));
-          with_name = λ z x ms g has kept only. let (y, p) = name_alone l.payload (arity k) h.0 (sym kind-is ∙ z) in
+          with_name = λ z x ms g has kept. let (y, p) = name_alone l.payload (arity k) h.0 (sym kind-is ∙ z) in
               let same : y ≡ x = name_is (sym (t-is ∙ ap (λ (u : Payload). grown u (plains k)) p) ∙ g) in
               let first : names_of (plains (tree l k r)) ≡ y ∷ names_of (plains (join k r)) = parts ∙ ap (λ (u : Payload). own_names u ++ names_of (plains (join k r))) p in
               record {
@@ -124,8 +113,6 @@ next_node {ns} {total} {v} {xs} {left} {base} w e = by w.trees (sym w.left-are �
                   | inl a ↦ inl (kept u a)
                   | inr a ↦ elim (subst (HasName u) first a) [ inl b ↦ inl (subst (λ (c : List ℕ). HasName c ms) (sym same ∙ b) has) | inr b ↦ inr b ]
                 ];
-                only = λ u m. elim (only u m) [ inl a ↦ ahead u (subst (HasName u) (sym first) (inl (same ∙ a))) | inr a ↦ w.only u a ];
-                ahead = λ u m. ahead u (subst (HasName u) (sym first) (inr m));
               };
           without = λ z.
               let rest : names_of (plains (tree l k r)) ≡ names_of (plains (join k r)) =
@@ -136,8 +123,6 @@ next_node {ns} {total} {v} {xs} {left} {base} w e = by w.trees (sym w.left-are �
                 found = found-join base k r d.1 d.2;
                 whole = all_join k r h.1 h.2;
                 all = λ u m. elim (all u m) [ inl a ↦ inl a | inr a ↦ inr (subst (HasName u) rest a) ];
-                only = w.only;
-                ahead = λ u m. ahead u (subst (HasName u) (sym rest) m);
               };
         }
       where
@@ -154,29 +139,3 @@ next_node {ns} {total} {v} {xs} {left} {base} w e = by w.trees (sym w.left-are �
 pub collected_all : {ns total : List (List ℕ)} {xs : List Visit} {base : Forest} → AreCollected ns xs total base → xs ≡ [] → (x : List ℕ) → HasName x total → HasName x ns
 collected_all {ns} {total} w e x h =
     elim (w.all x h) [ inl a ↦ a | inr a ↦ absurd (subst (λ (f : Forest). HasName x (names_of (plains f))) (no_visit w.trees (sym w.left-are ∙ e)) a) ]
-
--- ---- how many
-
-rising_count : (ns : List (List ℕ)) → AreNames ns → count_distinct ns ≡ length ns
-rising_count [] h = refl
-rising_count (x ∷ ns) h = by (is_among x ns) refl (rising_count ns h.1)
-  where
-    by : (b : Bool) → is_among x ns ≡ b → count_distinct ns ≡ length ns → (if b then count_distinct ns else suc (count_distinct ns)) ≡ suc (length ns)
-    by true e go = absurd (clash (sym (tree_cmp_same (symbol x) (symbol x) refl) ∙ below_has x x ns h.0 (has_contained ns x (among_contained ns x e))))
-      where
-        clash : Equal ≡ Less → ⊥
-        clash q = cc
-    by false e go = ap suc go
-
--- names of a tree, and one more that is none of them
-pub more_names : (ns total : List (List ℕ)) (x : List ℕ) → AreNames ns → ((y : List ℕ) → HasName y ns → HasName y total) → HasName x total → (HasName x ns → ⊥) → length ns < count_distinct total
-more_names ns total x h only has other =
-    let new : is_among x ns ≡ false = false_from_ne_true (is_among x ns) (λ e. other (has_contained ns x (among_contained ns x e))) in
-    let one : count_distinct (x ∷ ns) ≡ suc (count_distinct ns) = ap (λ (b : Bool). if b then count_distinct ns else suc (count_distinct ns)) new in
-    let within : Within total (x ∷ ns) = record { name = λ y c. contained_has total y (elim (has_contained (x ∷ ns) y c) [ inl e ↦ subst (λ (z : List ℕ). HasName z total) e has | inr g ↦ only y g ]) } in
-    omega (arith, names_rise total (x ∷ ns) within, one, rising_count ns h)
-
-pub unlisted_names : {P Q : Type 0} (u : Unlisted) → (P → Q) → IsUnlistedBy P ⊥ ⊥ u → IsUnlistedBy Q ⊥ ⊥ u
-unlisted_names Names f h = f h
-unlisted_names Exponents f h = h
-unlisted_names Terms f h = h

@@ -1,9 +1,9 @@
 -- Exponents taken from a term's factors, name by name, and packed.
 use Rattle.expand_forms.proofs.Shared.{◌≡◌, ◌≤◌, ◌<◌, ℕ, zero, suc, ◌+◌, ◌-◌, ◌*◌, ◌/◌, ◌%◌, ◌^◌, List, [], ◌∷◌, ◌++◌, length, get_or, drop, replicate, Option, Some, inl, inr, refl, sym, ap, ◌∙◌}
 use Rattle.expand_forms.proofs.Shared.{subst, arith, append-nil, append_assoc, reverse, mul_assoc, mul_comm, length-reverse, reverse-append, name_of, Name, Less, nat_cmp, slice_cmp, AreAhead}
-use Rattle.expand_forms.proofs.Shared.{BeginsWith, Factor, HasExponents, IsMonomial, IsNamed, IsRead, Monomial, factor, Forest, AreNames, AreOf, AreZero, IsBelowNames, IsOfNames, factors_of, led}
-use Rattle.expand_forms.proofs.Shared.{AreComing, BeginsOtherwise, IsTaken, IsUnlistedBy, Unlisted, Names, Exponents, Terms, monomial_of, unpacked, Visit}
-use Rattle.expansions.proofs.{Masses.{later_exponents}, NamedMonomials.{packed_length}, NameLists.{AllHaveNames, all_have, below_has, dropped, dropped_all, later_names}, TreeMonomials.{below_more}}
+use Rattle.expand_forms.proofs.Shared.{BeginsWith, Factor, IsMonomial, IsNamed, IsRead, Monomial, factor, Forest, AreNames, AreOf, AreZero, IsBelowNames, IsOfNames, factors_of, led, AreComing}
+use Rattle.expand_forms.proofs.Shared.{BeginsOtherwise, IsTaken, monomial_of, unpacked, Visit}
+use Rattle.expansions.proofs.{NamedMonomials.{packed_length}, NameLists.{AllHaveNames, all_have, below_has, dropped, dropped_all, later_names}, TreeMonomials.{below_more}}
 use Rattle.expansions.specs.Named.{named, names_of}
 use Rattle.expand_forms.specs.declared.factors.Factor.{Factor as Read}
 use Rattle.polynomials.specs.Polynomials.{Monomial as Packed}
@@ -31,12 +31,12 @@ taken_first {m} {next} {left} {nodes} {behind} {base} x e y h is name exponent b
       coming = record { monomial = w.2; begins = subst (BeginsWith left) rest begins; ahead = subst (λ (k : Monomial). AreAhead (drop 1 k) behind base) rest ahead };
     }
 
--- a factor that is read has its exponent
+-- a factor that is read
 pub exponent_of : {m : Monomial} {next : Option Read} {nodes : List Visit} {base : Forest} (y : Read) → AreComing m next nodes base → next ≡ Some y
-    → (f : Factor) × IsRead y f × (HasExponents 255 m → f.exponent ≤ 255)
+    → (f : Factor) × IsRead y f
 exponent_of {m} y h is =
     let (f, r, split, read) = subst (λ (o : Option Read). BeginsWith o m) is h.begins in
-    (f, read, λ k. (subst (HasExponents 255) split k).0)
+    (f, read)
 
 -- ---- so many names passed
 
@@ -124,16 +124,6 @@ packed_more {ns} {m} {i} {k} {next} {left} {nodes} {behind} {base} x e j p h l a
           (subst (AllHaveNames (x ∷ drop (suc i) ns)) t.split (subst (λ (xs : List (List ℕ)). AllHaveNames xs p.rest) first p.names)) t.other;
       coming = t.coming;
     })
-
--- an exponent that does not fit
-pub too_large : {ns : List (List ℕ)} {m : Monomial} {i k : ℕ} {next : Option Read} {nodes : List Visit} {base : Forest} (p : IsPackedTo ns m i k next nodes base) → (HasExponents 255 p.rest → ⊥)
-    → HasExponents 255 m → ⊥
-too_large {ns} {m} {i} {k} p h x = h (later_exponents 255 (factors_of ns (reverse (unpacked i k))) p.rest (subst (HasExponents 255) p.split x))
-
-pub unlisted_more : {P Q : Type 0} (u : Unlisted) → (P → Q) → IsUnlistedBy ⊥ P ⊥ u → IsUnlistedBy ⊥ Q ⊥ u
-unlisted_more Names f h = h
-unlisted_more Exponents f h = f h
-unlisted_more Terms f h = h
 
 pub name_at : (xs : List Name) (i : ℕ) (y : Name) → i < length xs → y ≡ get_or xs i y → name_of y ≡ get_or (names_of xs) i (name_of y)
 name_at [] i y l e = absurd (omega arith)

@@ -2,7 +2,7 @@
 pub use Rattle.breakers.proofs.Runs.{calm_checks_raise_no_trips}
 pub use Rattle.breakers.specs.{declared.watch.Interrupted.{Interrupted}, Breakers.{TripsRose}, Watch.{states}}
 pub use Rattle.calc_algebra.proofs.{InverseLaws.{factor_not_zero, inverse_times_itself, product_not_zero}, Names.{Within, names_of-append, no_new_name, within_beside, within_both, within_eq}}
-pub use Rattle.calc_algebra.proofs.{Names.{within_left, within_none, within_of, within_right, within_same, within_trans}, NumberClasses.{one_not_zero}, TreeOrderLaws.{tree_chain, tree_cmp_same}}
+pub use Rattle.calc_algebra.proofs.{Names.{within_left, within_none, within_of, within_right, within_same, within_trans}, NumberClasses.{one_not_zero}, TreeOrderLaws.{tree_chain}}
 pub use Rattle.calc_algebra.specs.{Reduced.{product_tree}, Rewritings.{HasNoNewName}, TreeOrder.{tree_cmp}}
 pub use Rattle.calc_bits.proofs.{Quotients.{den_divides, magnitude_lowest}, Fitting.{multiple_fits, sum_fits_over}}
 pub use Rattle.calc_bits.specs.Denominators.{magnitude_over}
@@ -19,28 +19,27 @@ pub use Rattle.child_lists.specs.Lists.{Lists}
 pub use Rattle.coefficients.proofs.Steps.{many_factors, one_value}
 pub use Rattle.expand_forms.specs.{Listed.{AreAhead, AreRead}, Merging.{AddsTrees, AreFactors, BeginsWith, GoesOn, IsFirst, IsNext}, Parts.{Part, each_once, has_factors, has_parts, multiplied, part}}
 pub use Rattle.expand_forms.specs.{Parts.{part_factor, parts_of, repeated, total}, PowersOfSums.{AreReady, AreReadyFrom, IsLeft, IsOverReady, IsReady, IsReadyFrom, has_power_of_sum, is_power_of_sum}}
-pub use Rattle.expand_forms.specs.{Reading.{AreComing, AreListed, BeginsOtherwise, IsSummandTree, IsTaken, IsUnlistedBy}, Rows.{row, with_coefficient}, Sums.{IsPlace, with_term}}
-pub use Rattle.expand_forms.specs.{Terms.{IsMonomialKey, IsRead}, Walks.{IsNoOverflow, AreExpandedFrom, IsExpandedFrom, IsOver, IsPolynomial, MayLack, MayOverflow}, declared.merging.Next.{Next}}
-pub use Rattle.expand_forms.specs.{declared.unlisted.Unlisted.{Unlisted}, declared.unlisted.Unlisted.TheVariants.{Exponents, Names, Terms}, ByValues.{CanName}}
+pub use Rattle.expand_forms.specs.{Reading.{AreComing, BeginsOtherwise, IsSummandTree, IsTaken}, Rows.{row, with_coefficient}, Sums.{IsPlace, with_term}, Terms.{IsMonomialKey, IsRead}}
+pub use Rattle.expand_forms.specs.{Walks.{IsNoOverflow, AreExpandedFrom, IsExpandedFrom, IsOver, IsPolynomial, MayLack, MayOverflow}, declared.merging.Next.{Next}, ByValues.{CanName}}
 pub use Rattle.expansions.proofs.{AllMonomials.{AllHave, normal_all}, OrderedTerms.{AreFine, are_fine, named_terms, ordered_monomials, ordered_normal}, TreeBits.{AreHeldFrom, difference_held}}
 pub use Rattle.expansions.proofs.{TreeBits.{held_together, power_within, quotient_held, sum_held, tree_held}, Gathered.{IsGathered, gathered_append, gathered_is, gathered_products, gathered_refl}}
-pub use Rattle.expansions.proofs.{Gathered.{gathered_trans}, TreeMonomials.{all_monomials, monomial_times_monomial, tree_monomials}, Widths.{among_contained, few_factors, names_rise}}
-pub use Rattle.expansions.proofs.{Held.{answer_held, held_more, held_opposite, held_product, one_held}, TermCounts.{answer_most, few_terms, most_of_all, product_length, raised_length, scaled_length}}
-pub use Rattle.expansions.proofs.{TermCounts.{some_nodes, some_terms, within_room}, Names.{are_named, expanded_no_new_name, product_named}, NameLists.{below_has, below_push, contained_has, dropped}}
-pub use Rattle.expansions.proofs.{NameLists.{dropped_all, has_at, has_contained, is_less, name_same, names_length, not_first, taken}, MonomialProducts.{both_first}}
-pub use Rattle.expansions.proofs.{SameCoefficients.{constant_product, normal_same, product_both, product_right, same_is, same_sym, same_trans, scaled_one}, EachNamed.{each_named}}
-pub use Rattle.expansions.proofs.{FewTerms.{expanded_few, few_append, few_as, few_names, few_none, few_normal, sum_most}, TermPolynomials.{expanded_polynomial, sum_polynomial_is, term_coefficient}}
-pub use Rattle.expansions.proofs.{TermPolynomials.{tree_normal}, PackedOrders.{exponents_order, factors_decide, kinds_decide, next_none, next_some, packed_order, packed_term_total}}
-pub use Rattle.expansions.proofs.{TermBytes.{factors_most, terms_rise}, Masses.{later_exponents}, ListLaws.{list_as, list_power, list_product, list_sum}, NamedMonomials.{named_monomial}}
-pub use Rattle.expansions.proofs.{NormalForms.{normal_coefficient, normal_is, one_normal}, FactorTrees.{on_factor, on_monomial}, Turned.{product_turned}, FactorOrders.{symbol_is}}
+pub use Rattle.expansions.proofs.{Gathered.{gathered_trans}, TreeMonomials.{all_monomials, monomial_times_monomial, tree_monomials}, Widths.{few_factors, names_rise}, Held.{answer_held, held_more}}
+pub use Rattle.expansions.proofs.{Held.{held_opposite, held_product, one_held}, TermCounts.{answer_most, few_terms, most_of_all, product_length, raised_length, scaled_length, some_nodes, some_terms}}
+pub use Rattle.expansions.proofs.{TermCounts.{within_room}, Names.{are_named, expanded_no_new_name, product_named}, NameLists.{below_push, contained_has, dropped, dropped_all, has_at, has_contained}}
+pub use Rattle.expansions.proofs.{NameLists.{is_less, name_same, names_length, not_first, taken}, MonomialProducts.{both_first}, SameCoefficients.{constant_product, normal_same, product_both}}
+pub use Rattle.expansions.proofs.{SameCoefficients.{product_right, same_is, same_sym, same_trans, scaled_one}, EachNamed.{each_named}, FewTerms.{expanded_few, few_append, few_as, few_names, few_none}}
+pub use Rattle.expansions.proofs.{FewTerms.{few_normal, sum_most}, TermPolynomials.{expanded_polynomial, sum_polynomial_is, term_coefficient, tree_normal}, PackedOrders.{exponents_order}}
+pub use Rattle.expansions.proofs.{PackedOrders.{factors_decide, kinds_decide, next_none, next_some, packed_order, packed_term_total}, TermBytes.{factors_most, terms_rise}, Masses.{later_exponents}}
+pub use Rattle.expansions.proofs.{ListLaws.{list_as, list_power, list_product, list_sum}, NamedMonomials.{named_monomial}, NormalForms.{normal_coefficient, normal_is, one_normal}}
+pub use Rattle.expansions.proofs.{FactorTrees.{on_factor, on_monomial}, Turned.{product_turned}, FactorOrders.{symbol_is}}
 pub use Rattle.expansions.specs.ExpandedTrees.{IsBeforeAll, IsNormal, expanded, factor_tree, factor_trees, monomial_cmp, monomial_tree, normal, sum_tree, term_tree, term_trees}
-pub use Rattle.expansions.specs.{ExpansionBits.{AreHeldTogether, AreWhole, HasExponents, HaveExponents, IsHeld, mass}, ExpansionRoom.{AreNamed, HasFewTerms, IsNamed, count_distinct, expansion_room}}
-pub use Rattle.expansions.specs.ExpansionRoom.{factor_bytes, is_among, most_terms, most_terms_of, node_bytes, number_bytes, product_of_terms, sum_bytes, sum_of_terms, term_bytes, terms, terms_bytes}
-pub use Rattle.expansions.specs.Named.{AreNames, AreNamesBelow, AreOf, AreZero, IsBelowNames, IsListOf, IsOfNames, StartNamesFrom, factors_of, led, named_polynomial, AreAmong, HasName}
+pub use Rattle.expansions.specs.{ExpansionBits.{AreHeldTogether, AreWhole, HasExponents, IsHeld, mass}, ExpansionRoom.{AreNamed, HasFewTerms, IsNamed, count_distinct, expansion_room, factor_bytes}}
+pub use Rattle.expansions.specs.{ExpansionRoom.{most_terms, most_terms_of, node_bytes, number_bytes, product_of_terms, sum_bytes, sum_of_terms, term_bytes, terms, terms_bytes}, Named.{AreNames}}
+pub use Rattle.expansions.specs.Named.{AreNamesBelow, AreOf, AreZero, IsBelowNames, IsListOf, IsOfNames, StartNamesFrom, factors_of, led, named_polynomial, AreAmong, HasName}
 pub use Rattle.expansions.specs.{PackedOrder.{exponents_cmp, first_exponent, kind_with, packed_term_cmp}, PolynomialTrees.{are_polynomials, divisor_of, exponent_of, has_polynomial_root, is_divisor}}
 pub use Rattle.expansions.specs.{PolynomialTrees.{is_exponent, is_polynomial, is_small, natural_of, polynomial_of, product_of, sum_of}, Polynomials.{AreMonomials, Factor, IsMonomial, Monomial}}
 pub use Rattle.expansions.specs.Polynomials.{Polynomial, Summand, coefficient_at, constant, factor, is_same_monomial, monomial_times, product, raised, scaled, summand, summand_times, variable}
-pub use Rattle.expansions.specs.{Sums.{AreExpanded, AreSame, IsExpanded, IsSum, IsSumOf}, Terms.{HasMonomial, IsTerm, coefficient_in, factors_in, first_place, led_by, monomial_in, term_cmp, terms_in}}
+pub use Rattle.expansions.specs.{Sums.{AreExpanded, AreSame, IsExpanded, IsSum, IsSumOf}, Terms.{HasMonomial, IsTerm, coefficient_in, factors_in, first_place, led_by, term_cmp, terms_in}}
 pub use Rattle.node_order.proofs.{KeyLaws.{behind-plains}, RankLaws.{sorted_by_calls}}
 pub use Rattle.node_order.specs.Keys.{trees_behind}
 pub use Rattle.node_pool.specs.{State.{State, free_of}, declared.full.Full.{Full}}
@@ -53,13 +52,13 @@ pub use Rattle.rational128.specs.declared.overflow.Overflow.{Overflow}
 pub use Rattle.reduce_port.specs.{Faults.{CountsRefusals, IfFull, IfInterrupted, fault_of}, declared.fault.ReduceFault.{ReduceFault}, Checks.{CalmUpTo, TripsWithin}}
 pub use Rattle.reduce_walk.proofs.{Bits.{child_bits, own_bits}, Walks.{answers_count, nodes_append, nodes_by_children}, Bytes.{root_over}, Port.{unfit_after_checks}}
 pub use Rattle.reduce_walk.specs.{Answers.{AreAnswers, EachTree}, Leaves.{is_leaf}}
-pub use Rattle.std.proofs.Common.{Bool, Err, List, Ok, Option, Result, Some, [], ap, append-nil, append_assoc, arith, below_more, cond, drop, eqb, false, get_or, inl, inr, length, map, min, negsuc}
-pub use Rattle.std.proofs.Common.{of_z, pos, refl, replicate, rules, subst, suc, sym, take, to_z, true, vec_capacity, zero, ℕ, ℤ, ◌%◌, ◌*◌, ◌++◌, ◌+◌, ◌-◌, ◌/◌, ◌<◌, ◌^◌, ◌↔◌, ◌∙◌, ◌∷◌, ◌≡◌, ◌≢◌, ◌≤◌}
-pub use Rattle.std.proofs.{Common.{◌⊎◌}, Math.Nat.{le-max_left, le-max_right, max-le, mul_assoc, mul_comm, pow-le-pow_left}, lemmas.Bool.{and_parts, eq-eqb, eqb-true, false_from_ne_true}}
-pub use Rattle.std.proofs.{lemmas.Bool.{not_from_false}, lemmas.Int.{ints, to_z-of_z}, lemmas.List.{drop_all, get_or_default, length-append, length-map, length-reverse, length-take-le}}
-pub use Rattle.std.proofs.{lemmas.List.{reverse-append, take_all, take_more}, lemmas.Nat.{mul-le, pow-add, pow_below}, lemmas.Result.{on_ok_weaker}}
-pub use Rattle.std.specs.{Cmp.Lexicographic.{slice_cmp}, Int.{w128, ◌∣◌}, Ordering.{int_cmp, nat_cmp}, Prelude.{Contains, FitsSigned, IfErr, IfOk, IsTrue, None, OnOk, if◌then◌else◌, is_err, is_ok}}
-pub use Rattle.std.specs.{Prelude.{nat_abs, neg_ℤ, not, reverse, ◌&&◌, ◌==◌, ◌||◌}, declared.cmp.Ordering.TheVariants.{Equal, Greater, Less}}
+pub use Rattle.std.proofs.Common.{Bool, Err, List, Ok, Option, Result, Some, [], ap, append-nil, append_assoc, arith, below_more, cond, drop, eqb, false, get_or, inl, inr, length, map, negsuc, of_z}
+pub use Rattle.std.proofs.Common.{pos, refl, replicate, rules, subst, suc, sym, take, to_z, true, zero, ℕ, ℤ, ◌%◌, ◌*◌, ◌++◌, ◌+◌, ◌-◌, ◌/◌, ◌<◌, ◌^◌, ◌↔◌, ◌∙◌, ◌∷◌, ◌≡◌, ◌≢◌, ◌≤◌, ◌⊎◌}
+pub use Rattle.std.proofs.{Math.Nat.{le-max_left, le-max_right, max-le, mul_assoc, mul_comm, pow-le-pow_left}, lemmas.Bool.{and_parts, eq-eqb, eqb-true, false_from_ne_true, not_from_false}}
+pub use Rattle.std.proofs.{lemmas.Int.{ints, to_z-of_z}, lemmas.List.{drop_all, get_or_default, length-append, length-map, length-reverse, length-take-le, reverse-append, take_all, take_more}}
+pub use Rattle.std.proofs.{lemmas.Nat.{mul-le, pow-add, pow_below}, lemmas.Result.{on_ok_weaker}}
+pub use Rattle.std.specs.{Cmp.Lexicographic.{slice_cmp}, Int.{w128, ◌∣◌}, Ordering.{nat_cmp}, Prelude.{Contains, FitsSigned, IfErr, IfOk, IsTrue, None, OnOk, if◌then◌else◌, is_err, is_ok, nat_abs}}
+pub use Rattle.std.specs.{Prelude.{neg_ℤ, not, reverse, ◌&&◌, ◌==◌, ◌||◌}, declared.cmp.Ordering.TheVariants.{Equal, Greater, Less}}
 pub use Rattle.tree_handles.proofs.{Beside.{gives_itself, gives_rest, gives_without}, Cuts.{represents_count}, Filling.{changes_after, changes_as, changes_free, changes_front, changes_last}}
 pub use Rattle.tree_handles.proofs.{Filling.{changes_last_front, changes_none, children_told, front_again, hole_stays}, Forests.{all-rest_trees, arity-join, bytes_in-join, join-empty, join_assoc}}
 pub use Rattle.tree_handles.proofs.{Forests.{keeps_after}, FreeBytes.{refused_below, replaced_free}, Fronts.{behind_first, behind_later, behind_new, front_after, front_after_one, front_after_two}}

@@ -1,10 +1,8 @@
 //! The names of a tree's symbols, in rising order.
-ghost use Rattle.std.specs.Prelude.{◌≡◌, ◌≤◌, ◌<◌, ◌⊎◌, ℕ, List, IfErr, OnOk, drop, false, insert, length, min, take, true, vec_capacity};
+ghost use Rattle.std.specs.Prelude.{◌≡◌, ◌≤◌, ◌<◌, ℕ, List, OnOk, drop, false, insert, length, take, true, vec_capacity};
 ghost use Rattle.calc_terms.specs.Leaf.{name_of};
 ghost use Rattle.calc_terms.specs.Trees.{names as names_in};
-ghost use Rattle.expansions.specs.ExpansionRoom.{count_distinct};
 ghost use Rattle.expansions.specs.Named.{AreNames, AreNamesBelow, StartNamesFrom, names_of, AreAmong, HasName};
-ghost use Rattle.expand_forms.specs.Reading.{IsUnlistedBy};
 ghost use Rattle.tree_handles.specs.Expressions.{IsExpression, plain};
 ghost use Rattle.tree_handles.specs.Inside.{tree_at};
 ghost use Rattle.tree_handles.specs.Standing.{Stands, forest};
@@ -25,8 +23,6 @@ pub(crate) fn collect_names(pool: &Pool, tree: Id, names: &mut Vec<Name>) -> Res
     ensures names { OnOk result (AreNames (names_of names.new.items)) }
     ensures few { OnOk result (length names.new.items ≤ 8) }
     ensures all { OnOk result (AreAmong (names_of names.new.items) (names_in (plain (tree_at tree (forest pool.now))))) }
-    ensures unlisted { IfErr result (IsUnlistedBy (min 8 (vec_capacity names.old) < count_distinct (names_in (plain (tree_at tree (forest pool.now))))) ⊥ ⊥) }
-    ensures room { vec_capacity names.old ≤ vec_capacity names.new }
 {
     names.clear();
     for node in nodes_of(pool, tree) {
@@ -45,9 +41,6 @@ fn add_name(names: &mut Vec<Name>, name: Name) -> Result<(), Unlisted>
     ensures few { OnOk result (length names.new.items ≤ 8) }
     ensures there { OnOk result (HasName (name_of name) (names_of names.new.items)) }
     ensures kept { (x : List ℕ) → HasName x (names_of names.old.items) → OnOk result (HasName x (names_of names.new.items)) }
-    ensures only { (x : List ℕ) → OnOk result (HasName x (names_of names.new.items) → (name_of name ≡ x) ⊎ HasName x (names_of names.old.items)) }
-    ensures unlisted { IfErr result (IsUnlistedBy ((min 8 (vec_capacity names.old) ≤ length names.old.items) × (HasName (name_of name) (names_of names.old.items) → ⊥)) ⊥ ⊥) }
-    ensures room { vec_capacity names.old ≤ vec_capacity names.new }
 {
     if has_name(names, name) {
         return Ok(());
@@ -65,7 +58,6 @@ fn insert_name(names: &mut Vec<Name>, at: usize, name: Name)
     requires within { at ≤ length names.old.items }
     requires room { length names.old.items < vec_capacity names.old }
     ensures items { names.new.items ≡ insert names.old.items at name }
-    ensures room { vec_capacity names.old ≤ vec_capacity names.new }
 {
     names.insert(at, name).unwrap();
 }

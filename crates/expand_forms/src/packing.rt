@@ -1,11 +1,10 @@
 //! The monomials of terms, packed into 64 bits.
-ghost use Rattle.std.specs.Prelude.{◌≡◌, ◌≤◌, ◌<◌, ◌*◌, ◌^◌, ◌-◌, IfErr, IfOk, length};
+ghost use Rattle.std.specs.Prelude.{◌≡◌, ◌≤◌, ◌<◌, ◌*◌, ◌^◌, ◌-◌, IfOk, length};
 ghost use Rattle.calc_terms.specs.Leaf.{name_of};
-ghost use Rattle.expansions.specs.ExpansionBits.{HasExponents};
 ghost use Rattle.expansions.specs.ExpansionRoom.{IsNamed};
 ghost use Rattle.expansions.specs.Named.{AreNames, IsOfNames, named, names_of};
 ghost use Rattle.expansions.specs.Polynomials.{Factor as FactorOf, Monomial};
-ghost use Rattle.expand_forms.specs.Reading.{AreComing, IsTaken, IsUnlistedBy};
+ghost use Rattle.expand_forms.specs.Reading.{AreComing, IsTaken};
 ghost use Rattle.expansions.specs.Terms.{HasMonomial};
 ghost use Rattle.expand_forms.specs.Terms.{IsRead};
 ghost use Rattle.polynomials.specs.Packed.{monomial_of};
@@ -30,8 +29,6 @@ pub(crate) fn packed_monomial(pool: &Pool, term: Id, names: &[Name]) -> Result<u
     ensures monomial { (m : Monomial) → HasMonomial m (plain (tree_at term (forest pool.now))) → IsNamed (names_of names.now) m
         → IfOk result (λ k. named (names_of names.now) (monomial_of k) ≡ m) }
     ensures names { IfOk result (λ k. IsOfNames (names_of names.now) (monomial_of k)) }
-    ensures unlisted { (m : Monomial) → HasMonomial m (plain (tree_at term (forest pool.now))) → IsNamed (names_of names.now) m
-        → IfErr result (IsUnlistedBy ⊥ (HasExponents 255 m → ⊥) ⊥) }
 {
     let mut nodes = factor_nodes(pool, term);
     let mut next = next_read(pool, &mut nodes);
@@ -68,7 +65,6 @@ fn take_exponent(
     requires stands { Stands pool.now }
     requires coming { (m : Monomial) × AreComing m next.old nodes.old (forest pool.now) }
     ensures taken { (m : Monomial) → AreComing m next.old nodes.old (forest pool.now) → IfOk result (λ e. IsTaken m (name_of name) e next.new nodes.new (forest pool.now)) }
-    ensures unlisted { (m : Monomial) → AreComing m next.old nodes.old (forest pool.now) → IfErr result (IsUnlistedBy ⊥ (HasExponents 255 m → ⊥) ⊥) }
 {
     match *next {
         None => Ok(0),
@@ -87,7 +83,6 @@ fn take_exponent(
 fn small_exponent(factor: Factor) -> Result<u8, Unlisted>
     requires read { (f : FactorOf) × IsRead factor f }
     ensures value { (f : FactorOf) → IsRead factor f → IfOk result (λ e. e ≡ f.exponent) }
-    ensures unlisted { (f : FactorOf) → IsRead factor f → IfErr result (IsUnlistedBy ⊥ (255 < f.exponent) ⊥) }
 {
     let exponent = factor.exponent.num();
     if exponent > 255 {

@@ -1,5 +1,5 @@
 //! The factors of a term, read in one walk over its nodes.
-ghost use Rattle.std.specs.Prelude.{◌≡◌, ◌<◌, IfSome, drop, length};
+ghost use Rattle.std.specs.Prelude.{drop};
 ghost use Rattle.expand_forms.specs.Listed.{AreAhead};
 ghost use Rattle.expand_forms.specs.Merging.{BeginsWith};
 ghost use Rattle.expansions.specs.Polynomials.{Monomial};
@@ -33,7 +33,6 @@ pub(crate) fn next_read(pool: &Pool, nodes: &mut Nodes<'_>) -> Option<Factor>
     requires ahead { (m : Monomial) × AreAhead m nodes.old (forest pool.now) }
     ensures factor { (m : Monomial) → AreAhead m nodes.old (forest pool.now) → BeginsWith result m }
     ensures ahead { (m : Monomial) → AreAhead m nodes.old (forest pool.now) → AreAhead (drop 1 m) nodes.new (forest pool.now) }
-    ensures fewer { IfSome result (λ _. length nodes.new < length nodes.old) }
 {
     let top = nodes.next()?;
     match top.kind {

@@ -1,6 +1,6 @@
 use Rattle.expand_forms.proofs.Shared.{inl, rules, ◌≡◌, ◌<◌, ◌∙◌, Bool, ap, refl, subst, sym, if◌then◌else◌, is_zero_fraction, value_of, add, count, is_mult, more, none, Lists, term_tree, summand}
 use Rattle.expand_forms.proofs.Shared.{removed, children_of, inserted, plain, Forest, tree_of, root_tree, without_root, behind_first, behind_later, behind_new, front_after_one, front_after_two}
-use Rattle.expand_forms.proofs.Shared.{front_at, front_same, front_without, given_handed, given_rest, given_root, given_same, given_told, gives_as, owned, lists_behind, true}
+use Rattle.expand_forms.proofs.Shared.{front_at, front_same, front_without, given_handed, given_rest, given_root, given_same, given_told, gives_as, owned, lists_behind}
 use Rattle.expand_forms.proofs.{ListedTerms.{lists_before}, Sums.{sum_still}}
 use Rattle.expand_forms.proofs.adding.replace.Goals as goal
 

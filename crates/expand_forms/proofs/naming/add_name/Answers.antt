@@ -1,5 +1,5 @@
 use Rattle.expand_forms.proofs.{Shared.{◌≤◌, ℕ, List, length, take, drop, subst, sym, name_of, Name, AreNamesBelow, StartNamesFrom, HasName}, naming.add_name.Goals.{After-insert_name}}
-use Rattle.expansions.proofs.NameLists.{insert_kept, insert_only, insert_there, insert_names}
+use Rattle.expansions.proofs.NameLists.{insert_kept, insert_there, insert_names}
 use Rattle.expansions.specs.Named.{names_of}
 use Rattle.expand_forms.proofs.naming.add_name.Goals as goal
 
@@ -30,6 +30,3 @@ returns-clause-there c = let k = (goal.at.returns-clause-there c).After-insert_n
 
 pub returns-clause-kept : goal.returns-clause-kept
 returns-clause-kept c = let k = (goal.at.returns-clause-kept c).After-insert_name in insert_kept (xs k) (at k) c.args.name _ (within k) c.insert_name.ensures.items
-
-pub returns-clause-only : goal.returns-clause-only
-returns-clause-only c = let k = (goal.at.returns-clause-only c).After-insert_name in insert_only (xs k) (at k) c.args.name _ (within k) c.insert_name.ensures.items

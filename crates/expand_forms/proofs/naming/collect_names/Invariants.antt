@@ -1,4 +1,4 @@
-use Rattle.expand_forms.proofs.{Shared.{◌≤◌, length, vec_capacity, names, plain, tree_at, forest, AreNames}, NamedNodes.{AreCollected}}
+use Rattle.expand_forms.proofs.{Shared.{◌≤◌, length, names, plain, tree_at, forest, AreNames}, NamedNodes.{AreCollected}}
 use Rattle.expansions.specs.Named.{names_of}
 use Rattle.expand_forms.proofs.naming.collect_names.Given as goal
 
@@ -7,5 +7,4 @@ invariant-loop-node l = record {
   collected : AreCollected (names_of l.names.items) l.node-iterator (names (plain (tree_at l.fn.tree (forest l.pool)))) (forest l.pool);
   rising : AreNames (names_of l.names.items);
   few : length l.names.items ≤ 8;
-  room : vec_capacity l.fn.names ≤ vec_capacity l.names;
 }

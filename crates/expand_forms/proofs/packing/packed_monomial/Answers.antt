@@ -1,5 +1,5 @@
-use Rattle.expand_forms.proofs.Shared.{◌≡◌, ◌<◌, ◌≤◌, ℕ, suc, ◌+◌, ◌-◌, ◌*◌, ◌^◌, length, subst, sym, ap, ◌∙◌, arith, name_of, HasExponents, forest, passed_on, IsTaken, IsUnlistedBy, names_length}
-use Rattle.expand_forms.proofs.PackedTerms.{IsPacked, name_at, overflow, packed_all, packed_more, packed_none, too_large, unlisted_more}
+use Rattle.expand_forms.proofs.Shared.{◌≡◌, ◌<◌, ◌≤◌, ℕ, suc, ◌+◌, ◌-◌, ◌*◌, ◌^◌, length, subst, sym, ap, ◌∙◌, arith, name_of, forest, IsTaken, names_length}
+use Rattle.expand_forms.proofs.PackedTerms.{name_at, overflow, packed_all, packed_more, packed_none}
 use Rattle.expansions.specs.Named.{names_of}
 use Rattle.expand_forms.proofs.packing.packed_monomial.Goals as goal
 
@@ -7,12 +7,6 @@ pub loop-name-init : goal.loop-name-init
 loop-name-init c = λ m h n.
     let a = c.factor_nodes-nodes.ensures m h in
     packed_none n (record { monomial = h.monomial; begins = c.next_read-next.ensures.factor m a; ahead = c.next_read-next.ensures.ahead m a })
-
-pub returns-in_err-exponent-clause-unlisted : goal.returns-in_err-exponent-clause-unlisted
-returns-in_err-exponent-clause-unlisted c = λ m h n.
-    let p = c.loop-name.invariant m h n in
-    passed_on c.from_residual.result c.in_err-exponent.field-0.0 (IsUnlistedBy ⊥ (HasExponents 255 m → ⊥) ⊥) c.from_residual.ensures.0 c.from_residual.ensures.1
-    (unlisted_more c.in_err-exponent.field-0.0 (too_large p) (c.in_err-exponent.ensures.unlisted p.rest p.coming))
 
 pub overflow_mul-packed : goal.overflow_mul-packed
 overflow_mul-packed c =
@@ -39,19 +33,10 @@ loop-name-preserved c = λ m h n.
     (subst (λ (e : ℕ). IsTaken p.rest (name_of c.name-item.result) e c.take_exponent.new.next c.take_exponent.new.nodes base) (sym c.from.ensures)
     (c.in_ok-exponent.ensures.taken p.rest p.coming)) more
 
-pub returns-clause-monomial : goal.returns-clause-monomial
-returns-clause-monomial c = λ m h n.
+pub returns : goal.returns
+returns c =
     let many : c.loop-name.name-index ≡ length (names_of c.args.names.now) = omega (arith, names_length c.args.names.now, c.loop-name-test.false, c.loop-name.auto.name-index-end) in
     let few : length (names_of c.args.names.now) ≤ 8 = omega (arith, names_length c.args.names.now, c.requires.few) in
-    let p : IsPacked (names_of c.args.names.now) m c.shifted.result =
-    packed_all (c.loop-name.invariant m h n) many few (c.shifted.ensures ∙ ap (λ (k : ℕ). c.loop-name.packed * 256 ^ (8 - k)) (sym (names_length c.args.names.now) ∙ sym many)) in
-    p.monomial
-
-pub returns-clause-names : goal.returns-clause-names
-returns-clause-names c =
+    let shift = c.shifted.ensures ∙ ap (λ (k : ℕ). c.loop-name.packed * 256 ^ (8 - k)) (sym (names_length c.args.names.now) ∙ sym many) in
     let (m, h, n) = c.requires.monomial in
-    let many : c.loop-name.name-index ≡ length (names_of c.args.names.now) = omega (arith, names_length c.args.names.now, c.loop-name-test.false, c.loop-name.auto.name-index-end) in
-    let few : length (names_of c.args.names.now) ≤ 8 = omega (arith, names_length c.args.names.now, c.requires.few) in
-    let p : IsPacked (names_of c.args.names.now) m c.shifted.result =
-    packed_all (c.loop-name.invariant m h n) many few (c.shifted.ensures ∙ ap (λ (k : ℕ). c.loop-name.packed * 256 ^ (8 - k)) (sym (names_length c.args.names.now) ∙ sym many)) in
-    p.names
+    record { monomial = λ k x y. (packed_all (c.loop-name.invariant k x y) many few shift).monomial; names = (packed_all (c.loop-name.invariant m h n) many few shift).names }

@@ -8,16 +8,11 @@ exponent_read z x f r e is =
     ap (λ (y : ℤ). to_z w128 (of_z w128 y)) e ∙ told (ratio_of x.exponent).num (omega (arith, is.num_fits)) ∙ sym (ratio_parts x.exponent).num
     ∙ ap (λ (q : Fraction). q.num) r.exponent ∙ whole_numerator (pos f.exponent)
 
-pub returns-then-exponent-gt255-clause-unlisted : goal.returns-then-exponent-gt255-clause-unlisted
-returns-then-exponent-gt255-clause-unlisted c = λ f r.
-    let e : to_z w128 (of_z w128 c.num-exponent.result) ≡ pos f.exponent = exponent_read c.num-exponent.result c.args.factor f r c.num-exponent.ensures.value c.num-exponent.ensures.rat in
-    omega (arith, ints, e, c.if-exponent-gt255.true)
-
 pub overflow_cast-result : goal.overflow_cast-result
 overflow_cast-result c =
     let (f, r) = c.requires.read in
     let e : to_z w128 (of_z w128 c.num-exponent.result) ≡ pos f.exponent = exponent_read c.num-exponent.result c.args.factor f r c.num-exponent.ensures.value c.num-exponent.ensures.rat in
     rw e (tt, record { fits = omega (arith, ints, e, c.if-exponent-gt255.false) })
 
-pub returns-clause-value : goal.returns-clause-value
-returns-clause-value c = λ f r. ap nat_abs (exponent_read c.num-exponent.result c.args.factor f r c.num-exponent.ensures.value c.num-exponent.ensures.rat)
+pub returns : goal.returns
+returns c = record { value = λ f r. ap nat_abs (exponent_read c.num-exponent.result c.args.factor f r c.num-exponent.ensures.value c.num-exponent.ensures.rat) }
