@@ -5,11 +5,9 @@ use Rattle.expansions.proofs.Shared.{rational_power, power_whole, Same-trans, Sa
 use Rattle.expansions.proofs.Shared.{zero_times, Fraction, is_one_fraction, is_zero_fraction, minus_one_fraction, plus, plus_assoc, times, zero_fraction, inverse, Tree, num, symbol, undef, add, mult}
 use Rattle.expansions.proofs.Shared.{power, root, neg, sub, div, Trees, none, more, whole_num, Factor, Monomial, Polynomial, Summand, factor, monomial_times, scaled, summand, with_factor, divisor_of}
 use Rattle.expansions.proofs.Shared.{exponent_of, is_polynomial, polynomial_of, product_of, sum_of, expanded, factor_tree, factor_trees, joined, monomial_cmp, monomial_tree, normal, sum_tree}
-use Rattle.expansions.proofs.{Shared.{term_tree, term_trees, with_summand, without_zeros, factor_value, given, monomial_value, polynomial_value, summand_value}, AllMonomials.{AllHave, IsClosed}}
-use Rattle.expansions.proofs.{AllMonomials.{append_all, normal_all, product_all, raised_all, scaled_all}, Arithmetic.{plus_left_comm, plus_times, times_one}, MonomialTrees.{equal_is}}
-use Rattle.expansions.proofs.{TreeMeanings.{tree_worth}, ValueLaws.{given_is}}
-use Rattle.calc_algebra.specs.Meanings.{Gives}
-use Rattle.calc_algebra.proofs.MeaningRewrites.{none_product, none_sum, one_product, one_sum, product_more, product_none, sum_more, sum_none}
+use Rattle.expansions.proofs.Shared.{term_tree, term_trees, with_summand, without_zeros, factor_value, given, monomial_value, polynomial_value, summand_value, Gives, none_product, none_sum}
+use Rattle.expansions.proofs.{Shared.{one_product, one_sum, product_more, product_none, sum_more, sum_none}, AllMonomials.{AllHave, IsClosed, append_all, normal_all, product_all, raised_all}}
+use Rattle.expansions.proofs.{AllMonomials.{scaled_all}, Arithmetic.{plus_left_comm, plus_times, times_one}, MonomialTrees.{equal_is}, TreeMeanings.{tree_worth}, ValueLaws.{given_is}}
 
 -- ---- the value of the normal polynomial
 

@@ -1,10 +1,9 @@
 -- Polynomials that are held by bits: their sums, products and powers, and their normal forms.
 use Rattle.expansions.proofs.Shared.{◌≡◌, ℕ, zero, suc, ◌+◌, ◌*◌, ◌^◌, ◌≤◌, ◌<◌, pos, negsuc, [], ◌∷◌, sym, subst, arith, one-dvd, pow-le-pow_right, mul-le, pow-add, dvd_trans, magnitude_over, ◌++◌}
 use Rattle.expansions.proofs.Shared.{den_divides, magnitude_lowest, lowest, minus_one_fraction, mul_pos, one_fraction, zero_fraction, Tree, expanded, normal, sum_tree, term_trees, IsHeld, mass}
-use Rattle.expansions.proofs.{Shared.{AreMonomials, IsMonomial, Polynomial, constant, product, raised, scaled, polynomial_of, ◌∣◌}, AllMonomials.{AllHave, normal_all}}
+use Rattle.expansions.proofs.{Shared.{AreMonomials, IsMonomial, Polynomial, constant, product, raised, scaled, polynomial_of, ◌∣◌, two_powers}, AllMonomials.{AllHave, normal_all}}
 use Rattle.expansions.proofs.{Gathered.{gathered_held, gathered_normal}, Masses.{mass_product, more_exponents, product_exponents, whole_product, whole_right, mass_append, exponents_right}}
 use Rattle.expansions.proofs.{SameCoefficients.{constant_product}, TermPolynomials.{terms_polynomial, term_polynomial}, TreeMonomials.{all_monomials}}
-use Rattle.calc_bits.proofs.Held.{two_powers}
 
 -- ---- more bits
 

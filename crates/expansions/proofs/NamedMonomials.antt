@@ -1,8 +1,7 @@
 -- Monomials of names, from packed ones: products, and which are one.
 use Rattle.expansions.proofs.Shared.{◌≡◌, ℕ, zero, suc, ◌+◌, List, [], ◌∷◌, ◌++◌, length, replicate, refl, sym, ap, ◌∙◌, subst, arith, reverse, length-reverse, reverse-append, symbol, tree_cmp_same}
-use Rattle.expansions.proofs.Shared.{IsBelowAll, IsMonomial, Monomial, factor, monomial_times, AreNames, AreOf, AreZero, IsBelowNames, IsOfNames, factors_of, led, monomial_of, one_monomial}
+use Rattle.expansions.proofs.Shared.{IsBelowAll, IsMonomial, Monomial, factor, monomial_times, AreNames, AreOf, AreZero, IsBelowNames, IsOfNames, factors_of, led, monomial_of, one_monomial, named}
 use Rattle.expansions.proofs.MonomialProducts.{below_times, both_first, put_first, right_first}
-use Rattle.expansions.specs.Named.{named}
 use Rattle.polynomials.specs.Polynomials.{Monomial as Exponents, monomial_times as exponents_times}
 
 -- ---- they are monomials

@@ -3,11 +3,9 @@ use Rattle.expansions.proofs.Shared.{◌≡◌, ℕ, suc, ◌+◌, ◌<◌, ◌�
 use Rattle.expansions.proofs.Shared.{IsSorted, reverse, if◌then◌else◌, AllByRecursion, reverse-reverse, All-from_recursion, recursion_from_All, is_lt, All-permutation, sum_by-IsPermutation, eq-eqb}
 use Rattle.expansions.proofs.Shared.{ne_eqb, not_from_false, ordering_reverse, Ordering, Less, Equal, Greater, Fraction, is_zero_fraction, no_zero, plus, zero_fraction, zero_plus, value_of, IsNormal}
 use Rattle.expansions.proofs.Shared.{monomial_cmp, normal, Monomial, Polynomial, Summand, AreMonomials, coefficient_at, is_same_monomial, summand, one_unpacked, AreNames, AreOf, HaveNames, IsListOf}
-use Rattle.expansions.proofs.{Shared.{named_polynomial, packed_cmp, packed_term_cmp, monomial_of, Term}, NamedMonomials.{named_monomial}}
+use Rattle.expansions.proofs.{Shared.{named_polynomial, packed_cmp, packed_term_cmp, monomial_of, Term, sum_by-cons, cases_eq, named}, NamedMonomials.{named_monomial}}
 use Rattle.expansions.proofs.{NormalForms.{before_more, normal_coefficient, normal_is, one_normal}, Totals.{total, total_moved}, PackedOrders.{order_equal, packed_length, packed_named, packed_order}}
 use Rattle.expansions.proofs.PackedOrders.{packed_total}
-use Rattle.std.proofs.{lemmas.List.Sums.{sum_by-cons}, lemmas.Bool.{cases_eq}}
-use Rattle.expansions.specs.Named.{named}
 use Rattle.polynomials.specs.Terms.{IsBelowAll as IsBelowTerms, IsNormal as AreSorted, polynomial_of}
 
 -- ---- terms

@@ -3,10 +3,8 @@ use Rattle.expansions.proofs.Shared.{◌≡◌, ℕ, zero, suc, ◌+◌, ◌/◌
 use Rattle.expansions.proofs.Shared.{bytes_high_first, ◌==◌, not, reverse, ◌⊎◌, length-reverse, tree_cmp_total, trees_cmp_turned, code_of, monomial_of, unpacked, Ordering, Less, Equal, Greater}
 use Rattle.expansions.proofs.Shared.{nat_cmp, slice_cmp, ordering_index, ordering_then, ordering_reverse, nat_list_cmp_total, tree_cmp, trees_cmp, tree_cmp_refl, tree_cmp_same, root_code, root_kind}
 use Rattle.expansions.proofs.Shared.{Trees, more, symbol, factor_tree, factor_trees, monomial_cmp, monomial_tree, Monomial, factor, AreNames, AreOf, AreZero, IsBelowNames, factors_of, behind_cmp}
-use Rattle.expansions.proofs.{Shared.{eight_names, exponents_cmp, first_exponent, kind_with, packed_cmp, packed_term_cmp, Term}, FactorOrders.{factors_cmp, monomials_cmp}}
-use Rattle.std.proofs.{Math.Seq.{drop-cons}, lemmas.Bool.{cases_eq}}
-use Rattle.std.specs.Cmp.{IsTotalOrder, on_total}
-use Rattle.expansions.specs.Named.{named}
+use Rattle.expansions.proofs.Shared.{eight_names, exponents_cmp, first_exponent, kind_with, packed_cmp, packed_term_cmp, Term, drop-cons, cases_eq, IsTotalOrder, on_total, named}
+use Rattle.expansions.proofs.FactorOrders.{factors_cmp, monomials_cmp}
 use Rattle.calc_terms.specs.declared.kind.Kind.TheVariants as kind
 
 -- ---- two factors

@@ -2,9 +2,8 @@
 use Rattle.expansions.proofs.Shared.{arith, ◌≡◌, ◌≢◌, inl, inr, [], ◌∷◌, true, refl, sym, ap, ◌∙◌, subst, if◌then◌else◌, not_from_false, Less, is_number, HasForm, IsSumForm, NoneIs, RisesBy}
 use Rattle.expansions.proofs.Shared.{is_reduced, number_terms, other_terms, part_of, tree_cmp, one_is, zero_test, Fraction, zero_fraction, AllParts, AllPartsOf, HasTwo, Tree, num, Trees, none, more}
 use Rattle.expansions.proofs.Shared.{is_add, IsBeforeAll, IsNormal, expanded, monomial_cmp, monomial_tree, normal, sum_tree, term_tree, term_trees, Factor, IsMonomial, Monomial, Polynomial, Summand}
-use Rattle.expansions.proofs.{Shared.{polynomial_of}, AllMonomials.{AllHave, normal_all}, FactorTrees.{not_before_one, term_no_add, term_no_number, term_no_term, term_part, term_parts}}
+use Rattle.expansions.proofs.{Shared.{polynomial_of, reduced_test}, AllMonomials.{AllHave, normal_all}, FactorTrees.{not_before_one, term_no_add, term_no_number, term_no_term, term_part, term_parts}}
 use Rattle.expansions.proofs.{NormalForms.{normal_is}, TreeMonomials.{tree_monomials}}
-use Rattle.calc_algebra.proofs.ReducedLaws.{reduced_test}
 
 -- ---- terms with names
 

@@ -1,7 +1,6 @@
 -- Sums of fractions over a list do not depend on its order.
 use Rattle.expansions.proofs.Shared.{◌≡◌, ℕ, zero, suc, ◌<◌, List, [], ◌∷◌, length, get_or, set, inl, inr, refl, sym, ap, ◌∙◌, arith, get_or-set_same, get_or-set_other, IsPermutation, swap}
-use Rattle.expansions.proofs.{Shared.{length-set, IsPermutation-keeps, Fraction, negative, plus, plus_assoc, plus_comm, plus_negative, zero_fraction}, Arithmetic.{plus_left_comm, plus_zero}}
-use Rattle.std.proofs.lemmas.Bool.{cases_eq}
+use Rattle.expansions.proofs.{Shared.{length-set, IsPermutation-keeps, Fraction, negative, plus, plus_assoc, plus_comm, plus_negative, zero_fraction, cases_eq}, Arithmetic.{plus_left_comm, plus_zero}}
 
 abbrev pub total : {X : Type 0} → (X → Fraction) → List X → Fraction
 total f [] = zero_fraction

@@ -4,10 +4,9 @@ use Rattle.expansions.proofs.Shared.{Option, not, dvd_refl, le-max_left, le-max_
 use Rattle.expansions.proofs.Shared.{magnitude_lowest, half_literal, or_literal, whole_literal, HighLow, bounds, bounds_of_terms, ceil_log2, high, low, power_bounds, Fraction, den_pos, inverse}
 use Rattle.expansions.proofs.Shared.{inverse_of, minus_one_fraction, mul_pos, int_is_zero, Tree, num, symbol, undef, add, mult, power, root, neg, sub, div, Trees, none, more, count, negative_parts}
 use Rattle.expansions.proofs.Shared.{AreHeldTogether, AreWhole, HaveExponents, IsHeld, mass, Polynomial, constant, scaled, variable, are_polynomials, divisor_of, exponent_of, is_divisor, is_exponent}
-use Rattle.expansions.proofs.{Shared.{is_polynomial, is_small, natural_of, polynomial_of, product_of, sum_of}, Held.{held_more, held_opposite, held_product, held_raised, one_den, one_held}}
-use Rattle.expansions.proofs.{Held.{one_magnitude}, Masses.{exponents_append, mass_append, mass_scale, more_exponents, whole_append, whole_scale}, SameCoefficients.{constant_product}}
+use Rattle.expansions.proofs.{Shared.{is_polynomial, is_small, natural_of, polynomial_of, product_of, sum_of, ceil_log2_is}, Held.{held_more, held_opposite, held_product, held_raised, one_den}}
+use Rattle.expansions.proofs.{Held.{one_held, one_magnitude}, Masses.{exponents_append, mass_append, mass_scale, more_exponents, whole_append, whole_scale}, SameCoefficients.{constant_product}}
 use Rattle.expansions.proofs.TreeMonomials.{tree_monomials}
-use Rattle.calc_measures.proofs.CeilLog2.{ceil_log2_is}
 
 -- ---- rationals
 

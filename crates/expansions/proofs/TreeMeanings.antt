@@ -6,9 +6,8 @@ use Rattle.expansions.proofs.Shared.{Same-eq, Same-refl, Same-surd_power, Same-s
 use Rattle.expansions.proofs.Shared.{whole_denominator, whole_numerator, fraction_power, negative_lowest, one_times, plus_negative, times_comm, Fraction, fraction_path, inverse, lowest}
 use Rattle.expansions.proofs.Shared.{minus_one_fraction, negative, one_fraction, plus, times, times_lowest, whole_fraction, zero_fraction, Tree, num, symbol, undef, add, mult, power, root, neg, sub}
 use Rattle.expansions.proofs.Shared.{div, Trees, none, more, scaled, are_polynomials, divisor_of, exponent_of, is_divisor, is_exponent, is_nonzero, is_polynomial, is_small, natural_of, polynomial_of}
-use Rattle.expansions.proofs.{Shared.{product_of, sum_of, polynomial_value}, Arithmetic.{plus_zero}, ValueLaws.{append_value, constant_value, given_is, product_value, raised_value, scaled_value}}
-use Rattle.expansions.proofs.ValueLaws.{variable_value}
-use Rattle.calc_algebra.specs.SquareClasses.{Same, Inverts}
+use Rattle.expansions.proofs.{Shared.{product_of, sum_of, polynomial_value, Same, Inverts}, Arithmetic.{plus_zero}, ValueLaws.{append_value, constant_value, given_is, product_value, raised_value}}
+use Rattle.expansions.proofs.ValueLaws.{scaled_value, variable_value}
 
 -- ---- whole literals
 

@@ -2,10 +2,8 @@
 use Rattle.expansions.proofs.Shared.{◌≡◌, ◌⊎◌, inl, inr, ℕ, zero, suc, ◌+◌, List, [], ◌∷◌, ◌++◌, map, Bool, true, false, refl, sym, ap, ◌∙◌, arith, if◌then◌else◌, Contains, bytes_eq, bytes_eq-Decides}
 use Rattle.expansions.proofs.Shared.{Ordering, Less, Equal, Greater, nat_cmp, slice_cmp, Assignment, IsAssignment, Binding, times_zero, tree_cmp_equal, fraction_power, times_assoc, times_plus}
 use Rattle.expansions.proofs.Shared.{zero_plus, zero_times, one_times, Fraction, plus, times, one_fraction, plus_assoc, Tree, symbol, Factor, Monomial, Polynomial, Summand, constant, factor}
-use Rattle.expansions.proofs.Shared.{monomial_times, product, raised, scaled, summand_times, variable, with_factor, factor_value, given, monomial_value, polynomial_value, summand_value}
-use Rattle.expansions.proofs.Arithmetic.{plus_both, plus_times, plus_zero, power_plus, times_exchange, times_left_comm, times_one}
-use Rattle.calc_algebra.specs.Meanings.{Gives}
-use Rattle.calc_algebra.proofs.MeaningLaws.{one_value}
+use Rattle.expansions.proofs.Shared.{monomial_times, product, raised, scaled, summand_times, variable, with_factor, factor_value, given, monomial_value, polynomial_value, summand_value, Gives}
+use Rattle.expansions.proofs.{Shared.{one_value}, Arithmetic.{plus_both, plus_times, plus_zero, power_plus, times_exchange, times_left_comm, times_one}}
 
 -- ---- names
 

@@ -1,7 +1,6 @@
 -- A monomial has at most as many factors as there are distinct names.
 use Rattle.expansions.proofs.Shared.{◌≡◌, ℕ, zero, suc, ◌+◌, ◌≤◌, List, [], ◌∷◌, length, Bool, true, false, refl, sym, ap, ◌∙◌, subst, arith, Contains, ◌||◌, if◌then◌else◌, bytes_eq, bytes_eq-Decides}
-use Rattle.expansions.proofs.Shared.{is_eq, Within, IsNamed, count_distinct, is_among, IsBelowAll, IsMonomial, Monomial}
-use Rattle.std.proofs.lemmas.Map.Text.{is_eq-slice_cmp}
+use Rattle.expansions.proofs.Shared.{is_eq, Within, IsNamed, count_distinct, is_among, IsBelowAll, IsMonomial, Monomial, is_eq-slice_cmp}
 
 -- ---- names
 
