@@ -1,33 +1,24 @@
 -- Lists of rising names.
 use Rattle.expansions.proofs.Shared.{◌≡◌, ◌≤◌, ◌<◌, ℕ, zero, suc, List, [], ◌∷◌, ◌++◌, length, get_or, take, drop, inl, inr, Bool, true, false, refl, sym, ap, ◌∙◌, subst, arith, Contains, ◌==◌}
-use Rattle.expansions.proofs.Shared.{insert, not, name_of, before_zero, Name, bytes_eq, bytes_eq-Decides, Ordering, Less, Equal, Greater, ordering_index, nat_cmp, nat_list_cmp_total, slice_cmp}
-use Rattle.expansions.proofs.{Shared.{symbol, tree_cmp_same, IsBelowAll, IsNamed, Monomial, AreNames, AreNamesBelow, IsBelowNames, StartNamesFrom, HasName}, FactorOrders.{one_name}}
-use Rattle.expansions.proofs.{TreeMonomials.{names_turned}, ValueLaws.{names_equal}}
+use Rattle.expansions.proofs.Shared.{length-map, drop-cons, insert, not, name_of, before_zero, Name, bytes_eq, bytes_eq-Decides, Ordering, Less, Equal, Greater, ordering_index, nat_cmp}
+use Rattle.expansions.proofs.Shared.{nat_list_cmp_total, slice_cmp, symbol, tree_cmp_same, IsBelowAll, IsNamed, Monomial, AreNames, AreNamesBelow, IsBelowNames, StartNamesFrom, HasName}
+use Rattle.expansions.proofs.{FactorOrders.{one_name}, TreeMonomials.{names_turned}, ValueLaws.{names_equal}}
 use Rattle.expansions.specs.Named.{names_of}
+use Rattle.std.proofs.{Math.Seq.{take-suc}, lemmas.List.{drop_all, take_all, take-append-drop, map-append}}
 
 -- ---- lists
 
 pub dropped : {A : Type 0} (xs : List A) (i : ℕ) (y : A) → i < length xs → y ≡ get_or xs i y → drop i xs ≡ y ∷ drop (suc i) xs
-dropped [] i y l e = absurd (omega arith)
-dropped (x ∷ xs) zero y l e = λ i. sym e i ∷ xs
-dropped (x ∷ xs) (suc i) y l e = dropped xs i y (omega arith) e
+dropped xs i y l e = drop-cons xs i y l ∙ ap (λ z. z ∷ drop (suc i) xs) (sym e)
 
 pub taken : {A : Type 0} (xs : List A) (i : ℕ) (y : A) → i < length xs → y ≡ get_or xs i y → take (suc i) xs ≡ take i xs ++ y ∷ []
-taken [] i y l e = absurd (omega arith)
-taken (x ∷ xs) zero y l e = λ i. sym e i ∷ []
-taken (x ∷ xs) (suc i) y l e = ap (λ zs. x ∷ zs) (taken xs i y (omega arith) e)
+taken xs i y l e = take-suc xs i y l ∙ ap (λ z. take i xs ++ z ∷ []) (sym e)
 
 pub dropped_all : {A : Type 0} (xs : List A) (i : ℕ) → length xs ≤ i → drop i xs ≡ []
-dropped_all [] zero l = refl
-dropped_all [] (suc i) l = refl
-dropped_all (x ∷ xs) zero l = absurd (omega arith)
-dropped_all (x ∷ xs) (suc i) l = dropped_all xs i (omega arith)
+dropped_all xs i l = drop_all i xs l
 
 pub taken_all : {A : Type 0} (xs : List A) (i : ℕ) → length xs ≤ i → take i xs ≡ xs
-taken_all [] zero l = refl
-taken_all [] (suc i) l = refl
-taken_all (x ∷ xs) zero l = absurd (omega arith)
-taken_all (x ∷ xs) (suc i) l = ap (λ zs. x ∷ zs) (taken_all xs i (omega arith))
+taken_all xs i l = take_all i xs l
 
 inserted_is : {A : Type 0} (xs : List A) (n : ℕ) (t : A) → n ≤ length xs → insert xs n t ≡ take n xs ++ t ∷ drop n xs
 inserted_is [] zero t l = refl
@@ -35,21 +26,13 @@ inserted_is [] (suc n) t l = absurd (omega arith)
 inserted_is (x ∷ xs) zero t l = refl
 inserted_is (x ∷ xs) (suc n) t l = ap (λ zs. x ∷ zs) (inserted_is xs n t (omega arith))
 
-parted_is : {A : Type 0} (xs : List A) (n : ℕ) → take n xs ++ drop n xs ≡ xs
-parted_is [] zero = refl
-parted_is [] (suc n) = refl
-parted_is (x ∷ xs) zero = refl
-parted_is (x ∷ xs) (suc n) = ap (λ zs. x ∷ zs) (parted_is xs n)
-
 -- ---- names
 
 names_append : (xs ys : List Name) → names_of (xs ++ ys) ≡ names_of xs ++ names_of ys
-names_append [] ys = refl
-names_append (x ∷ xs) ys = ap (λ (zs : List (List ℕ)). name_of x ∷ zs) (names_append xs ys)
+names_append xs ys = map-append name_of xs ys
 
 pub names_length : (xs : List Name) → length (names_of xs) ≡ length xs
-names_length [] = refl
-names_length (x ∷ xs) = ap suc (names_length xs)
+names_length xs = length-map xs name_of
 
 has_more : (x y : List ℕ) (xs ys : List (List ℕ)) → HasName x (xs ++ ys) → HasName x (xs ++ y ∷ ys)
 has_more x y [] ys h = inr h
@@ -91,7 +74,7 @@ module _ (xs : List Name) (n : ℕ) (t : Name) (zs : List Name) (l : n ≤ lengt
   split = ap names_of (e ∙ inserted_is xs n t l) ∙ names_append (take n xs) (t ∷ drop n xs)
 
   whole : names_of (take n xs) ++ names_of (drop n xs) ≡ names_of xs
-  whole = sym (names_append (take n xs) (drop n xs)) ∙ ap names_of (parted_is xs n)
+  whole = sym (names_append (take n xs) (drop n xs)) ∙ ap names_of (take-append-drop n xs)
 
   pub insert_names : AreNames (names_of xs) → AreNamesBelow (name_of t) (names_of (take n xs)) → StartNamesFrom (name_of t) (names_of (drop n xs)) → (HasName (name_of t) (names_of xs) → ⊥)
       → AreNames (names_of zs)
