@@ -76,12 +76,7 @@ exponents_at x n (f ∷ m) h = ((λ e. h.0), exponents_at x n m h.1)
 
 with_other : (x : List ℕ) (n : ℕ) (f : Factor) (m : Monomial) → (f.name ≡ x → ⊥) → HasAt x n m → HasAt x n (with_factor f m)
 with_other x n f [] a h = ((λ e. absurd (a e)), tt)
-with_other x n f (g ∷ m) a h = by (slice_cmp nat_cmp f.name g.name) (with_other x n f m a h.1)
-  where
-    by : (o : Ordering) → HasAt x n (with_factor f m) → HasAt x n (elim o [ Less ↦ f ∷ g ∷ m | Equal ↦ factor f.name (f.exponent + g.exponent) ∷ m | Greater ↦ g ∷ with_factor f m ])
-    by Less go = ((λ e. absurd (a e)), h)
-    by Equal go = ((λ e. absurd (a e)), h.1)
-    by Greater go = (h.0, go)
+with_other x n f (g ∷ m) a h = let go = with_other x n f m a h.1 in grind arith
 
 no_less : (x : List ℕ) → slice_cmp nat_cmp x x ≡ Less → ⊥
 no_less x l = let g : slice_cmp nat_cmp x x ≡ Greater = nat_list_cmp_total.antisymm x x ∙ ap ordering_reverse l in cc

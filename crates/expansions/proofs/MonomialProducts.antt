@@ -28,55 +28,14 @@ with_greater f h m e = ap (λ (o : Ordering). elim o [ Less ↦ f ∷ h ∷ m | 
 -- two of one name
 with_same : (x : List ℕ) (a b : ℕ) (m : Monomial) → with_factor (factor x a) (with_factor (factor x b) m) ≡ with_factor (factor x (a + b)) m
 with_same x a b [] = with_equal (factor x a) (factor x b) [] (names_same x x refl)
-with_same x a b (h ∷ m) = by (slice_cmp nat_cmp x h.name) refl (with_same x a b m)
-  where
-    f : Factor
-    f = factor x a
-
-    g : Factor
-    g = factor x b
-
-    by : (o : Ordering) → slice_cmp nat_cmp x h.name ≡ o → with_factor f (with_factor g m) ≡ with_factor (factor x (a + b)) m
-        → with_factor f (with_factor g (h ∷ m)) ≡ with_factor (factor x (a + b)) (h ∷ m)
-    by Less e go = ap (with_factor f) (with_less g h m e) ∙ with_equal f g (h ∷ m) (names_same x x refl) ∙ sym (with_less (factor x (a + b)) h m e)
-    by Equal e go =
-        let s : a + (b + h.exponent) ≡ (a + b) + h.exponent = omega arith in
-        ap (with_factor f) (with_equal g h m e) ∙ with_equal f (factor x (b + h.exponent)) m (names_same x x refl) ∙ ap (λ (n : ℕ). factor x n ∷ m) s ∙ sym (with_equal (factor x (a + b)) h m e)
-    by Greater e go = ap (with_factor f) (with_greater g h m e) ∙ with_greater f h (with_factor g m) e ∙ ap (λ (k : Monomial). h ∷ k) go ∙ sym (with_greater (factor x (a + b)) h m e)
+with_same x a b (h ∷ m) = let go = with_same x a b m in grind (arith, with_less, with_equal, with_greater, names_same)
 
 pub name_again : (x : List ℕ) (n : ℕ) → with_factor (factor x 1) (factor x n ∷ []) ≡ factor x (suc n) ∷ []
 name_again x n = let s : 1 + n ≡ suc n = omega arith in with_equal (factor x 1) (factor x n) [] (names_same x x refl) ∙ ap (λ (k : ℕ). factor x k ∷ []) s
 
 with_turned_less : (f g : Factor) (m : Monomial) → slice_cmp nat_cmp f.name g.name ≡ Less → with_factor f (with_factor g m) ≡ with_factor g (with_factor f m)
 with_turned_less f g [] l = with_less f g [] l ∙ sym (with_greater g f [] (names_above f.name g.name l))
-with_turned_less f g (h ∷ m) l = by (slice_cmp nat_cmp g.name h.name) refl (with_turned_less f g m l)
-  where
-    above : slice_cmp nat_cmp g.name f.name ≡ Greater
-    above = names_above f.name g.name l
-
-    -- h is above f
-    after : slice_cmp nat_cmp f.name h.name ≡ Less → with_factor g (with_factor f (h ∷ m)) ≡ f ∷ with_factor g (h ∷ m)
-    after k = ap (with_factor g) (with_less f h m k) ∙ with_greater g f (h ∷ m) above
-
-    both : (o : Ordering) → slice_cmp nat_cmp f.name h.name ≡ o → slice_cmp nat_cmp g.name h.name ≡ Greater → with_factor f (with_factor g m) ≡ with_factor g (with_factor f m)
-        → with_factor f (with_factor g (h ∷ m)) ≡ with_factor g (with_factor f (h ∷ m))
-    both Less k e go = ap (with_factor f) (with_greater g h m e) ∙ with_less f h (with_factor g m) k ∙ sym (after k ∙ ap (λ (x : Monomial). f ∷ x) (with_greater g h m e))
-    both Equal k e go =
-        ap (with_factor f) (with_greater g h m e) ∙ with_equal f h (with_factor g m) k
-        ∙ sym (ap (with_factor g) (with_equal f h m k) ∙ with_greater g (factor f.name (f.exponent + h.exponent)) m above)
-    both Greater k e go =
-        ap (with_factor f) (with_greater g h m e) ∙ with_greater f h (with_factor g m) k ∙ ap (λ (x : Monomial). h ∷ x) go
-        ∙ sym (ap (with_factor g) (with_greater f h m k) ∙ with_greater g h (with_factor f m) e)
-
-    by : (o : Ordering) → slice_cmp nat_cmp g.name h.name ≡ o → with_factor f (with_factor g m) ≡ with_factor g (with_factor f m)
-        → with_factor f (with_factor g (h ∷ m)) ≡ with_factor g (with_factor f (h ∷ m))
-    by Less e go =
-        let k = names_chain f.name g.name h.name l e in
-        ap (with_factor f) (with_less g h m e) ∙ with_less f g (h ∷ m) l ∙ sym (after k ∙ ap (λ (x : Monomial). f ∷ x) (with_less g h m e))
-    by Equal e go =
-        let k : slice_cmp nat_cmp f.name h.name ≡ Less = subst (λ (x : List ℕ). slice_cmp nat_cmp f.name x ≡ Less) (names_equal g.name h.name e) l in
-        ap (with_factor f) (with_equal g h m e) ∙ with_less f (factor g.name (g.exponent + h.exponent)) m l ∙ sym (after k ∙ ap (λ (x : Monomial). f ∷ x) (with_equal g h m e))
-    by Greater e go = both (slice_cmp nat_cmp f.name h.name) refl e go
+with_turned_less f g (h ∷ m) l = let go = with_turned_less f g m l in grind (arith, with_less, with_equal, with_greater, names_above, names_chain, names_equal)
 
 pub with_turned : (f g : Factor) (m : Monomial) → with_factor f (with_factor g m) ≡ with_factor g (with_factor f m)
 with_turned f g m = by (slice_cmp nat_cmp f.name g.name) refl

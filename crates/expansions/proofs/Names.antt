@@ -9,12 +9,7 @@ use Rattle.expansions.proofs.{Shared.{product_of, sum_of, Contains-push}, AllMon
 
 with_named : (ns : List (List ℕ)) (f : Factor) (m : Monomial) → Contains ns f.name → IsNamed ns m → IsNamed ns (with_factor f m)
 with_named ns f [] h k = (h, tt)
-with_named ns f (g ∷ m) h k = by (slice_cmp nat_cmp f.name g.name) (with_named ns f m h k.1)
-  where
-    by : (o : Ordering) → IsNamed ns (with_factor f m) → IsNamed ns (elim o [ Less ↦ f ∷ g ∷ m | Equal ↦ factor f.name (f.exponent + g.exponent) ∷ m | Greater ↦ g ∷ with_factor f m ])
-    by Less go = (h, k)
-    by Equal go = (h, k.1)
-    by Greater go = (k.0, go)
+with_named ns f (g ∷ m) h k = let go = with_named ns f m h k.1 in grind arith
 
 pub times_named : (ns : List (List ℕ)) (m n : Monomial) → IsNamed ns m → IsNamed ns n → IsNamed ns (monomial_times m n)
 times_named ns [] n h k = k
@@ -74,14 +69,7 @@ product_names : (ns : List (List ℕ)) (ts : Trees) → Within ns (names_of ts) 
 product_names ns ts h = grind (arith, within_none, within_trans, within_left)
 
 term_names : (ns : List (List ℕ)) (s : Summand) → IsNamed ns s.monomial → Within ns (names (term_tree s))
-term_names ns s h = by (is_one_fraction s.coefficient)
-  where
-    factors : Within ns (names_of (factor_trees s.monomial))
-    factors = factors_names ns s.monomial h
-
-    by : (b : Bool) → Within ns (names (if b then monomial_tree s.monomial else product_tree (more (num s.coefficient) (factor_trees s.monomial))))
-    by true = product_names ns (factor_trees s.monomial) factors
-    by false = product_names ns (more (num s.coefficient) (factor_trees s.monomial)) factors
+term_names ns s h = let factors = factors_names ns s.monomial h in grind (arith, product_names)
 
 pub terms_names : (ns : List (List ℕ)) (v : Polynomial) → AllHave (IsNamed ns) v → Within ns (names_of (term_trees v))
 terms_names ns [] h = within_none ns

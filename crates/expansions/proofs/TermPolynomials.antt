@@ -48,11 +48,7 @@ terms_polynomial (s ∷ v) h = λ i. term_polynomial s h.0 i ++ terms_polynomial
 -- ---- expanded trees
 
 zero_constant : AreSame (constant zero_fraction) []
-zero_constant = record { at = λ m. by (is_same_monomial [] m) }
-  where
-    by : (b : Bool) → (if b then plus zero_fraction zero_fraction else zero_fraction) ≡ zero_fraction
-    by true = zero_plus zero_fraction
-    by false = refl
+zero_constant = record { at = λ m. grind (arith, zero_plus) }
 
 sum_polynomial : (v : Polynomial) → AreMonomials v → AreSame (polynomial_of (sum_tree (term_trees v))) v
 sum_polynomial [] h = zero_constant

@@ -22,11 +22,7 @@ or_is a b h e = grind arith
 pub contained_among : (ns : List (List ℕ)) (x : List ℕ) → Contains ns x → is_among x ns ≡ true
 contained_among [] x (k, l, e) = absurd (omega arith)
 contained_among (y ∷ ys) x (zero, l, e) = ap (λ (b : Bool). b || is_among x ys) (same_is y x e)
-contained_among (y ∷ ys) x (suc k, l, e) = by (bytes_eq y x) (contained_among ys x (k, omega arith, e))
-  where
-    by : (b : Bool) → is_among x ys ≡ true → (b || is_among x ys) ≡ true
-    by true h = refl
-    by false h = h
+contained_among (y ∷ ys) x (suc k, l, e) = let go = contained_among ys x (k, omega arith, e) in grind arith
 
 -- ---- names other than x
 
@@ -54,26 +50,11 @@ other x y e = false_for (bytes_eq x y) (λ h. clash (bytes_eq y x) (same_is y x 
 
 fewer_without : (x : List ℕ) (ys : List (List ℕ)) → count_distinct (without x ys) + 0 ≤ count_distinct ys
 fewer_without x [] = omega arith
-fewer_without x (y ∷ ys) = by (bytes_eq y x) refl (fewer_without x ys)
-  where
-    by : (b : Bool) → bytes_eq y x ≡ b → count_distinct (without x ys) + 0 ≤ count_distinct ys → count_distinct (if b then without x ys else y ∷ without x ys) + 0 ≤ count_distinct (y ∷ ys)
-    by true e go = omega (arith, go, count_more y ys)
-    by false e go = kept_name 0 (is_among y (without x ys)) (is_among y ys) (count_distinct (without x ys)) (count_distinct ys) (among_without x y ys (other x y e)) go
+fewer_without x (y ∷ ys) = let go = fewer_without x ys in grind (arith, count_more, kept_name, among_without, other)
 
 count_without : (x : List ℕ) (ys : List (List ℕ)) → is_among x ys ≡ true → count_distinct (without x ys) + 1 ≤ count_distinct ys
 count_without x [] h = clash true refl (sym h)
-count_without x (y ∷ ys) h = by (bytes_eq y x) refl (count_without x ys)
-  where
-    first : (b : Bool) → is_among y ys ≡ b → y ≡ x → (is_among x ys ≡ true → count_distinct (without x ys) + 1 ≤ count_distinct ys)
-        → count_distinct (without x ys) + 1 ≤ (if b then count_distinct ys else suc (count_distinct ys))
-    first true e same go = go (sym (ap (λ (w : List ℕ). is_among w ys) same) ∙ e)
-    first false e same go = omega (arith, fewer_without x ys)
-
-    by : (b : Bool) → bytes_eq y x ≡ b → (is_among x ys ≡ true → count_distinct (without x ys) + 1 ≤ count_distinct ys)
-        → count_distinct (if b then without x ys else y ∷ without x ys) + 1 ≤ count_distinct (y ∷ ys)
-    by true e go = first (is_among y ys) refl (is_same y x e) go
-    by false e go = kept_name 1 (is_among y (without x ys)) (is_among y ys) (count_distinct (without x ys)) (count_distinct ys) (among_without x y ys (other x y e))
-        (go (or_is (bytes_eq y x) (is_among x ys) h e))
+count_without x (y ∷ ys) h = let go = count_without x ys in grind (arith, fewer_without, is_same, among_without, other)
 
 -- ---- monomials
 
