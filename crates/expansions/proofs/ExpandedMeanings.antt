@@ -2,7 +2,7 @@
 use Rattle.expansions.proofs.Shared.{◌≡◌, ◌≤◌, ℕ, zero, suc, ◌+◌, pos, [], ◌∷◌, Bool, true, false, refl, sym, ap, ◌∙◌, subst, arith, ◌==◌, if◌then◌else◌, eqb-true, Ordering, Less, Equal, Greater}
 use Rattle.expansions.proofs.Shared.{nat_cmp, slice_cmp, Assignment, IsAssignment, IsWholePower, Means, MeansProduct, MeansSum, product_tree, Surd, surd_of, surd_one, Means-Same, Same-sym}
 use Rattle.expansions.proofs.Shared.{rational_power, power_whole, Same-trans, Same-eq, Same-refl, joined_radicand, surd_times-terms, zero_term, one_is, zero_is, fraction_power, one_times, zero_plus}
-use Rattle.expansions.proofs.Shared.{zero_times, Fraction, is_one_fraction, is_zero_fraction, minus_one_fraction, plus, plus_assoc, times, zero_fraction, inverse, Tree, num, symbol, undef, add, mult}
+use Rattle.expansions.proofs.Shared.{zero_times, Fraction, is_one_fraction, minus_one_fraction, plus, plus_assoc, times, zero_fraction, inverse, Tree, num, symbol, undef, add, mult}
 use Rattle.expansions.proofs.Shared.{power, root, neg, sub, div, Trees, none, more, whole_num, Factor, Monomial, Polynomial, Summand, factor, monomial_times, scaled, summand, with_factor, divisor_of}
 use Rattle.expansions.proofs.Shared.{exponent_of, is_polynomial, polynomial_of, product_of, sum_of, expanded, factor_tree, factor_trees, joined, monomial_cmp, monomial_tree, normal, sum_tree}
 use Rattle.expansions.proofs.Shared.{term_tree, term_trees, with_summand, without_zeros, factor_value, given, monomial_value, polynomial_value, summand_value, Gives, none_product, none_sum}
@@ -30,14 +30,7 @@ joined_value f (s ∷ v) = with_summand_value f s (joined v) ∙ ap (plus (summa
 
 without_zeros_value : (f : Assignment) (v : Polynomial) → polynomial_value f (without_zeros v) ≡ polynomial_value f v
 without_zeros_value f [] = refl
-without_zeros_value f (s ∷ v) = by (is_zero_fraction s.coefficient) refl (without_zeros_value f v)
-  where
-    by : (b : Bool) → is_zero_fraction s.coefficient ≡ b → polynomial_value f (without_zeros v) ≡ polynomial_value f v
-        → polynomial_value f (if b then without_zeros v else s ∷ without_zeros v) ≡ polynomial_value f (s ∷ v)
-    by true e go =
-        go ∙ sym (ap (λ q. plus (times q (monomial_value f s.monomial)) (polynomial_value f v)) (zero_is s.coefficient e)
-        ∙ ap (λ x. plus x (polynomial_value f v)) (zero_times (monomial_value f s.monomial)) ∙ zero_plus (polynomial_value f v))
-    by false e go = ap (plus (summand_value f s)) go
+without_zeros_value f (s ∷ v) = let go = without_zeros_value f v in grind (arith, zero_is, zero_times, zero_plus)
 
 normal_value : (f : Assignment) (v : Polynomial) → polynomial_value f (normal v) ≡ polynomial_value f v
 normal_value f v = without_zeros_value f (joined v) ∙ joined_value f v

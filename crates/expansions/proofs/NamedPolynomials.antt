@@ -1,6 +1,6 @@
 -- Polynomials of names, from packed ones: the same coefficients, sums, multiples, products and powers.
-use Rattle.expansions.proofs.Shared.{◌≡◌, ℕ, zero, suc, List, [], ◌∷◌, ◌++◌, length, map, Bool, true, false, refl, sym, ap, ◌∙◌, if◌then◌else◌, Fraction, times_comm, times, zero_fraction}
-use Rattle.expansions.proofs.Shared.{one_fraction, one_times, plus, zero_plus, zero_times, AreSame, Monomial, Polynomial, coefficient_at, is_same_monomial, product, raised, scaled, summand}
+use Rattle.expansions.proofs.Shared.{◌≡◌, ℕ, zero, suc, List, [], ◌∷◌, ◌++◌, length, map, refl, sym, ap, ◌∙◌, if◌then◌else◌, Fraction, times_comm, times, zero_fraction, arith}
+use Rattle.expansions.proofs.Shared.{one_fraction, one_times, zero_plus, zero_times, AreSame, Monomial, Polynomial, coefficient_at, is_same_monomial, product, raised, scaled, summand}
 use Rattle.expansions.proofs.{Shared.{summand_times, AreNames, HaveNames, IsOfNames, named_polynomial, worth, Term, named}, NamedMonomials.{named_one, named_times, names_one, names_times}}
 use Rattle.expansions.proofs.NamedMonomials.{packed_length, times_length}
 use Rattle.polynomials.specs.Polynomials.{Monomial as Exponents, Polynomial as Packed, Summand as PackedSummand, AreSame as AreSameValues, product as packed_product, raised as packed_raised}
@@ -14,15 +14,7 @@ where_named ns m es = if is_same_monomial (named ns es) m then one_fraction else
 
 coefficient_worth : (ns : List (List ℕ)) (m : Monomial) (v : Packed) → coefficient_at m (named_polynomial ns v) ≡ worth (where_named ns m) v
 coefficient_worth ns m [] = refl
-coefficient_worth ns m (s ∷ v) = by (is_same_monomial (named ns s.monomial) m) (coefficient_worth ns m v)
-  where
-    q : Fraction
-    q = s.coefficient
-
-    by : (b : Bool) → coefficient_at m (named_polynomial ns v) ≡ worth (where_named ns m) v
-        → (if b then plus q (coefficient_at m (named_polynomial ns v)) else coefficient_at m (named_polynomial ns v)) ≡ plus (times q (if b then one_fraction else zero_fraction)) (worth (where_named ns m) v)
-    by true go = λ i. plus ((sym (one_times q) ∙ times_comm one_fraction q) i) (go i)
-    by false go = go ∙ sym (ap (λ x. plus x (worth (where_named ns m) v)) (times_comm q zero_fraction ∙ zero_times q) ∙ zero_plus (worth (where_named ns m) v))
+coefficient_worth ns m (s ∷ v) = let go = coefficient_worth ns m v in grind (arith, one_times, times_comm, zero_times, zero_plus)
 
 -- packed polynomials that are the same have the same coefficients by names
 pub named_same : (ns : List (List ℕ)) {v w : Packed} → AreSameValues v w → AreSame (named_polynomial ns v) (named_polynomial ns w)

@@ -1,8 +1,8 @@
 -- The names of polynomials, and of expanded trees.
-use Rattle.expansions.proofs.Shared.{ℕ, ◌+◌, List, [], ◌∷◌, Bool, true, false, arith, Contains, if◌then◌else◌, Ordering, Less, Equal, Greater, nat_cmp, slice_cmp, Within, no_new_name, within_both}
-use Rattle.expansions.proofs.Shared.{within_left, within_none, within_right, within_same, within_trans, product_tree, HasNoNewName, inverse, is_one_fraction, minus_one_fraction, Tree, num, symbol}
-use Rattle.expansions.proofs.Shared.{undef, add, mult, power, root, neg, sub, div, Trees, none, more, names, names_of, expanded, factor_tree, factor_trees, monomial_tree, normal, sum_tree, term_tree}
-use Rattle.expansions.proofs.Shared.{term_trees, AreNamed, IsNamed, Factor, Monomial, Polynomial, Summand, factor, monomial_times, scaled, with_factor, divisor_of, exponent_of, polynomial_of}
+use Rattle.expansions.proofs.Shared.{ℕ, List, [], ◌∷◌, arith, Contains, Within, no_new_name, within_both}
+use Rattle.expansions.proofs.Shared.{within_left, within_none, within_right, within_same, within_trans, product_tree, HasNoNewName, inverse, minus_one_fraction, Tree, num, symbol}
+use Rattle.expansions.proofs.Shared.{undef, add, mult, power, root, neg, sub, div, Trees, none, more, names, names_of, expanded, factor_tree, factor_trees, normal, sum_tree, term_tree}
+use Rattle.expansions.proofs.Shared.{term_trees, AreNamed, IsNamed, Factor, Monomial, Polynomial, Summand, monomial_times, scaled, with_factor, divisor_of, exponent_of, polynomial_of}
 use Rattle.expansions.proofs.{Shared.{product_of, sum_of, Contains-push}, AllMonomials.{AllHave, IsClosed, append_all, normal_all, product_all, raised_all, scaled_all}}
 
 -- ---- monomials

@@ -45,12 +45,7 @@ zero_added false q x e = refl
 
 without_zeros_coefficient : (m : Monomial) (v : Polynomial) → coefficient_at m (without_zeros v) ≡ coefficient_at m v
 without_zeros_coefficient m [] = refl
-without_zeros_coefficient m (s ∷ v) = by (is_zero_fraction s.coefficient) refl (without_zeros_coefficient m v)
-  where
-    by : (b : Bool) → is_zero_fraction s.coefficient ≡ b → coefficient_at m (without_zeros v) ≡ coefficient_at m v
-        → coefficient_at m (if b then without_zeros v else s ∷ without_zeros v) ≡ coefficient_at m (s ∷ v)
-    by true e go = go ∙ zero_added (is_same_monomial s.monomial m) s.coefficient (coefficient_at m v) (zero_is s.coefficient e)
-    by false e go = ap (λ x. if is_same_monomial s.monomial m then plus s.coefficient x else x) go
+without_zeros_coefficient m (s ∷ v) = let go = without_zeros_coefficient m v in grind (arith, zero_is, zero_added)
 
 pub normal_coefficient : (m : Monomial) (v : Polynomial) → coefficient_at m (normal v) ≡ coefficient_at m v
 normal_coefficient m v = without_zeros_coefficient m (joined v) ∙ joined_coefficient m v
@@ -67,13 +62,7 @@ before_more k m (t ∷ v) l h = (chained k m t.monomial l h.0, before_more k m v
 
 before_with : (k : Monomial) (s : Summand) (v : Polynomial) → monomial_cmp k s.monomial ≡ Less → IsBeforeAll k v → IsBeforeAll k (with_summand s v)
 before_with k s [] l h = (l, tt)
-before_with k s (t ∷ v) l h = by (monomial_cmp s.monomial t.monomial) (before_with k s v l h.1)
-  where
-    by : (o : Ordering) → IsBeforeAll k (with_summand s v)
-        → IsBeforeAll k (elim o [ Less ↦ s ∷ t ∷ v | Equal ↦ summand (plus s.coefficient t.coefficient) s.monomial ∷ v | Greater ↦ t ∷ with_summand s v ])
-    by Less go = (l, h)
-    by Equal go = (l, h.1)
-    by Greater go = (h.0, go)
+before_with k s (t ∷ v) l h = let go = before_with k s v l h.1 in grind arith
 
 with_rising : (s : Summand) (v : Polynomial) → AreRising v → AreRising (with_summand s v)
 with_rising s [] h = (tt, tt)
@@ -91,11 +80,7 @@ joined_rising (s ∷ v) = with_rising s (joined v) (joined_rising v)
 
 before_without : (k : Monomial) (v : Polynomial) → IsBeforeAll k v → IsBeforeAll k (without_zeros v)
 before_without k [] h = tt
-before_without k (s ∷ v) h = by (is_zero_fraction s.coefficient) (before_without k v h.1)
-  where
-    by : (b : Bool) → IsBeforeAll k (without_zeros v) → IsBeforeAll k (if b then without_zeros v else s ∷ without_zeros v)
-    by true go = go
-    by false go = (h.0, go)
+before_without k (s ∷ v) h = let go = before_without k v h.1 in grind arith
 
 without_normal : (v : Polynomial) → AreRising v → IsNormal (without_zeros v)
 without_normal [] h = tt

@@ -1,7 +1,7 @@
 -- Polynomials with the same coefficients, in sums and products.
-use Rattle.expansions.proofs.Shared.{◌≡◌, [], ◌∷◌, ◌++◌, map, Bool, true, false, refl, sym, ap, ◌∙◌, append-nil, append_assoc, if◌then◌else◌, Ordering, Less, Equal, Greater, times_zero, zero_is}
-use Rattle.expansions.proofs.Shared.{raised, zero, suc, ℕ, one_times, times_comm, times_plus, zero_plus, zero_times, Fraction, is_zero_fraction, one_fraction, plus, plus_assoc, plus_comm, times}
-use Rattle.expansions.proofs.Shared.{zero_fraction, joined, monomial_cmp, normal, with_summand, without_zeros, Monomial, Polynomial, Summand, coefficient_at, constant, is_same_monomial}
+use Rattle.expansions.proofs.Shared.{◌≡◌, [], ◌∷◌, ◌++◌, map, refl, sym, ap, ◌∙◌, append-nil, append_assoc, if◌then◌else◌, Ordering, Less, Equal, Greater, times_zero, zero_is}
+use Rattle.expansions.proofs.Shared.{arith, raised, zero, suc, ℕ, one_times, times_comm, times_plus, zero_plus, zero_times, Fraction, one_fraction, plus, plus_assoc, plus_comm}
+use Rattle.expansions.proofs.Shared.{times, zero_fraction, joined, monomial_cmp, normal, with_summand, without_zeros, Monomial, Polynomial, Summand, coefficient_at, constant, is_same_monomial}
 use Rattle.expansions.proofs.{Shared.{monomial_times, product, scaled, summand, summand_times, AreSame}, Arithmetic.{plus_both, plus_left_comm, plus_times}, MonomialTrees.{equal_is}}
 use Rattle.expansions.proofs.NormalForms.{normal_coefficient, one_normal_form}
 
@@ -29,12 +29,7 @@ normal_same {v = v} {w = w} h = one_normal_form v w h.at
 
 pub coefficient_append : (m : Monomial) (v w : Polynomial) → coefficient_at m (v ++ w) ≡ plus (coefficient_at m v) (coefficient_at m w)
 coefficient_append m [] w = sym (zero_plus (coefficient_at m w))
-coefficient_append m (s ∷ v) w = by (is_same_monomial s.monomial m) (coefficient_append m v w)
-  where
-    by : (b : Bool) → coefficient_at m (v ++ w) ≡ plus (coefficient_at m v) (coefficient_at m w)
-        → (if b then plus s.coefficient (coefficient_at m (v ++ w)) else coefficient_at m (v ++ w)) ≡ plus (if b then plus s.coefficient (coefficient_at m v) else coefficient_at m v) (coefficient_at m w)
-    by true go = ap (plus s.coefficient) go ∙ sym (plus_assoc s.coefficient (coefficient_at m v) (coefficient_at m w))
-    by false go = go
+coefficient_append m (s ∷ v) w = let go = coefficient_append m v w in grind (arith, plus_assoc)
 
 pub same_append : {v v' w w' : Polynomial} → AreSame v v' → AreSame w w' → AreSame (v ++ w) (v' ++ w')
 same_append {v} {v'} {w} {w'} h k = record { at = λ m. coefficient_append m v w ∙ plus_both (h.at m) (k.at m) ∙ sym (coefficient_append m v' w') }
@@ -74,11 +69,7 @@ weighed_joined g (s ∷ v) = weighed_with g s (joined v) ∙ ap (plus (times s.c
 
 weighed_without : (g : Monomial → Fraction) (v : Polynomial) → weighed g (without_zeros v) ≡ weighed g v
 weighed_without g [] = refl
-weighed_without g (s ∷ v) = by (is_zero_fraction s.coefficient) refl (weighed_without g v)
-  where
-    by : (b : Bool) → is_zero_fraction s.coefficient ≡ b → weighed g (without_zeros v) ≡ weighed g v → weighed g (if b then without_zeros v else s ∷ without_zeros v) ≡ weighed g (s ∷ v)
-    by true e go = go ∙ sym (ap (λ q. plus (times q (g s.monomial)) (weighed g v)) (zero_is s.coefficient e) ∙ ap (λ x. plus x (weighed g v)) (zero_times (g s.monomial)) ∙ zero_plus (weighed g v))
-    by false e go = ap (plus (times s.coefficient (g s.monomial))) go
+weighed_without g (s ∷ v) = let go = weighed_without g v in grind (arith, zero_is, zero_times, zero_plus)
 
 weighed_normal : (g : Monomial → Fraction) (v : Polynomial) → weighed g (normal v) ≡ weighed g v
 weighed_normal g v = weighed_without g (joined v) ∙ weighed_joined g v
@@ -93,13 +84,7 @@ row m k w = coefficient_at m (map (summand_times (summand one_fraction k)) w)
 
 row_scaled : (m : Monomial) (s : Summand) (w : Polynomial) → coefficient_at m (map (summand_times s) w) ≡ times s.coefficient (row m s.monomial w)
 row_scaled m s [] = sym (times_zero s.coefficient)
-row_scaled m s (t ∷ w) = by (is_same_monomial (monomial_times s.monomial t.monomial) m) (row_scaled m s w)
-  where
-    by : (b : Bool) → coefficient_at m (map (summand_times s) w) ≡ times s.coefficient (row m s.monomial w)
-        → (if b then plus (times s.coefficient t.coefficient) (coefficient_at m (map (summand_times s) w)) else coefficient_at m (map (summand_times s) w))
-        ≡ times s.coefficient (if b then plus (times one_fraction t.coefficient) (row m s.monomial w) else row m s.monomial w)
-    by true go = plus_both (ap (times s.coefficient) (sym (one_times t.coefficient))) go ∙ sym (times_plus s.coefficient (times one_fraction t.coefficient) (row m s.monomial w))
-    by false go = go
+row_scaled m s (t ∷ w) = let go = row_scaled m s w in grind (arith, one_times, times_plus)
 
 product_weighed : (m : Monomial) (v w : Polynomial) → coefficient_at m (product v w) ≡ weighed (λ k. row m k w) v
 product_weighed m [] w = refl
@@ -113,13 +98,7 @@ where_same m s k = if is_same_monomial (monomial_times s.monomial k) m then s.co
 
 row_weighed : (m : Monomial) (s : Summand) (w : Polynomial) → coefficient_at m (map (summand_times s) w) ≡ weighed (where_same m s) w
 row_weighed m s [] = refl
-row_weighed m s (t ∷ w) = by (is_same_monomial (monomial_times s.monomial t.monomial) m) (row_weighed m s w)
-  where
-    by : (b : Bool) → coefficient_at m (map (summand_times s) w) ≡ weighed (where_same m s) w
-        → (if b then plus (times s.coefficient t.coefficient) (coefficient_at m (map (summand_times s) w)) else coefficient_at m (map (summand_times s) w))
-        ≡ plus (times t.coefficient (if b then s.coefficient else zero_fraction)) (weighed (where_same m s) w)
-    by true go = plus_both (times_comm s.coefficient t.coefficient) go
-    by false go = go ∙ sym (ap (λ x. plus x (weighed (where_same m s) w)) (times_zero t.coefficient) ∙ zero_plus (weighed (where_same m s) w))
+row_weighed m s (t ∷ w) = let go = row_weighed m s w in grind (arith, times_comm, times_zero, zero_plus)
 
 pub product_right : (v : Polynomial) {w w' : Polynomial} → AreSame w w' → AreSame (product v w) (product v w')
 product_right [] h = same_refl []

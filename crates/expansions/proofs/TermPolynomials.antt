@@ -1,8 +1,8 @@
 -- The polynomials of terms and of expanded trees, and how these are read.
 use Rattle.expansions.proofs.Shared.{◌≡◌, ◌≢◌, ◌≤◌, ℕ, zero, suc, List, [], ◌∷◌, ◌++◌, Bool, true, false, refl, sym, ap, ◌∙◌, arith, not, if◌then◌else◌, false_from_ne_true, product_tree, no_zero}
 use Rattle.expansions.proofs.Shared.{IsSum, IsTerm, ◌⊎◌, inl, inr, one_is, whole_denominator, whole_numerator, zero_is, one_times, zero_plus, Fraction, is_one_fraction, is_zero_fraction, one_fraction}
-use Rattle.expansions.proofs.Shared.{plus, times, zero_fraction, Tree, num, mult, none, more, whole_num, IsNormal, expanded, factor_tree, factor_trees, monomial_tree, normal, sum_tree, term_tree}
-use Rattle.expansions.proofs.Shared.{term_trees, AreMonomials, Factor, IsMonomial, Monomial, Polynomial, Summand, constant, factor, is_same_monomial, product, raised, summand, variable, exponent_of}
+use Rattle.expansions.proofs.Shared.{times, zero_fraction, Tree, num, mult, none, more, whole_num, IsNormal, expanded, factor_tree, factor_trees, monomial_tree, normal, sum_tree, term_tree}
+use Rattle.expansions.proofs.Shared.{term_trees, AreMonomials, Factor, IsMonomial, Monomial, Polynomial, Summand, constant, factor, product, raised, summand, variable, exponent_of}
 use Rattle.expansions.proofs.{Shared.{polynomial_of, product_of, sum_of, AreSame, IsExpanded, coefficient_in, factors_in, terms_in}, AllMonomials.{normal_all}, Arithmetic.{times_one}}
 use Rattle.expansions.proofs.{FactorTrees.{on_factor}, MonomialProducts.{name_again, put_first}, NormalForms.{normal_is}, SameCoefficients.{same_is, same_normal, same_trans}}
 use Rattle.expansions.proofs.TreeMonomials.{all_monomials, tree_monomials}

@@ -1,7 +1,7 @@
 -- The arithmetic of polynomials is that of their values.
-use Rattle.expansions.proofs.Shared.{◌≡◌, ◌⊎◌, inl, inr, ℕ, zero, suc, ◌+◌, List, [], ◌∷◌, ◌++◌, map, Bool, true, false, refl, sym, ap, ◌∙◌, arith, if◌then◌else◌, Contains, bytes_eq, bytes_eq-Decides}
-use Rattle.expansions.proofs.Shared.{Ordering, Less, Equal, Greater, nat_cmp, slice_cmp, Assignment, IsAssignment, Binding, times_zero, tree_cmp_equal, fraction_power, times_assoc, times_plus}
-use Rattle.expansions.proofs.Shared.{zero_plus, zero_times, one_times, Fraction, plus, times, one_fraction, plus_assoc, Tree, symbol, Factor, Monomial, Polynomial, Summand, constant, factor}
+use Rattle.expansions.proofs.Shared.{◌≡◌, ◌⊎◌, inl, inr, ℕ, zero, suc, List, [], ◌∷◌, ◌++◌, map, Bool, true, false, refl, sym, ap, ◌∙◌, arith, if◌then◌else◌, Contains, bytes_eq, bytes_eq-Decides}
+use Rattle.expansions.proofs.Shared.{Equal, nat_cmp, slice_cmp, Assignment, IsAssignment, Binding, times_zero, tree_cmp_equal, fraction_power, times_assoc, times_plus}
+use Rattle.expansions.proofs.Shared.{zero_plus, zero_times, one_times, Fraction, plus, times, one_fraction, plus_assoc, Tree, symbol, Factor, Monomial, Polynomial, Summand, constant}
 use Rattle.expansions.proofs.Shared.{monomial_times, product, raised, scaled, summand_times, variable, with_factor, factor_value, given, monomial_value, polynomial_value, summand_value, Gives}
 use Rattle.expansions.proofs.{Shared.{one_value}, Arithmetic.{plus_both, plus_times, plus_zero, power_plus, times_exchange, times_left_comm, times_one}}
 
@@ -39,16 +39,7 @@ module _ (f : Assignment) where
 
   pub with_factor_value : (g : Factor) (m : Monomial) → monomial_value f (with_factor g m) ≡ times (factor_value f g) (monomial_value f m)
   with_factor_value g [] = refl
-  with_factor_value g (h ∷ m) = by (slice_cmp nat_cmp g.name h.name) refl (with_factor_value g m)
-    where
-      by : (o : Ordering) → slice_cmp nat_cmp g.name h.name ≡ o → monomial_value f (with_factor g m) ≡ times (factor_value f g) (monomial_value f m)
-          → monomial_value f (elim o [ Less ↦ g ∷ h ∷ m | Equal ↦ factor g.name (g.exponent + h.exponent) ∷ m | Greater ↦ h ∷ with_factor g m ]) ≡ times (factor_value f g) (times (factor_value f h) (monomial_value f m))
-      by Less e go = refl
-      by Equal e go =
-          ap (λ x. times x (monomial_value f m)) (power_plus (given f g.name) g.exponent h.exponent
-          ∙ ap (λ x. times (factor_value f g) (fraction_power (given f x) h.exponent)) (names_equal g.name h.name e))
-          ∙ times_assoc (factor_value f g) (factor_value f h) (monomial_value f m)
-      by Greater e go = ap (times (factor_value f h)) go ∙ times_left_comm (factor_value f h) (factor_value f g) (monomial_value f m)
+  with_factor_value g (h ∷ m) = let go = with_factor_value g m in grind (arith, power_plus, names_equal, times_assoc, times_left_comm)
 
   pub monomial_times_value : (m n : Monomial) → monomial_value f (monomial_times m n) ≡ times (monomial_value f m) (monomial_value f n)
   monomial_times_value [] n = sym (one_times (monomial_value f n))
