@@ -1,6 +1,6 @@
 -- What holds of 1 and of products of monomials for which it holds is kept by the arithmetic of polynomials.
-use Rattle.expansions.proofs.Shared.{ℕ, zero, suc, [], ◌∷◌, ◌++◌, map, Bool, true, false, if◌then◌else◌, Ordering, Less, Equal, Greater, Fraction, is_zero_fraction, plus, joined, monomial_cmp, normal}
-use Rattle.expansions.proofs.Shared.{with_summand, without_zeros, Monomial, Polynomial, Summand, monomial_times, product, raised, scaled, summand, summand_times}
+use Rattle.expansions.proofs.Shared.{ℕ, zero, suc, [], ◌∷◌, ◌++◌, map, Fraction, joined, normal}
+use Rattle.expansions.proofs.Shared.{arith, with_summand, without_zeros, Monomial, Polynomial, Summand, monomial_times, product, raised, scaled, summand_times}
 
 -- a fact of each monomial
 abbrev pub AllHave : (Monomial → Type 0) → Polynomial → Type 0
@@ -35,12 +35,7 @@ module _ (P : Monomial → Type 0) where
 
   with_summand_all : (s : Summand) (v : Polynomial) → P s.monomial → AllHave P v → AllHave P (with_summand s v)
   with_summand_all s [] h k = (h, tt)
-  with_summand_all s (t ∷ v) h k = by (monomial_cmp s.monomial t.monomial) (with_summand_all s v h k.1)
-    where
-      by : (o : Ordering) → AllHave P (with_summand s v) → AllHave P (elim o [ Less ↦ s ∷ t ∷ v | Equal ↦ summand (plus s.coefficient t.coefficient) s.monomial ∷ v | Greater ↦ t ∷ with_summand s v ])
-      by Less go = (h, k)
-      by Equal go = (h, k.1)
-      by Greater go = (k.0, go)
+  with_summand_all s (t ∷ v) h k = let go = with_summand_all s v h k.1 in grind arith
 
   joined_all : (v : Polynomial) → AllHave P v → AllHave P (joined v)
   joined_all [] h = tt
@@ -48,11 +43,7 @@ module _ (P : Monomial → Type 0) where
 
   without_zeros_all : (v : Polynomial) → AllHave P v → AllHave P (without_zeros v)
   without_zeros_all [] h = tt
-  without_zeros_all (s ∷ v) h = by (is_zero_fraction s.coefficient) (without_zeros_all v h.1)
-    where
-      by : (b : Bool) → AllHave P (without_zeros v) → AllHave P (if b then without_zeros v else s ∷ without_zeros v)
-      by true go = go
-      by false go = (h.0, go)
+  without_zeros_all (s ∷ v) h = let go = without_zeros_all v h.1 in grind arith
 
   pub normal_all : (v : Polynomial) → AllHave P v → AllHave P (normal v)
   normal_all v h = without_zeros_all (joined v) (joined_all v h)

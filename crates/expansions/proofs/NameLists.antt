@@ -1,6 +1,6 @@
 -- Lists of rising names.
 use Rattle.expansions.proofs.Shared.{◌≡◌, ◌≤◌, ◌<◌, ℕ, zero, suc, List, [], ◌∷◌, ◌++◌, length, get_or, take, drop, inl, inr, Bool, true, false, refl, sym, ap, ◌∙◌, subst, arith, Contains, ◌==◌}
-use Rattle.expansions.proofs.Shared.{length-map, drop-cons, insert, not, name_of, before_zero, Name, bytes_eq, bytes_eq-Decides, Ordering, Less, Equal, Greater, ordering_index, nat_cmp}
+use Rattle.expansions.proofs.Shared.{length-map, drop-cons, insert, not, name_of, before_zero, Name, bytes_eq, bytes_eq-Decides, Ordering, Less, Equal, ordering_index, nat_cmp}
 use Rattle.expansions.proofs.Shared.{nat_list_cmp_total, slice_cmp, symbol, tree_cmp_same, IsBelowAll, IsNamed, Monomial, AreNames, AreNamesBelow, IsBelowNames, StartNamesFrom, HasName}
 use Rattle.expansions.proofs.{FactorOrders.{one_name}, TreeMonomials.{names_turned}, ValueLaws.{names_equal}}
 use Rattle.expansions.specs.Named.{names_of}
@@ -61,12 +61,7 @@ names_end (x ∷ xs) ys h = names_end xs ys h.1
 
 start_below : (x : List ℕ) (ys : List (List ℕ)) → AreNames ys → StartNamesFrom x ys → (HasName x ys → ⊥) → IsBelowNames x ys
 start_below x [] h s n = tt
-start_below x (y ∷ ys) h s n = by (slice_cmp nat_cmp y x) refl
-  where
-    by : (o : Ordering) → slice_cmp nat_cmp y x ≡ o → IsBelowNames x (y ∷ ys)
-    by Less e = absurd (s e)
-    by Equal e = absurd (n (inl (names_equal y x e)))
-    by Greater e = let l = names_turned y x e in (l, below_all_names x y ys l h.0)
+start_below x (y ∷ ys) h s n = grind (arith, names_equal, names_turned, below_all_names)
 
 -- one more name at its place
 module _ (xs : List Name) (n : ℕ) (t : Name) (zs : List Name) (l : n ≤ length xs) (e : zs ≡ insert xs n t) where

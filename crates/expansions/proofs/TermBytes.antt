@@ -1,8 +1,8 @@
 -- How many bytes terms and sums of them have.
-use Rattle.expansions.proofs.Shared.{ℕ, suc, ◌+◌, ◌*◌, ◌≤◌, List, [], ◌∷◌, length, Bool, true, false, arith, if◌then◌else◌, Ordering, Less, Equal, Greater, mul-le, product_tree, num_most}
-use Rattle.expansions.proofs.Shared.{is_one_fraction, is_zero_fraction, one_fraction, plus, num, more, size, sizes, expanded, factor_tree, factor_trees, joined, monomial_cmp, monomial_tree, normal}
+use Rattle.expansions.proofs.Shared.{ℕ, suc, ◌+◌, ◌*◌, ◌≤◌, List, [], ◌∷◌, length, Bool, true, false, arith, if◌then◌else◌, mul-le, product_tree, num_most}
+use Rattle.expansions.proofs.Shared.{is_one_fraction, one_fraction, num, more, size, sizes, expanded, factor_tree, factor_trees, joined, monomial_tree, normal}
 use Rattle.expansions.proofs.Shared.{sum_tree, term_tree, term_trees, with_summand, without_zeros, IsNamed, count_distinct, term_bytes, terms_bytes, sum_bytes, Factor, IsMonomial, Monomial}
-use Rattle.expansions.proofs.{Shared.{Polynomial, Summand, summand}, AllMonomials.{AllHave, normal_all}, Widths.{few_factors}}
+use Rattle.expansions.proofs.{Shared.{Polynomial, Summand}, AllMonomials.{AllHave, normal_all}, Widths.{few_factors}}
 
 -- ---- terms
 
@@ -39,13 +39,7 @@ terms_most ns (s ∷ v) h = omega (arith, named_term_most ns s h.0, terms_most n
 
 with_length : (s : Summand) (v : Polynomial) → length (with_summand s v) ≤ suc (length v)
 with_length s [] = omega arith
-with_length s (t ∷ v) = by (monomial_cmp s.monomial t.monomial) (with_length s v)
-  where
-    by : (o : Ordering) → length (with_summand s v) ≤ suc (length v) → length {A = Summand}
-        (elim o [ Less ↦ s ∷ t ∷ v | Equal ↦ summand (plus s.coefficient t.coefficient) s.monomial ∷ v | Greater ↦ t ∷ with_summand s v ]) ≤ suc (suc (length v))
-    by Less go = omega arith
-    by Equal go = omega arith
-    by Greater go = omega (arith, go)
+with_length s (t ∷ v) = let go = with_length s v in grind arith
 
 joined_length : (v : Polynomial) → length (joined v) ≤ length v
 joined_length [] = omega arith
@@ -53,11 +47,7 @@ joined_length (s ∷ v) = omega (arith, with_length s (joined v), joined_length 
 
 without_length : (v : Polynomial) → length (without_zeros v) ≤ length v
 without_length [] = omega arith
-without_length (s ∷ v) = by (is_zero_fraction s.coefficient) (without_length v)
-  where
-    by : (b : Bool) → length (without_zeros v) ≤ length v → length (if b then without_zeros v else s ∷ without_zeros v) ≤ suc (length v)
-    by true go = omega (arith, go)
-    by false go = omega (arith, go)
+without_length (s ∷ v) = let go = without_length v in grind arith
 
 pub normal_length : (v : Polynomial) → length (normal v) ≤ length v
 normal_length v = omega (arith, without_length (joined v), joined_length v)

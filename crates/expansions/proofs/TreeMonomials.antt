@@ -13,12 +13,7 @@ below_more x y (f ∷ m) l h = (nat_list_cmp_total.trans x y f.name l h.0, below
 
 pub below_with : (x : List ℕ) (g : Factor) (m : Monomial) → slice_cmp nat_cmp x g.name ≡ Less → IsBelowAll x m → IsBelowAll x (with_factor g m)
 below_with x g [] l h = (l, tt)
-below_with x g (f ∷ m) l h = by (slice_cmp nat_cmp g.name f.name) (below_with x g m l h.1)
-  where
-    by : (o : Ordering) → IsBelowAll x (with_factor g m) → IsBelowAll x (elim o [ Less ↦ g ∷ f ∷ m | Equal ↦ factor g.name (g.exponent + f.exponent) ∷ m | Greater ↦ f ∷ with_factor g m ])
-    by Less go = (l, h)
-    by Equal go = (l, h.1)
-    by Greater go = (h.0, go)
+below_with x g (f ∷ m) l h = let go = below_with x g m l h.1 in grind arith
 
 with_factor_monomial : (g : Factor) (m : Monomial) → 1 ≤ g.exponent → IsMonomial m → IsMonomial (with_factor g m)
 with_factor_monomial g [] l h = (l, tt, tt)
