@@ -9,7 +9,8 @@ use Rattle.node_bounds.proofs.{Shared.{and_cases, not-false}, Clashes.{contrary}
 use Rattle.node_bounds.proofs.Rewritten.{parts_single, powers_raised, root_counts}
 use Rattle.tree_room.proofs.{Coefficients.{split_counts}, Counts.{numbers_appended as numbers_append, no_number as numbers_other}}
 use Rattle.coefficients.proofs.Rooms.{no_numbers}
-pub use Rattle.like_children.proofs.Parts.{first_parts, last_parts}
+pub use Rattle.like_children.proofs.Parts.{first_parts}
+pub use Rattle.coefficients.proofs.TermMultiples.{behind_parts as last_parts}
 
 -- ---- what a whole power of each base needs
 
