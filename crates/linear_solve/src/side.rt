@@ -92,6 +92,7 @@ impl SideRow {
     }
 
     /// The quotient by a row without a name.
+    #[tactic(auto, using(crate::proofs::Entries::nonzero_numerator))]
     pub(crate) fn over(&self, other: &SideRow, names: usize) -> Result<SideRow, Overflow>
         requires divisor { is_zero_fraction (constant_of names (side_of other.now)) ≡ false }
         ensures ok { IfOk result (λ row. quotient_row names (side_of self.now) (side_of other.now) ≡ Ok (side_of row)) }

@@ -57,6 +57,7 @@ pub(crate) fn solution_by(state: &Elimination, names: usize) -> Result<Solution,
 }
 
 /// The entries of a row for the equations, divided by its constant.
+#[tactic(auto, using(crate::proofs::Entries::nonzero_numerator))]
 fn multipliers(row: &EquationRow, names: usize) -> Result<EquationRow, Overflow>
     requires names { names ≤ 6 }
     requires constant { is_zero_fraction (entry names (entries_of row.now)) ≡ false }
@@ -107,6 +108,7 @@ fn multiples(row: &EquationRow, own: usize, names: usize) -> NameRow
 }
 
 /// The multiple of one name in the form of another.
+#[tactic(auto, using(crate::proofs::Entries::zero_value))]
 fn multiple(row: &EquationRow, own: usize, at: usize) -> Rat
     ensures { value_of result ≡ (if at == own then zero_fraction else negative (entry at (entries_of row.now))) }
 {
