@@ -56,11 +56,9 @@ choices_next n k c d e h p q r = r ∙ ap (λ x. x / (k + 1)) whole ∙ mul-div_
 
     split : (a b m j x y : ℕ) → j ≤ m → suc j * (x + y) ≡ suc m * x → y * suc j ≡ x * (m - j)
     split a b m j x y l f =
+        let by : (j + (m - j)) * x ≡ j * x + (m - j) * x = omega arith in
         let g : m * x ≡ j * x + (m - j) * x = ap (λ i. i * x) (let s : m ≡ j + (m - j) = omega arith in s) ∙ by in
         omega (arith, f, g)
-      where
-        by : (j + (m - j)) * x ≡ j * x + (m - j) * x
-        by = omega arith
 
     whole : c * d ≡ choices n (k + 1) * (k + 1)
     whole = (λ i. p i * q i) ∙ sym (split 0 0 n k (choices n k) next h from) ∙ (let s : suc k ≡ k + 1 = omega arith in λ i. choices n (s i) * s i)
@@ -68,16 +66,14 @@ choices_next n k c d e h p q r = r ∙ ap (λ x. x / (k + 1)) whole ∙ mul-div_
 -- ---- summands
 
 monomials_comm : (m n : Monomial) → monomial_times m n ≡ monomial_times n m
-monomials_comm [] [] = refl
-monomials_comm [] (y ∷ n) = refl
-monomials_comm (x ∷ m) [] = refl
 monomials_comm (x ∷ m) (y ∷ n) = λ i. add_comm x y i ∷ monomials_comm m n i
+monomials_comm [] [] = refl
+monomials_comm _ _ = refl
 
 monomials_assoc : (l m n : Monomial) → monomial_times (monomial_times l m) n ≡ monomial_times l (monomial_times m n)
 monomials_assoc [] m n = refl
-monomials_assoc (x ∷ l) [] n = refl
-monomials_assoc (x ∷ l) (y ∷ m) [] = refl
 monomials_assoc (x ∷ l) (y ∷ m) (z ∷ n) = λ i. add_assoc x y z i ∷ monomials_assoc l m n i
+monomials_assoc _ _ _ = refl
 
 assoc : (s t u : Summand) → summand_times (summand_times s t) u ≡ summand_times s (summand_times t u)
 assoc s t u = λ i. summand (times_assoc s.coefficient t.coefficient u.coefficient i) (monomials_assoc s.monomial t.monomial u.monomial i)
@@ -89,14 +85,10 @@ exchanged : (s t u : Summand) → summand_times s (summand_times t u) ≡ summan
 exchanged s t u = sym (assoc s t u) ∙ ap (λ x. summand_times x u) (comm s t) ∙ assoc t s u
 
 pub power_exponents : (d : ℕ) (s : Summand) (n : ℕ) → HasExponents d s.monomial → HasExponents (n * d) (summand_power s n).monomial
-power_exponents d s zero h = rw (none d) one_exponents
-  where
-    none : (d : ℕ) → 0 * d ≡ 0
-    none d = omega arith
-power_exponents d s (suc n) h = rw (more n d) (exponents_times d (n * d) s.monomial (summand_power s n).monomial h (power_exponents d s n h))
-  where
-    more : (n d : ℕ) → suc n * d ≡ d + n * d
-    more n d = omega arith
+power_exponents d s zero h = let none : 0 * d ≡ 0 = omega arith in rw none one_exponents
+power_exponents d s (suc n) h =
+    let more : suc n * d ≡ d + n * d = omega arith in
+    rw more (exponents_times d (n * d) s.monomial (summand_power s n).monomial h (power_exponents d s n h))
 
 -- ---- the theorem
 

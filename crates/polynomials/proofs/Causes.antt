@@ -1,25 +1,19 @@
 -- How many terms are listed, and why none is listed any more.
-use Rattle.std.proofs.Common.{◌≡◌, ℕ, zero, suc, ◌+◌, ◌*◌, ◌^◌, ◌<◌, ◌≤◌, max, Bool, true, false, List, [], ◌∷◌, ◌++◌, length, take, ap, arith, length-append}
+use Rattle.std.proofs.Common.{◌≡◌, ℕ, zero, suc, ◌+◌, ◌*◌, ◌^◌, ◌<◌, ◌≤◌, max, List, ◌++◌, length, take, ap, arith, length-append}
 use Rattle.std.proofs.Math.Nat.{mul-le-mul_left, mul_comm, pow-le-pow_right, pow-suc, pow-zero}
-use Rattle.std.specs.Prelude.{if◌then◌else◌, IfErr, IsErr, IsErrAnd, Result, Ok, Err}
-use Rattle.calc_terms.specs.{Fractions.{is_zero_fraction}, Rat.{value_of}}
-use Rattle.polynomials.specs.{declared.term.Term.{Term}, declared.unfit.Unfit.{Unfit}, declared.unfit.Unfit.TheVariants.{Terms, Coefficient}, Rows.{AreBelow}, Unfits.{IsCaused, OfCoefficient}}
+use Rattle.std.specs.Prelude.{IfErr, IsErr, IsErrAnd, Result}
+use Rattle.polynomials.specs.{declared.term.Term.{Term}, declared.unfit.Unfit.{Unfit}, Rows.{AreBelow}, Unfits.{IsCaused, OfCoefficient}}
 use Rattle.polynomials.proofs.{MergeLoops.{IsMerged}, Merges.{pushed}, Products.{IsPowerTo, IsProductTo}}
 
 pub caused_more : {P Q : Type 0} (u : Unfit) → (P → Q) → IsCaused P u → IsCaused Q u
-caused_more Terms f h = f h
-caused_more (Coefficient o) f h = h
+caused_more u f h = grind arith
 
 -- an error that a `?` hands on
 pub passed_on : {A E : Type 0} (r : Result A E) (e : E) (P : E → Type 0) → IsErr r → IsErrAnd r (λ x. x ≡ e) → P e → IfErr r P
 passed_on r e P h a p = grind arith
 
 pub pushed_length : (xs : List Term) (t : Term) → length (pushed xs t) ≤ length xs + 1
-pushed_length xs t = by (is_zero_fraction (value_of t.coefficient))
-  where
-    by : (z : Bool) → length (if z then xs else xs ++ t ∷ []) ≤ length xs + 1
-    by true = omega arith
-    by false = omega (arith, length-append xs (t ∷ []))
+pushed_length xs t = grind (arith, length-append {A = Term})
 
 -- ---- what loops keep
 
@@ -61,6 +55,4 @@ power_bound (suc b) l i n h k =
 
 -- what holds anyway holds where a coefficient does not fit
 pub like_anyway : {A : Type 0} (p : Type 0) (r : Result A Unfit) → p → IfErr r (OfCoefficient p)
-like_anyway p (Ok a) h = tt
-like_anyway p (Err Terms) h = tt
-like_anyway p (Err (Coefficient o)) h = h
+like_anyway p r h = grind arith

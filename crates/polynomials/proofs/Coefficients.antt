@@ -2,7 +2,7 @@
 use Rattle.std.proofs.Common.{◌≡◌, ℕ, zero, suc, ◌/◌, ◌%◌, ◌^◌, ◌<◌, Bool, true, false, [], ◌∷◌, refl, sym, ap, ◌∙◌, arith}
 use Rattle.std.specs.Prelude.{if◌then◌else◌}
 use Rattle.calc_terms.specs.{FractionLaws.{times_comm, zero_plus, zero_times, one_times}, Fractions.{Fraction, plus, times, zero_fraction, one_fraction}}
-use Rattle.polynomials.specs.{Packed.{unpacked}, Polynomials.{Monomial, Polynomial, AreSame, coefficient_at, is_same_monomial, worth}}
+use Rattle.polynomials.specs.{Packed.{monomial_of, unpacked}, Polynomials.{Monomial, Polynomial, AreSame, coefficient_at, is_same_monomial, worth}}
 use Rattle.polynomials.proofs.Exponents.{tail_below}
 
 -- 1 for one monomial, and 0 for the others
@@ -24,16 +24,14 @@ coefficient_worth m (s ∷ v) = by (is_same_monomial s.monomial m) (coefficient_
 pub same_coefficient : (v w : Polynomial) (m : Monomial) → AreSame v w → coefficient_at m v ≡ coefficient_at m w
 same_coefficient v w m h = coefficient_worth m v ∙ h.at (only m) ∙ sym (coefficient_worth m w)
 
-head_same : (x y : ℕ) (m n : Monomial) → x ∷ m ≡ y ∷ n → x ≡ y
-head_same x y m n e = cc
-
-tail_same : (x y : ℕ) (m n : Monomial) → x ∷ m ≡ y ∷ n → m ≡ n
-tail_same x y m n e = cc
-
 pub one_unpacked : (n k l : ℕ) → k < 256 ^ n → l < 256 ^ n → unpacked n k ≡ unpacked n l → k ≡ l
 one_unpacked zero k l h j e = omega arith
 one_unpacked (suc n) k l h j e =
-    let low : k % 256 ≡ l % 256 = head_same (k % 256) (l % 256) (unpacked n (k / 256)) (unpacked n (l / 256)) e in
-    let high : k / 256 ≡ l / 256 =
-    one_unpacked n (k / 256) (l / 256) (tail_below k n h) (tail_below l n j) (tail_same (k % 256) (l % 256) (unpacked n (k / 256)) (unpacked n (l / 256)) e) in
+    let low : k % 256 ≡ l % 256 = cc in
+    let behind : unpacked n (k / 256) ≡ unpacked n (l / 256) = cc in
+    let high : k / 256 ≡ l / 256 = one_unpacked n (k / 256) (l / 256) (tail_below k n h) (tail_below l n j) behind in
     omega arith
+
+pub one_packed : (k l : ℕ) → k < 2 ^ 64 → l < 2 ^ 64 → monomial_of k ≡ monomial_of l → k ≡ l
+unfolding monomial_of
+one_packed = one_unpacked 8

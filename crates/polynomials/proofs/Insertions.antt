@@ -41,22 +41,9 @@ has_more k [] ys s h = inr h
 has_more k (x ∷ xs) ys s (inl e) = inl e
 has_more k (x ∷ xs) ys s (inr h) = inr (has_more k xs ys s h)
 
--- ---- behind all
-
-module _ (xs zs : List Term) (t : Term) (e : zs ≡ pushed xs t) where
-  pub push_terms : IsNormal xs → AreBelow t.monomial xs → AreTermsOf (summand_of t ∷ polynomial_of xs) zs
-  push_terms h b =
-      subst (λ (ys : List Term). AreTermsOf (summand_of t ∷ polynomial_of xs) ys) (append-nil zs)
-      (subst (λ (ys : List Term). AreTermsOf (summand_of t ∷ polynomial_of ys) (zs ++ [])) (append-nil xs) (put_terms xs [] zs t e (subst IsNormal (sym (append-nil xs)) h) b tt))
-
-  pub push_exponents : (d : ℕ) → HaveExponents d (summand_of t ∷ polynomial_of xs) → HaveExponents d (polynomial_of zs)
-  push_exponents d h =
-      subst (λ (ys : List Term). HaveExponents d (polynomial_of ys)) (append-nil zs)
-      (put_exponents xs [] zs t e d (subst (λ (ys : List Term). HaveExponents d (summand_of t ∷ polynomial_of ys)) (sym (append-nil xs)) h))
-
-  pub push_others : (k : ℕ) → HasMonomial k zs → (t.monomial ≡ k) ⊎ HasMonomial k xs
-  push_others k h =
-      elim (has_pushed k xs [] t (subst (HasMonomial k) (e ∙ sym (append-nil (pushed xs t))) h)) [ inl q ↦ inl q | inr g ↦ inr (subst (HasMonomial k) (append-nil xs) g) ]
+-- behind all
+pub appended : (xs zs : List Term) (n : ℕ) (t : Term) → n ≡ length xs → zs ≡ pushed xs t → zs ≡ inserted xs n t
+appended xs zs n t l e = e ∙ sym (append-nil (pushed xs t)) ∙ sym (inserted_as xs [] n t l) ∙ ap (λ (ys : List Term). inserted ys n t) (append-nil xs)
 
 -- ---- a monomial that does not stand there
 

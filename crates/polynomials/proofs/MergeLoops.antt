@@ -1,8 +1,9 @@
 -- Two lists of terms on the way to one.
-use Rattle.std.proofs.{Common.{◌≡◌, ℕ, zero, suc, ◌+◌, ◌<◌, ◌≤◌, List, [], ◌∷◌, ◌++◌, length, get_or, take, refl, sym, ap, ◌∙◌, subst, arith, append_assoc, append-nil}, lemmas.List.{take_more}}
+use Rattle.std.proofs.Common.{◌≡◌, ℕ, zero, suc, ◌+◌, ◌<◌, ◌≤◌, List, [], ◌∷◌, ◌++◌, length, get_or, take, refl, sym, ap, ◌∙◌, subst, arith, append_assoc, append-nil}
+use Rattle.std.proofs.lemmas.List.{map-append, take_more}
 use Rattle.polynomials.specs.{declared.term.Term.{Term}, Polynomials.{Polynomial, Summand, AreSame, HasExponents, HaveExponents, row, summand_times}, Rows.{AreBelow}}
 use Rattle.polynomials.specs.Terms.{AreTermsOf, IsNormal, polynomial_of, summand_of}
-use Rattle.polynomials.proofs.{Merges.{polynomial_append, terms_same}, Normal.{rises}, Worth.{same_cons, same_is, same_trans, same_turned}}
+use Rattle.polynomials.proofs.{Merges.{terms_same}, Normal.{rises}, Worth.{same_cons, same_is, same_trans, same_turned}}
 
 -- the sum and the products with the first j terms are merged: the list is done, and below the products to come
 pub record IsMerged (sum terms : List Term) (f : Term) (j : ℕ) (list rest : List Term) : Type 0 where
@@ -20,17 +21,13 @@ merged_none sum terms f h = record {
 pub take_one_more : (xs : List Term) (j : ℕ) (x : Term) → j < length xs → x ≡ get_or xs j x → take (j + 1) xs ≡ take j xs ++ x ∷ []
 take_one_more xs j x h e = take_more xs j x h ∙ (λ i. take j xs ++ sym e i ∷ [])
 
-row_append : (s : Summand) (v w : Polynomial) → row s (v ++ w) ≡ row s v ++ row s w
-row_append s [] w = refl
-row_append s (t ∷ v) w = ap (λ (x : Polynomial). summand_times s t ∷ x) (row_append s v w)
-
 -- the row of one term more
 row_more : (f : Term) (terms : List Term) (j : ℕ) (t p : Term) → j < length terms → t ≡ get_or terms j t → summand_of p ≡ summand_times (summand_of f) (summand_of t)
     → row (summand_of f) (polynomial_of (take (j + 1) terms)) ≡ row (summand_of f) (polynomial_of (take j terms)) ++ summand_of p ∷ []
 row_more f terms j t p h e q =
     ap (λ (l : List Term). row (summand_of f) (polynomial_of l)) (take_one_more terms j t h e)
-    ∙ ap (row (summand_of f)) (polynomial_append (take j terms) (t ∷ []))
-    ∙ row_append (summand_of f) (polynomial_of (take j terms)) (summand_of t ∷ [])
+    ∙ ap (row (summand_of f)) (map-append summand_of (take j terms) (t ∷ []))
+    ∙ map-append (summand_times (summand_of f)) (polynomial_of (take j terms)) (summand_of t ∷ [])
     ∙ (λ i. row (summand_of f) (polynomial_of (take j terms)) ++ sym q i ∷ [])
 
 pub have_at : (d : ℕ) (ts : List Term) (j : ℕ) (t : Term) → j < length ts → t ≡ get_or ts j t → HaveExponents d (polynomial_of ts) → HasExponents d (summand_of t).monomial

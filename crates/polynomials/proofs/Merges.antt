@@ -1,5 +1,5 @@
 -- A term put between a list and the terms behind it.
-use Rattle.std.proofs.Common.{◌≡◌, ℕ, ◌<◌, Bool, true, false, List, [], ◌∷◌, ◌++◌, refl, sym, ap, arith, append_assoc}
+use Rattle.std.proofs.{lemmas.List.{map-append}, Common.{◌≡◌, ℕ, ◌<◌, Bool, true, false, List, [], ◌∷◌, ◌++◌, refl, sym, arith, append_assoc}}
 use Rattle.std.specs.Prelude.{if◌then◌else◌}
 use Rattle.calc_terms.proofs.FractionFacts.{zero_is}
 use Rattle.calc_terms.specs.{Fractions.{plus, is_zero_fraction}, Rat.{value_of}}
@@ -7,13 +7,9 @@ use Rattle.polynomials.specs.{declared.term.Term.{Term}, Polynomials.{Polynomial
 use Rattle.polynomials.specs.Terms.{AreTermsOf, IsBelowAll, IsNormal, polynomial_of, summand_of}
 use Rattle.polynomials.proofs.{Normal.{below_less, below_push, normal_end, normal_insert, normal_remove}, Worth.{same_cons, same_is, same_joined, same_moved, same_sym, same_trans, same_without}}
 
-pub polynomial_append : (xs ys : List Term) → polynomial_of (xs ++ ys) ≡ polynomial_of xs ++ polynomial_of ys
-polynomial_append [] ys = refl
-polynomial_append (x ∷ xs) ys = ap (λ (v : Polynomial). summand_of x ∷ v) (polynomial_append xs ys)
-
 pub same_put : (xs ys : List Term) (t : Term) → AreSame (polynomial_of (xs ++ t ∷ ys)) (summand_of t ∷ polynomial_of (xs ++ ys))
-same_put xs ys t = same_trans (same_is (polynomial_append xs (t ∷ ys))) (same_trans (same_moved (polynomial_of xs) (summand_of t) (polynomial_of ys))
-    (same_cons (summand_of t) (same_is (sym (polynomial_append xs ys)))))
+same_put xs ys t = same_trans (same_is (map-append summand_of xs (t ∷ ys))) (same_trans (same_moved (polynomial_of xs) (summand_of t) (polynomial_of ys))
+    (same_cons (summand_of t) (same_is (sym (map-append summand_of xs ys)))))
 
 exponents_put : (d : ℕ) (xs ys : List Term) (t : Term) → HaveExponents d (summand_of t ∷ polynomial_of (xs ++ ys)) → HaveExponents d (polynomial_of (xs ++ t ∷ ys))
 exponents_put d [] ys t h = h
@@ -61,11 +57,7 @@ pub terms_same : {v w : Polynomial} (ts : List Term) → AreSame v w → AreTerm
 terms_same ts e h = record { normal = h.normal; same = same_trans h.same e }
 
 pub below_pushed : (k : ℕ) (xs : List Term) (t : Term) → AreBelow t.monomial xs → t.monomial < k → AreBelow k (pushed xs t)
-below_pushed k xs t b h = by (is_zero_fraction (value_of t.coefficient))
-  where
-    by : (z : Bool) → AreBelow k (if z then xs else xs ++ t ∷ [])
-    by true = below_less t.monomial k xs (omega arith) b
-    by false = below_push k xs t (below_less t.monomial k xs (omega arith) b) h
+below_pushed k xs t b h = grind (arith, below_less, below_push)
 
 -- what a term becomes that is put before others which are behind it
 module _ (xs ys zs : List Term) (t : Term) (e : zs ≡ pushed xs t) where

@@ -43,10 +43,9 @@ listed_exponents d k n s list t p l e h =
 
 -- k factors of n are not more
 pub factors_within : (d k n : ℕ) → k ≤ n → n * d < 256 → (n - k) * d + k * d < 256
-factors_within d k n h l = omega (arith, l, ap (λ x. x * d) (let e : n ≡ (n - k) + k = omega arith in e), by)
-  where
-    by : ((n - k) + k) * d ≡ (n - k) * d + k * d
-    by = omega arith
+factors_within d k n h l =
+    let by : ((n - k) + k) * d ≡ (n - k) * d + k * d = omega arith in
+    omega (arith, l, ap (λ x. x * d) (let e : n ≡ (n - k) + k = omega arith in e), by)
 
 -- ---- powers of two terms
 
@@ -76,15 +75,11 @@ count_fits n k c d h e l =
 
 pub mixed_exponents : (d n k c : ℕ) (s t : Summand) → k ≤ n → HasExponents d s.monomial → HasExponents d t.monomial → HasExponents (n * d) (mixed s t c (n - k) k).monomial
 mixed_exponents d n k c s t l h g =
+    let by : ((n - k) + k) * d ≡ (n - k) * d + k * d = omega arith in
+    let whole : 0 + ((n - k) * d + k * d) ≡ n * d = omega (arith, by, ap (λ x. x * d) (let e : n ≡ (n - k) + k = omega arith in e)) in
     subst (λ e. HasExponents e (mixed s t c (n - k) k).monomial) whole
     (exponents_times 0 ((n - k) * d + k * d) one_monomial (summand_times (summand_power s (n - k)) (summand_power t k)).monomial one_exponents
     (exponents_times ((n - k) * d) (k * d) (summand_power s (n - k)).monomial (summand_power t k).monomial (power_exponents d s (n - k) h) (power_exponents d t k g)))
-  where
-    by : ((n - k) + k) * d ≡ (n - k) * d + k * d
-    by = omega arith
-
-    whole : 0 + ((n - k) * d + k * d) ≡ n * d
-    whole = omega (arith, by, ap (λ x. x * d) (let e : n ≡ (n - k) + k = omega arith in e))
 
 pub mixed_terms : (first second y : Term) (n k : ℕ) (list next : List Term) → summand_of y ≡ mixed (summand_of first) (summand_of second) (choices n k) (n - k) k
     → AreTermsOf (mixed_to (summand_of first) (summand_of second) n k) list → AreTermsOf (summand_of y ∷ polynomial_of list) next → AreTermsOf (mixed_to (summand_of first) (summand_of second) n (k + 1)) next

@@ -1,9 +1,10 @@
 -- Products of lists of terms, row by row, and powers, factor by factor.
+use Rattle.std.proofs.lemmas.List.{map-append}
 use Rattle.std.proofs.{Common.{◌≡◌, ℕ, suc, ◌+◌, ◌*◌, ◌<◌, List, [], ◌∷◌, ◌++◌, length, get_or, take, refl, sym, ap, ◌∙◌, subst, arith, append-nil, pos, ◌≤◌}, Math.Nat.{mul-le-mul_right}}
 use Rattle.calc_terms.specs.{Rat.{ratio_of, value_of}, Ratio.{whole}, declared.rat.Rat.{Rat}}
 use Rattle.polynomials.specs.{declared.term.Term.{Term}, Polynomials.{Polynomial, Summand, HasExponents, HaveExponents, one_monomial, product, raised, row, summand}}
 use Rattle.polynomials.specs.Terms.{AreTermsOf, polynomial_of, summand_of}
-use Rattle.polynomials.proofs.{Exponents.{have_row, one_exponents}, MergeLoops.{have_at, take_one_more}, Merges.{polynomial_append, terms_same}, Scaled.{one_terms}, Worth.{product_append}}
+use Rattle.polynomials.proofs.{Exponents.{have_row, one_exponents}, MergeLoops.{have_at, take_one_more}, Merges.{terms_same}, Scaled.{one_terms}, Worth.{product_append}}
 use Rattle.polynomials.proofs.Worth.{product_right, same_append, same_is, same_trans}
 
 -- ---- products
@@ -25,7 +26,7 @@ product_more a b i list next t h e so terms have =
     let v : Polynomial = polynomial_of (take i a) in
     let rows : product (polynomial_of (take (i + 1) a)) w ≡ product v w ++ row (summand_of t) w =
     ap (λ (l : List Term). product (polynomial_of l) w) (take_one_more a i t h e)
-    ∙ ap (λ (x : Polynomial). product x w) (polynomial_append (take i a) (t ∷ []))
+    ∙ ap (λ (x : Polynomial). product x w) (map-append summand_of (take i a) (t ∷ []))
     ∙ product_append v (summand_of t ∷ []) w
     ∙ ap (λ (x : Polynomial). product v w ++ x) (append-nil (row (summand_of t) w)) in
     record {
@@ -58,11 +59,10 @@ power_more base i list next so terms have =
 pub power_none : (base list : List Term) (t : Term) (r : Rat) → list ≡ t ∷ [] → ratio_of r ≡ whole (pos 1) → summand_of t ≡ summand (value_of r) one_monomial → IsPowerTo base 0 list
 power_none base list t r e f g = rw e (record {
   terms-are = one_terms r t f g;
-  exponents = λ d h. (subst (λ (n : ℕ). HasExponents n (summand_of t).monomial) (no_factors d) (subst (λ (s : Summand). HasExponents 0 s.monomial) (sym g) one_exponents), tt);
+  exponents = λ d h.
+      let no_factors : 0 ≡ 0 * d = omega arith in
+      (subst (λ (n : ℕ). HasExponents n (summand_of t).monomial) no_factors (subst (λ (s : Summand). HasExponents 0 s.monomial) (sym g) one_exponents), tt);
 })
-  where
-    no_factors : (d : ℕ) → 0 ≡ 0 * d
-    no_factors d = omega arith
 
 -- one factor more than i of n keeps within bounds
 pub within : (d i n : ℕ) → i < n → n * d < 256 → d + i * d < 256

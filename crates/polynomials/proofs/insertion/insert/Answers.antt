@@ -1,7 +1,7 @@
-use Rattle.std.proofs.{Common.{◌≡◌, ◌<◌, ◌≤◌, ℕ, List, length, take, drop, get_or, sym, ap, ◌∙◌, subst, arith, take-append-drop}, lemmas.List.{take_all}, lemmas.Result.{on_ok_weaker}}
+use Rattle.std.proofs.{Common.{◌≡◌, ◌<◌, ◌≤◌, ℕ, List, length, take, drop, get_or, sym, ap, ◌∙◌, subst, arith, take-append-drop}, lemmas.List.{length-drop}, lemmas.Result.{on_ok_weaker}}
 use Rattle.polynomials.specs.{declared.term.Term.{Term}, Rows.{AreBelow, StartsFrom}, Terms.{IsBelowAll, IsNormal}}
 use Rattle.polynomials.proofs.{Causes.{like_anyway, pushed_length}, Insertions.{exchange_exponents, exchange_others, exchange_terms, first_dropped, insert_exponents, insert_others, insert_terms}}
-use Rattle.polynomials.proofs.{Insertions.{inserted, push_exponents, push_others, push_terms}, Normal.{behind_other, normal_end, stands_at}}
+use Rattle.polynomials.proofs.{Insertions.{appended, inserted}, Normal.{behind_none, behind_other, normal_end, stands_at}}
 use Rattle.polynomials.proofs.insertion.insert.Goals as goal
 use Rattle.polynomials.proofs.insertion.insert.Goals.{After-len}
 
@@ -25,8 +25,8 @@ module _ (c : After-len) where
   from : StartsFrom c.args.term.monomial (drop at xs)
   from = subst (λ (ys : List Term). StartsFrom c.args.term.monomial (drop at ys)) c.deref.ensures.value c.place_of-at.ensures.from
 
-  below_all : at ≡ c.len.result → AreBelow c.args.term.monomial xs
-  below_all e = subst (AreBelow c.args.term.monomial) (take_all at xs (omega (arith, e, many))) below
+  none_behind : at ≡ c.len.result → IsBelowAll c.args.term.monomial (drop at xs)
+  none_behind e = behind_none c.args.term.monomial (drop at xs) (omega (arith, length-drop at xs, e, many))
 
   not_last : (at ≡ c.len.result → ⊥) → at < length xs
   not_last n = omega (arith, within, many)
@@ -39,12 +39,14 @@ module _ (c : After-len) where
 pub returns-then-at-len-clause-terms : goal.returns-then-at-len-clause-terms
 returns-then-at-len-clause-terms c =
     let k = (goal.at.returns-then-at-len-clause-terms c).After-len in
-    on_ok_weaker c.push_nonzero.result (λ e. push_terms (xs k) c.push_nonzero.new.list.items c.args.term e c.requires.normal (below_all k c.if-at-len.true)) c.push_nonzero.ensures.ok
+    on_ok_weaker c.push_nonzero.result (λ e. insert_terms (xs k) (at k) c.args.term c.push_nonzero.new.list.items (within k)
+    (appended (xs k) c.push_nonzero.new.list.items (at k) c.args.term (c.if-at-len.true ∙ sym (many k)) e) c.requires.normal (below k) (none_behind k c.if-at-len.true)) c.push_nonzero.ensures.ok
 
 pub returns-then-at-len-clause-exponents : goal.returns-then-at-len-clause-exponents
 returns-then-at-len-clause-exponents c = λ d h.
     let k = (goal.at.returns-then-at-len-clause-exponents c).After-len in
-    on_ok_weaker c.push_nonzero.result (λ e. push_exponents (xs k) c.push_nonzero.new.list.items c.args.term e d h) c.push_nonzero.ensures.ok
+    on_ok_weaker c.push_nonzero.result (λ e. insert_exponents (xs k) (at k) c.args.term c.push_nonzero.new.list.items (within k)
+    (appended (xs k) c.push_nonzero.new.list.items (at k) c.args.term (c.if-at-len.true ∙ sym (many k)) e) d h) c.push_nonzero.ensures.ok
 
 pub returns-then-at-len-clause-few : goal.returns-then-at-len-clause-few
 returns-then-at-len-clause-few c =
@@ -84,7 +86,8 @@ returns-in_err-total-clause-like c =
 pub returns-then-at-len-clause-others : goal.returns-then-at-len-clause-others
 returns-then-at-len-clause-others c = λ m.
     let k = (goal.at.returns-then-at-len-clause-others c).After-len in
-    on_ok_weaker c.push_nonzero.result (λ e. push_others (xs k) c.push_nonzero.new.list.items c.args.term e m) c.push_nonzero.ensures.ok
+    on_ok_weaker c.push_nonzero.result (λ e. insert_others (xs k) (at k) c.args.term c.push_nonzero.new.list.items (within k)
+    (appended (xs k) c.push_nonzero.new.list.items (at k) c.args.term (c.if-at-len.true ∙ sym (many k)) e) m) c.push_nonzero.ensures.ok
 
 pub returns-then-other-term-clause-others : goal.returns-then-other-term-clause-others
 returns-then-other-term-clause-others c = λ m.

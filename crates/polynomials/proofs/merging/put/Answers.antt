@@ -1,6 +1,6 @@
 use Rattle.std.proofs.{Common.{◌≡◌, ◌-◌, ◌<◌, List, ◌∷◌, ◌++◌, sym, subst, length, take, drop, rules, arith, take_all}, lemmas.List.{length-drop}}
 use Rattle.polynomials.specs.{declared.term.Term.{Term}, Polynomials.{HaveExponents}, Terms.{AreTermsOf, IsNormal, polynomial_of, summand_of}}
-use Rattle.polynomials.proofs.{Merges.{exchanged_below, exchanged_exponents, exchanged_terms, put_below, put_exponents, put_terms}, Normal.{behind_none, behind_other, first_and_rest, normal_end}}
+use Rattle.polynomials.proofs.{Merges.{exchanged_below, exchanged_exponents, exchanged_terms, put_exponents, put_terms}, Normal.{behind_none, behind_other, first_and_rest, normal_end}}
 use Rattle.polynomials.proofs.merging.put.Goals as goal
 
 pub returns-then-is_empty-clause-terms : goal.returns-then-is_empty-clause-terms
@@ -8,12 +8,6 @@ returns-then-is_empty-clause-terms c =
     let none : length c.args.rest.now ≡ 0 = search rules in
     put_terms c.args.list.now.items c.args.rest.now c.push_nonzero.new.list.items c.args.term c.in_ok-push_nonzero.ensures.ok c.requires.normal c.requires.below
     (behind_none c.args.term.monomial c.args.rest.now none)
-
-pub returns-then-is_empty-clause-exponents : goal.returns-then-is_empty-clause-exponents
-returns-then-is_empty-clause-exponents c = put_exponents c.args.list.now.items c.args.rest.now c.push_nonzero.new.list.items c.args.term c.in_ok-push_nonzero.ensures.ok
-
-pub returns-then-is_empty-clause-below : goal.returns-then-is_empty-clause-below
-returns-then-is_empty-clause-below c = λ k h. put_below c.args.list.now.items c.args.rest.now c.push_nonzero.new.list.items c.args.term c.in_ok-push_nonzero.ensures.ok k c.requires.below h
 
 -- what is left behind the first term
 behind : (xs : List Term) → take (length xs - 1) (drop 1 xs) ≡ drop 1 xs
@@ -48,8 +42,8 @@ returns-clause-terms c =
     put_terms c.args.list.now.items c.args.rest.now c.push_nonzero-2.new.list.items c.args.term c.in_ok-push_nonzero-3.ensures.ok c.requires.normal c.requires.below
     (behind_other c.args.term.monomial c.args.rest.now c.index-rest-0.result c.index-rest-0.is (normal_end c.args.list.now.items c.args.rest.now c.requires.normal) c.requires.from c.if-next-term.false)
 
+pub returns-then-is_empty-clause-exponents : goal.returns-then-is_empty-clause-exponents
+returns-then-is_empty-clause-exponents c = put_exponents c.args.list.now.items c.args.rest.now c.push_nonzero.new.list.items c.args.term c.in_ok-push_nonzero.ensures.ok
+
 pub returns-clause-exponents : goal.returns-clause-exponents
 returns-clause-exponents c = put_exponents c.args.list.now.items c.args.rest.now c.push_nonzero-2.new.list.items c.args.term c.in_ok-push_nonzero-3.ensures.ok
-
-pub returns-clause-below : goal.returns-clause-below
-returns-clause-below c = λ k h. put_below c.args.list.now.items c.args.rest.now c.push_nonzero-2.new.list.items c.args.term c.in_ok-push_nonzero-3.ensures.ok k c.requires.below h
