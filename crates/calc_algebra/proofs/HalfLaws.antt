@@ -6,9 +6,6 @@ gcd_two : (a r : ℕ) → a % 2 ≡ r → gcd a 2 ≡ gcd_in 1 2 r
 unfolding gcd
 gcd_two a r e = ap (gcd_in 1 2) e
 
-odd_abs : (z : ℤ) → int_is_even z ≡ false → nat_abs z % 2 ≡ 1
-odd_abs z h = grind arith
-
 pub one_is_not_two : (a b : ℕ) → a ≡ 1 → b ≡ 2 → a ≡ b → ⊥
 one_is_not_two a b h k e = absurd (omega arith)
 
@@ -17,7 +14,9 @@ pub half_is_odd : (h : Fraction) → h.den ≡ 2 → int_is_even h.num ≡ false
 half_is_odd h d = grind (arith, one_is_not_two, gcd_two)
 
 pub odd_holds : (n : ℤ) → int_is_even n ≡ false → Holds (is_lowest n 2)
-odd_holds n o = held (nat_lt 0 2) (gcd (nat_abs n) 2 == 1) refl (eq-eqb (gcd (nat_abs n) 2) 1 (gcd_two (nat_abs n) 1 (odd_abs n o)))
+odd_holds n o =
+    let one : nat_abs n % 2 ≡ 1 = grind arith in
+    held (nat_lt 0 2) (gcd (nat_abs n) 2 == 1) refl (eq-eqb (gcd (nat_abs n) 2) 1 (gcd_two (nat_abs n) 1 one))
 
 -- half of an odd number
 abbrev pub half_of : (n : ℤ) → int_is_even n ≡ false → Fraction

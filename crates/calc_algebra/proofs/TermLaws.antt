@@ -46,20 +46,17 @@ share_alike q r s t a = rw (alike_true r s t a, ← a.square, square_root-square
 pub share_apart : (q : Fraction) (r s : ℕ) → are_alike r s ≡ false → term_share (term q r) s ≡ zero_fraction
 share_apart q r s h = rw h refl
 
--- a term with coefficient 0 gives nothing
-pub share_of_zero : (r s : ℕ) → term_share (term zero_fraction r) s ≡ zero_fraction
-share_of_zero r s = grind (arith, zero_times)
-
 share_sum : (b : Bool) (p q x : Fraction) → plus (if b then times p x else zero_fraction) (if b then times q x else zero_fraction) ≡ (if b then times (plus p q) x else zero_fraction)
 share_sum b p q x = grind (arith, times_comm, times_plus, zero_plus)
-
-pub Agree-term : (t u : Term) → ((s : ℕ) → term_share t s ≡ term_share u s) → Agree (t ∷ []) (u ∷ [])
-Agree-term t u h = record { at = λ s. ap (λ x. plus x zero_fraction) (h s) }
 
 -- ---- terms that go
 
 pub Agree-zero_term : (r : ℕ) → Agree (term zero_fraction r ∷ []) []
-Agree-zero_term r = record { at = λ s. ap (λ x. plus x zero_fraction) (share_of_zero r s) ∙ zero_plus zero_fraction }
+Agree-zero_term r = record {
+  at = λ s.
+      let nothing : term_share (term zero_fraction r) s ≡ zero_fraction = grind (arith, zero_times) in
+      ap (λ x. plus x zero_fraction) nothing ∙ zero_plus zero_fraction;
+}
 
 -- a term with coefficient 0 is nothing
 pub zero_term : (r : ℕ) → Same (term zero_fraction r ∷ []) []
@@ -110,7 +107,7 @@ Agree-extracted q zero t =
     Agree-trans (Agree-eq (ap (λ r. term q r ∷ []) (omega arith)))
     (Agree-trans (Same-Agree (zero_radicand q))
     (Agree-trans (Agree-sym (Agree-zero_term t)) (Agree-eq (ap (λ c. term c t ∷ []) (sym (times_zero q))))))
-Agree-extracted q (suc s) t = Agree-term _ _ (λ x. share_extracted q (suc s) t x (omega arith))
+Agree-extracted q (suc s) t = record { at = λ x. ap (λ y. plus y zero_fraction) (share_extracted q (suc s) t x (omega arith)) }
 
 -- the root of s * s * t is s times that of t
 pub extracted : (q : Fraction) (r s t : ℕ) → r ≡ s * s * t → Same (term q r ∷ []) (term (times q (whole_fraction (pos s))) t ∷ [])
