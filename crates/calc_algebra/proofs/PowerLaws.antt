@@ -266,9 +266,10 @@ root_of_squared (pos (suc p)) d v h k =
   where
     value : times (times (lowest (pos 1) d) (lowest (pos 1) d)) (whole_fraction (pos (suc p * d))) ≡ lowest (pos (suc p)) d
     value =
+        let cross : 1 * 1 * (suc p * d) * d ≡ suc p * (d * d * 1) = omega arith in
         ap (λ x. times x (whole_fraction (pos (suc p * d)))) (times_lowest (pos 1) (pos 1) d d h h)
         ∙ times_lowest (pos (1 * 1)) (pos (suc p * d)) (d * d) 1 (mul_pos d d h h) (omega arith)
-        ∙ same_lowest (pos (1 * 1 * (suc p * d))) (pos (suc p)) (d * d * 1) d (mul_pos (d * d) 1 (mul_pos d d h h) (omega arith)) h (ap pos (let cross : 1 * 1 * (suc p * d) * d ≡ suc p * (d * d * 1) = omega arith in cross))
+        ∙ same_lowest (pos (1 * 1 * (suc p * d))) (pos (suc p)) (d * d * 1) d (mul_pos (d * d) 1 (mul_pos d d h h) (omega arith)) h (ap pos cross)
 root_of_squared (negsuc p) d v h k = absurd k
 
 -- the square of a root is its argument
