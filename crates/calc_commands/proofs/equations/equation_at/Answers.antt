@@ -1,3 +1,4 @@
+use Rattle.std.proofs.Common.{rules}
 use Rattle.std.proofs.{Common.{◌≡◌, ◌∙◌, ◌+◌, ◌≤◌, ◌∷◌, length, take, drop, sym, ap, subst, arith}, lemmas.List.{take_rest}, Math.Dec.{eqb}}
 use Rattle.std.specs.List.{position_or_len}
 use Rattle.calc_commands.proofs.{Splitting.{first_piece, lacking, lacks_before, sides_are, within_is, written_is}, equations.equation_at.Goals.{After-len_before-end}}
@@ -22,26 +23,20 @@ returns-in_err-sign-clause-none c = λ none e others h k.
     let piece : take end (drop c.args.begin c.args.text.now) ≡ written e = cc in
     c.in_err-sign.ensures e h (ap (take end) (take_rest c.args.text.now c.args.begin) ∙ piece)
 
-pub returns-clause-within : goal.returns-clause-within
-returns-clause-within c =
+pub returns : goal.returns
+returns c =
     let sign = c.in_ok-sign.sign in
     let end = c.len_before-end.result in
     let there = subst (λ t. drop sign (take end t) ≡ 61 ∷ drop (sign + 1) (take end t)) (take_rest c.args.text.now c.args.begin) c.in_ok-sign.ensures.1 in
-    within_is c.args.begin c.args.text.now c.requires end sign (within (goal.at.returns-clause-within c).After-len_before-end) there
-
-pub returns-clause-sides : goal.returns-clause-sides
-returns-clause-sides c =
-    let sign = c.in_ok-sign.sign in
-    let end = c.len_before-end.result in
-    let there = subst (λ t. drop sign (take end t) ≡ 61 ∷ drop (sign + 1) (take end t)) (take_rest c.args.text.now c.args.begin) c.in_ok-sign.ensures.1 in
-    sides_are c.args.begin c.args.text.now c.requires end sign (within (goal.at.returns-clause-sides c).After-len_before-end) there
-    (subst (λ t. AreSides (cut_at sign (take end t))) (take_rest c.args.text.now c.args.begin) c.in_ok-sign.ensures.0)
-
-pub returns-clause-piece : goal.returns-clause-piece
-returns-clause-piece c =
-    let here = (goal.at.returns-clause-piece c).After-len_before-end in
-    let sign = c.in_ok-sign.sign in
-    let end = c.len_before-end.result in
-    let there = subst (λ t. drop sign (take end t) ≡ 61 ∷ drop (sign + 1) (take end t)) (take_rest c.args.text.now c.args.begin) c.in_ok-sign.ensures.1 in
-    first_piece c.args.begin c.args.text.now c.requires end (end_is here) (within here)
-    ∙ ap (λ t. t ∷ pieces_from (c.args.begin + end + 1) c.args.text.now) (sym (written_is c.args.begin c.args.text.now c.requires end sign (within here) there))
+    let here = (goal.at.returns c).After-len_before-end in
+    record {
+      none = search rules;
+      begin = search rules;
+      within = within_is c.args.begin c.args.text.now c.requires end sign (within (goal.at.returns c).After-len_before-end) there;
+      sides =
+          sides_are c.args.begin c.args.text.now c.requires end sign (within (goal.at.returns c).After-len_before-end) there
+          (subst (λ t. AreSides (cut_at sign (take end t))) (take_rest c.args.text.now c.args.begin) c.in_ok-sign.ensures.0);
+      piece =
+          first_piece c.args.begin c.args.text.now c.requires end (end_is here) (within here)
+          ∙ ap (λ t. t ∷ pieces_from (c.args.begin + end + 1) c.args.text.now) (sym (written_is c.args.begin c.args.text.now c.requires end sign (within here) there));
+    }
