@@ -247,11 +247,8 @@ pub unfilled_count : (s t : State) (f : FillFault) (r : Refusal) → r ≡ refus
 unfilled_count s t f r h k = grind arith
 
 -- a refusal before the first check
-calm_at : (r : Refusal) (bs : List Breaker) (place : ℕ) → (r ≡ refusal.Interrupted place → ⊥) → ((Refused r ≡ Refused (refusal.Interrupted place)) ↔ TripsRose bs bs place)
-calm_at r bs place h = (λ e. absurd (h (is_refused r (refusal.Interrupted place) e)), λ rose. absurd (none_rose bs place rose))
-
 pub calm_refused : (r : Refusal) (bs : List Breaker) → ((place : ℕ) → r ≡ refusal.Interrupted place → ⊥) → (place : ℕ) → ((Refused r ≡ Refused (refusal.Interrupted place)) ↔ TripsRose bs bs place)
-calm_refused r bs h place = calm_at r bs place (h place)
+calm_refused r bs h place = (λ e. absurd (h place (is_refused r (refusal.Interrupted place) e)), λ rose. absurd (none_rose bs place rose))
 
 pub full_interrupts_none : (r : Refusal) (needed free place : ℕ) → r ≡ refusal.Full needed free → r ≡ refusal.Interrupted place → ⊥
 full_interrupts_none r needed free place h e = grind arith

@@ -1,4 +1,4 @@
-use Rattle.std.proofs.Common.{◌∙◌, ◌≤◌, [], map, sym, ap, arith}
+use Rattle.std.proofs.Common.{rules, ◌∙◌, ◌≤◌, [], map, sym, ap, arith}
 use Rattle.calc_session.proofs.Shared.{name_of, size_of_payload, value_of, sizes, added_begin, added_few, adds_free, entries_of, free_of, form_tree, multiples, summands}
 use Rattle.calc_terms.specs.Payload.{bare}
 use Rattle.calc_session.proofs.PlacingLemmas.{constant_first, form_many, form_none, front_node, front_of_all, nothing_is, placed_as, summands_sizes, zero_size}
@@ -35,24 +35,21 @@ returns-in-None-clause-enough c = λ room.
     let none = nothing_is _ c.in_ok-placed-2.placed c.args.pool.now c.place_multiples.new.pool b c.in-None.is in
     c.number.ensures.exactly.1 (omega (arith, room, adds_free c.requires.stands b.adds, ap sizes none, zero_size c.whole.result c.whole.ensures))
 
-pub returns-in-Some-2-clause-ok : goal.returns-in-Some-2-clause-ok
-returns-in-Some-2-clause-ok c =
-    let xs = map name_of c.args.names.now in
-    let qs = entries_of c.args.coefs.now in
-    let b = placed_as (c.in_ok-placed-2.ensures.ok c.args.pool.now (summands [] (value_of c.args.constant) []) c.requires.stands c.in_ok-placed.ensures.ok) (constant_first xs (value_of c.args.constant) qs) in
-    form_many c.node_over_last.result c.in-Some-2.field-0 c.args.pool.now c.place_multiples.new.pool c.node_over_last.new.pool (summands xs (value_of c.args.constant) qs) c.in_ok-placed-2.placed b c.in-Some-2.is c.if-placed-eq1.false c.node_over_last.ensures.ok c.node_over_last.ensures.kept c.node_over_last.ensures.stands
-
-pub returns-in-Some-2-clause-enough : goal.returns-in-Some-2-clause-enough
-returns-in-Some-2-clause-enough c = λ room.
-    let xs = map name_of c.args.names.now in
-    let qs = entries_of c.args.coefs.now in
-    let b = placed_as (c.in_ok-placed-2.ensures.ok c.args.pool.now (summands [] (value_of c.args.constant) []) c.requires.stands c.in_ok-placed.ensures.ok) (constant_first xs (value_of c.args.constant) qs) in
-    c.node_over_last.ensures.exactly.1 (omega (arith, room, adds_free c.requires.stands b.adds))
-
-pub returns-in-Some-2-clause-front : goal.returns-in-Some-2-clause-front
-returns-in-Some-2-clause-front c =
+pub returns-in-Some-2 : goal.returns-in-Some-2
+returns-in-Some-2 c =
     let xs = map name_of c.args.names.now in
     let qs = entries_of c.args.coefs.now in
     let b = placed_as (c.in_ok-placed-2.ensures.ok c.args.pool.now (summands [] (value_of c.args.constant) []) c.requires.stands c.in_ok-placed.ensures.ok) (constant_first xs (value_of c.args.constant) qs) in
     let made = form_many c.node_over_last.result c.in-Some-2.field-0 c.args.pool.now c.place_multiples.new.pool c.node_over_last.new.pool (summands xs (value_of c.args.constant) qs) c.in_ok-placed-2.placed b c.in-Some-2.is c.if-placed-eq1.false c.node_over_last.ensures.ok c.node_over_last.ensures.kept c.node_over_last.ensures.stands in
-    front_node c.node_over_last.result (size_of_payload (bare kind.Add)) c.args.pool.now c.place_multiples.new.pool c.node_over_last.new.pool (form_tree xs (value_of c.args.constant) qs) made c.node_over_last.ensures.full (front_of_all b.adds)
+    record {
+      ok = form_many c.node_over_last.result c.in-Some-2.field-0 c.args.pool.now c.place_multiples.new.pool c.node_over_last.new.pool (summands xs (value_of c.args.constant) qs) c.in_ok-placed-2.placed b c.in-Some-2.is c.if-placed-eq1.false c.node_over_last.ensures.ok c.node_over_last.ensures.kept c.node_over_last.ensures.stands;
+      enough = λ room.
+          let xs = map name_of c.args.names.now in
+          let qs = entries_of c.args.coefs.now in
+          let b = placed_as (c.in_ok-placed-2.ensures.ok c.args.pool.now (summands [] (value_of c.args.constant) []) c.requires.stands c.in_ok-placed.ensures.ok) (constant_first xs (value_of c.args.constant) qs) in
+          c.node_over_last.ensures.exactly.1 (omega (arith, room, adds_free c.requires.stands b.adds));
+      refused = search rules;
+      caused = search rules;
+      front = front_node c.node_over_last.result (size_of_payload (bare kind.Add)) c.args.pool.now c.place_multiples.new.pool c.node_over_last.new.pool (form_tree xs (value_of c.args.constant) qs) made c.node_over_last.ensures.full (front_of_all b.adds);
+      stands = search rules;
+    }

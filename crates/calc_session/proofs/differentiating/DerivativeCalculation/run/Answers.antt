@@ -81,37 +81,35 @@ show-requires g c =
       reduced = (given_told a).0.reduces.reduced;
     }
 
-pub returns-in-Ok-reduce_tree-clause-reply : goal.returns-in-Ok-reduce_tree-clause-reply
-returns-in-Ok-reduce_tree-clause-reply g c =
-    let here = (goal.at.returns-in-Ok-reduce_tree-clause-reply g c).After-release in
+pub returns-in-Ok-reduce_tree : goal.returns-in-Ok-reduce_tree
+returns-in-Ok-reduce_tree g c =
+    let here = (goal.at.returns-in-Ok-reduce_tree g c).After-release in
     let room = g.R.Reducer.room in
     let bits = g.R.Reducer.bits in
     let before = states g.B.Breaker.state c.args.watch.now in
     let after = states g.B.Breaker.state c.reduce_tree.new.watch in
     let p = placed g here in
     let shown = c.show.ensures in
-    comes_reduced room bits before after (name_of c.args.self.now.name) c.args.work.now.pool c.release.new.pool (forest c.show.new.work.pool) c.show.result
-    c.requires.ready.stands c.release.ensures.stands (c.release.ensures.kept.size ∙ c.in-Ok.ensures.kept.size) c.requires.last p (derivable g here) (fits g here)
-    (shown_answer room bits before after None c.show.result c.release.ensures.stands c.reduce_tree.ensures.stands shown.ready.stands c.in-Ok-reduce_tree.ensures.kept.size (size_kept (refusal_of_evaluation c.show.result) c.reduce_tree.new.pool c.show.new.work.pool shown.counted)
-    (gives_as p (sym (given_rest p)) (λ t x. x)) c.in-Ok-reduce_tree.ensures.answer c.in-Ok-reduce_tree.ensures.calm tt shown.front shown.shows)
-
-pub returns-in-Ok-reduce_tree-clause-counted : goal.returns-in-Ok-reduce_tree-clause-counted
-returns-in-Ok-reduce_tree-clause-counted g c =
     let lack = refusal_of_evaluation c.show.result in
     let kept = keeps_after _ _ _ c.in-Ok.ensures.kept c.release.ensures.kept in
-    inl (
-      none_known lack (none_short (name_of c.args.self.now.name) (free_of c.args.work.now.pool) (tree_of c.args.tree c.args.work.now.pool) (fits g (goal.at.returns-in-Ok-reduce_tree-clause-counted g c).After-release)),
-      keeps_then lack c.args.work.now.pool c.reduce_tree.new.pool c.show.new.work.pool (keeps_after _ _ _ kept c.in-Ok-reduce_tree.ensures.kept) c.show.ensures.counted,
-    )
-
-pub returns-in-Ok-reduce_tree-clause-front : goal.returns-in-Ok-reduce_tree-clause-front
-returns-in-Ok-reduce_tree-clause-front g c =
-    let p = placed g (goal.at.returns-in-Ok-reduce_tree-clause-front g c).After-release in
-    front_beside c.in-Ok.ensures.ok (released g (goal.at.returns-in-Ok-reduce_tree-clause-front g c).After-release) (front_in_place (gives_as p (sym (given_rest p)) (λ t x. x)) c.in-Ok-reduce_tree.ensures.answer c.reduce_tree.ensures.front c.show.ensures.front)
-
-pub returns-in-Ok-reduce_tree-clause-size : goal.returns-in-Ok-reduce_tree-clause-size
-returns-in-Ok-reduce_tree-clause-size g c =
-    size_kept (refusal_of_evaluation c.show.result) c.reduce_tree.new.pool c.show.new.work.pool c.show.ensures.counted ∙ c.in-Ok-reduce_tree.ensures.kept.size ∙ c.release.ensures.kept.size ∙ c.in-Ok.ensures.kept.size
+    record {
+      reply =
+          comes_reduced room bits before after (name_of c.args.self.now.name) c.args.work.now.pool c.release.new.pool (forest c.show.new.work.pool) c.show.result
+          c.requires.ready.stands c.release.ensures.stands (c.release.ensures.kept.size ∙ c.in-Ok.ensures.kept.size) c.requires.last p (derivable g here) (fits g here)
+          (shown_answer room bits before after None c.show.result c.release.ensures.stands c.reduce_tree.ensures.stands shown.ready.stands c.in-Ok-reduce_tree.ensures.kept.size (size_kept (refusal_of_evaluation c.show.result) c.reduce_tree.new.pool c.show.new.work.pool shown.counted)
+          (gives_as p (sym (given_rest p)) (λ t x. x)) c.in-Ok-reduce_tree.ensures.answer c.in-Ok-reduce_tree.ensures.calm tt shown.front shown.shows);
+      interrupted = search rules;
+      counted =
+          inl (
+            none_known lack (none_short (name_of c.args.self.now.name) (free_of c.args.work.now.pool) (tree_of c.args.tree c.args.work.now.pool) (fits g (goal.at.returns-in-Ok-reduce_tree g c).After-release)),
+            keeps_then lack c.args.work.now.pool c.reduce_tree.new.pool c.show.new.work.pool (keeps_after _ _ _ kept c.in-Ok-reduce_tree.ensures.kept) c.show.ensures.counted,
+          );
+      front =
+          let p = placed g (goal.at.returns-in-Ok-reduce_tree g c).After-release in
+          front_beside c.in-Ok.ensures.ok (released g (goal.at.returns-in-Ok-reduce_tree g c).After-release) (front_in_place (gives_as p (sym (given_rest p)) (λ t x. x)) c.in-Ok-reduce_tree.ensures.answer c.reduce_tree.ensures.front c.show.ensures.front);
+      size = size_kept (refusal_of_evaluation c.show.result) c.reduce_tree.new.pool c.show.new.work.pool c.show.ensures.counted ∙ c.in-Ok-reduce_tree.ensures.kept.size ∙ c.release.ensures.kept.size ∙ c.in-Ok.ensures.kept.size;
+      ready = search rules;
+    }
 
 -- the derivative finds no room
 lacks : (g : _) (c : After-refused g) → LacksDerivative (name_of c.args.self.now.name) (free_of c.args.work.now.pool) (tree_of c.args.tree c.args.work.now.pool) c.in-Err.full
