@@ -1,16 +1,9 @@
 -- Bytes at hand while the factors of a product are raised one by one.
 use Rattle.std.proofs.Common.{◌≡◌, ℕ, ◌+◌, ◌*◌, ◌<◌, ◌≤◌, ap, arith}
-use Rattle.power_reduce.proofs.Shared.{mapped, Tree, mult, Trees, none, more, append, count, size, sizes, State, free_of, raised, bytes_in, tree_of, IsHanded, tree_at, without_root, Stands, forest}
-use Rattle.power_reduce.proofs.{Shared.{KeepsRefusals, tree_of_root, used_forest, size-plain, root_arity}, Raising.{to_power}}
+use Rattle.power_reduce.proofs.Shared.{mapped, Tree, mult, Trees, none, more, append, count, size, sizes, State, free_of, raised, bytes_in, tree_of, IsHanded, tree_at, Stands, forest, KeepsRefusals}
+use Rattle.power_reduce.proofs.{Shared.{tree_of_root, size-plain, root_arity}, Raising.{to_power}}
 use Rattle.coefficients.proofs.Loops.{IsPart, count_append, next_at, part_free}
 pub use Rattle.tree_handles.proofs.FreeBytes.{beside_bytes as handed_bytes}
-
--- ---- another tree in the place of a root's
-
-pub kept_free : {s t : State} {i : ℕ} → Stands s → Stands t → KeepsRefusals s t → IsHanded i (forest s) → IsHanded i (forest t) → without_root i (forest t) ≡ without_root i (forest s)
-    → free_of t + size (tree_of i t) ≡ free_of s + size (tree_of i s)
-kept_free {s = s} {t = t} {i = i} st su k h g e =
-    omega (arith, used_forest s st, used_forest t su, k.size, st.pool.fits, su.pool.fits, handed_bytes i (forest s) h, handed_bytes i (forest t) g, ap bytes_in e)
 
 -- a tree that is read
 pub read_bytes : {s : State} {i j : ℕ} → Stands s → j ≡ i → IsHanded i (forest s) → bytes_in (tree_at j (forest s)) ≡ size (tree_of i s)
