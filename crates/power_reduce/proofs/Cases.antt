@@ -9,7 +9,7 @@ use Rattle.power_reduce.proofs.Shared.{is_at_most_zero, has_no_power, IsPowerAns
 use Rattle.power_reduce.proofs.Shared.{numerator, Rewrites, Gives, AnswersRationalStep, Step, NumberFault, Forest, gives_as, by_test}
 use Rattle.power_reduce.proofs.{Answered.{kept_answer, undef_base_answer, undef_exponent_answer}, ByRule.{has_power}, Exponents.{as_whole, inside_whole, whole_no_half}}
 use Rattle.power_reduce.proofs.{Kept.{reduced_power, kept_form, whole_inside}, Powers.{power_is}, Rules.{rewriting}, Whole.{whole_is}}
-use Rattle.calc_algebra.proofs.{HalfLaws.{half_is_odd}, ReducedLaws.{from_not}}
+use Rattle.calc_algebra.proofs.{HalfLaws.{half_is_odd}, ReducedLaws.{from_not, undef_words}}
 pub use Rattle.number_forms.proofs.Pairs.{rational_test as rational_number}
 use Rattle.number_forms.proofs.RationalCalls.{num_same}
 use Rattle.calc_terms.specs.declared.kind.Kind.TheVariants as kind
@@ -197,18 +197,10 @@ pub undef_kept : (b e : Tree) → HasUndef b e → rewritten b e ≡ None
 unfolding HasUndef
 undef_kept b e h = grind (arith, undef_base_kept, undef_exponent_kept)
 
-base_answer : (b e : Tree) → is_undef b ≡ true → IsPowerAnswer b e undef
-base_answer undef e h = undef_base_answer e
-base_answer b e h = absurd cc
-
-exponent_answer : (b e : Tree) → is_undef e ≡ true → IsPowerAnswer b e undef
-exponent_answer b undef h = undef_exponent_answer b
-exponent_answer b e h = absurd cc
-
 pub undef_answer : (b e t : Tree) → HasUndef b e → t ≡ undef → IsPowerAnswer b e t
 unfolding HasUndef
-undef_answer b e t (inl h) u = subst (IsPowerAnswer b e) (sym u) (base_answer b e h)
-undef_answer b e t (inr h) u = subst (IsPowerAnswer b e) (sym u) (exponent_answer b e h)
+undef_answer b e t (inl h) u = rw (u, undef_words b h) (undef_base_answer e)
+undef_answer b e t (inr h) u = rw (u, undef_words e h) (undef_exponent_answer b)
 
 no_rational_undef : (t : Tree) → is_num t ≡ true → is_undef t ≡ true → ⊥
 no_rational_undef t h k = grind arith
