@@ -58,17 +58,7 @@ behind-requires-clause-few c = omega (arith, parts_are_few (child (goal.at.behin
 pub append-requires-then-frame-gt0 : goal.append-requires-then-frame-gt0
 append-requires-then-frame-gt0 c =
     let n = child (goal.at.append-requires-then-frame-gt0 c).In-Some c.if-frame-gt0.true in
-    omega (
-      arith,
-      next_inside n,
-      n.node.state.short,
-      ap length n.node.popped_is,
-      ap length c.requires.cells,
-      visits_length (tree_at c.args.face (forest c.args.pool.now)),
-      c.requires.room,
-      c.loop-frame.invariant.capacity,
-      c.pop.ensures.capacity,
-    )
+    omega (arith, next_inside n, n.node.state.short, ap length n.node.popped_is, ap length c.requires.cells, visits_length (tree_at c.args.face (forest c.args.pool.now)), c.requires.room, c.loop-frame.invariant.capacity, c.pop.ensures.capacity)
 
 pub offset_bounds-cells-at : goal.offset_bounds-cells-at
 offset_bounds-cells-at c =
@@ -81,19 +71,7 @@ bounds-cells-at c = next_inside (child (goal.at.bounds-cells-at c).In-Some c.if-
 pub append-requires-then-frame-gt0-2 : goal.append-requires-then-frame-gt0-2
 append-requires-then-frame-gt0-2 c =
     let n = child (goal.at.append-requires-then-frame-gt0-2 c).In-Some c.if-frame-gt0.true in
-    omega (
-      arith,
-      next_inside n,
-      n.node.state.short,
-      ap length n.node.popped_is,
-      c.append-then-frame-gt0.ensures.len,
-      c.append-then-frame-gt0.ensures.capacity,
-      ap length c.requires.cells,
-      visits_length (tree_at c.args.face (forest c.args.pool.now)),
-      c.requires.room,
-      c.loop-frame.invariant.capacity,
-      c.pop.ensures.capacity,
-    )
+    omega (arith, next_inside n, n.node.state.short, ap length n.node.popped_is, c.append-then-frame-gt0.ensures.len, c.append-then-frame-gt0.ensures.capacity, ap length c.requires.cells, visits_length (tree_at c.args.face (forest c.args.pool.now)), c.requires.room, c.loop-frame.invariant.capacity, c.pop.ensures.capacity)
 
 pub overflow_add-at : goal.overflow_add-at
 overflow_add-at c =
