@@ -52,6 +52,7 @@ fn word(pool: &mut Pool, bytes: &[u8]) -> Result<Handle, Full>
     Ok(tree)
 }
 
+#[tactic(auto, using(tree_handles::proofs::Given::given_handed))]
 fn over(pool: &mut Pool, kind: Kind, letter: u8) -> Result<Handle, Full>
     requires stands { Stands pool.old }
     requires takes { takes_kind kind 1 ≡ true }
@@ -63,6 +64,7 @@ fn over(pool: &mut Pool, kind: Kind, letter: u8) -> Result<Handle, Full>
     Ok(tree)
 }
 
+#[tactic(auto, using(tree_handles::proofs::Given::given_handed))]
 fn pair(pool: &mut Pool, kind: Kind, first: u8, second: u8) -> Result<Handle, Full>
     requires stands { Stands pool.old }
     requires takes { takes_kind kind 2 ≡ true }
@@ -75,6 +77,7 @@ fn pair(pool: &mut Pool, kind: Kind, first: u8, second: u8) -> Result<Handle, Fu
     Ok(tree)
 }
 
+#[tactic(auto, using(tree_handles::proofs::Given::given_handed))]
 fn sum_of_product(pool: &mut Pool, factors: (u8, u8), last: u8) -> Result<Handle, Full>
     requires stands { Stands pool.old }
     ensures ok { IfOk result (λ h. Gives (forest pool.old) (forest pool.new) h (λ t. ⊤)) }
@@ -86,6 +89,7 @@ fn sum_of_product(pool: &mut Pool, factors: (u8, u8), last: u8) -> Result<Handle
     Ok(tree)
 }
 
+#[tactic(auto, using(tree_handles::proofs::Given::given_handed))]
 fn sum_of_sum(pool: &mut Pool, inner: u8, last: u8) -> Result<Handle, Full>
     requires stands { Stands pool.old }
     ensures ok { IfOk result (λ h. Gives (forest pool.old) (forest pool.new) h (λ t. ⊤)) }
@@ -170,6 +174,7 @@ fn trees_rise(rt: HostRuntime) -> Result<(), Fail> {
     Ok(())
 }
 
+#[tactic(auto, using(tree_handles::proofs::Given::given_handed))]
 fn product(pool: &mut Pool, first: u8, second: u8) -> Result<Handle, Full>
     requires stands { Stands pool.old }
     ensures ok { IfOk result (λ h. Gives (forest pool.old) (forest pool.new) h (λ t. (is_mult t ≡ true) × (count (children_of t) ≡ 2))) }
@@ -232,6 +237,7 @@ impl Keys for Itself {
 }
 
 /// The first letter of a sum of two that was put in order.
+#[tactic(auto, using(tree_handles::proofs::Given::given_handed))]
 fn first_sorted(pool: &mut Pool, first: u8, second: u8) -> Result<Option<Name>, Full>
     requires { Stands pool.old }
     ensures { Stands pool.new }

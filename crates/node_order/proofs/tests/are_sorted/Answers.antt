@@ -1,10 +1,11 @@
-use Rattle.node_order.proofs.{Shared.{sym, subst, IsExpression, forest, expression_root}, SortLaws.{handle_live}, Tested.{sum_sorted}}
+use Rattle.node_order.proofs.{Shared.{sym, subst, IsExpression, forest, expression_root}, Tested.{sum_sorted}}
+use Rattle.tree_handles.proofs.Seen.{live}
 use Rattle.node_order.proofs.tests.are_sorted.Goals as goal
 
 pub children-many-requires-clause-live : goal.children-many-requires-clause-live
 children-many-requires-clause-live c =
     let sum = sum_sorted (record { handed = c.in_ok-sum.ensures.handed; payload = c.in_ok-sum.ensures.sum }) c.sort_children.ensures.sorts in
-    handle_live c.in_ok-sum.sum c.id-id.result c.sort_children.new.pool sum.handed.root c.id-id.ensures
+    live c.sort_children.new.pool c.id-id.ensures sum.handed.root
 
 pub compare-requires-clause-first : goal.compare-requires-clause-first
 compare-requires-clause-first c =

@@ -1,8 +1,5 @@
-use Rattle.node_order.proofs.Shared.{given_handed, given_rest, gives_as}
+use Rattle.node_order.proofs.Shared.{given_rest, gives_as}
 use Rattle.node_order.proofs.tests.over.Goals as goal
-
-pub node_over-requires-clause-handed : goal.node_over-requires-clause-handed
-node_over-requires-clause-handed c = given_handed c.in_ok-first.ensures.ok
 
 pub returns-clause-ok : goal.returns-clause-ok
 returns-clause-ok c = gives_as c.in_ok-tree.ensures.ok (given_rest c.in_ok-first.ensures.ok) (λ t e. tt)

@@ -4,9 +4,6 @@ use Rattle.node_order.proofs.tests.product.Goals as goal
 pub node_over_two-requires-clause-first : goal.node_over_two-requires-clause-first
 node_over_two-requires-clause-first c = given_other c.in_ok-second.ensures.ok (given_handed c.in_ok-first.ensures.ok)
 
-pub node_over_two-requires-clause-second : goal.node_over_two-requires-clause-second
-node_over_two-requires-clause-second c = given_handed c.in_ok-second.ensures.ok
-
 pub node_over_two-requires-clause-apart : goal.node_over_two-requires-clause-apart
 node_over_two-requires-clause-apart c = eqb-sym c.in_ok-second.second c.in_ok-first.first (given_apart c.in_ok-second.ensures.ok (given_handed c.in_ok-first.ensures.ok))
 
