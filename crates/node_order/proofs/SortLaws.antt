@@ -3,7 +3,7 @@ use Rattle.node_order.proofs.{Listing.{suc-add}, Shared.{rest-once_more, ◌≡�
 use Rattle.node_order.proofs.Shared.{min, add-one, zero-add, All, IsPermutation, true, range_with_len, IsSorted, IsSortedByKey, IsStableByKey, is_lt, take-append_seam, drop-append_seam, get_or-map}
 use Rattle.node_order.proofs.Shared.{length-map, IsPermutation-map, All-head, All-tail, tree_cmp, Tree, Trees, none, more, append, undef, Key, key_tree, place_cmp, ranked_tree, picked, picked_behind}
 use Rattle.node_order.proofs.Shared.{list_of, IsSorting, KeepsTies, SortsChildren, plains, plain, nth, IsWhole, AllExpressions, Label, Forest, empty, tree, join, arity, first_trees, rest_trees}
-use Rattle.node_order.proofs.Shared.{tree_nth, kids, AllNodes, IsOnce, AllOnce, State, tree_at, kids_of, holds, Stands, forest, kids_of_root, has_root, root_tree, put, root_held, first-rest}
+use Rattle.node_order.proofs.Shared.{tree_nth, kids, AllNodes, IsOnce, AllOnce, State, tree_at, kids_of, Stands, forest, kids_of_root, has_root, root_tree, put, first-rest}
 use Rattle.node_order.proofs.Shared.{arity-tree_nth, arity-first_trees, arity-rest_trees, all-join, all-first_trees, all-rest_trees, all-tree_nth, plains-join, plain-tree_nth, alone}
 use Rattle.node_order.proofs.{Places.{range_inside, inside_range}, Picks.{AreInside}, Ties.{places_same, trees_rise, trees_stable}}
 
@@ -127,6 +127,3 @@ child_plain i n id f e = ap plain e ∙ plain-tree_nth n (kids_of i f)
 -- a root's children, by its handle
 pub handle_kids : (i h : ℕ) (s : State) → Stands s → has_root i (forest s) ≡ true → h ≡ i → kids_of h (forest s) ≡ kids (root_tree i (forest s))
 handle_kids i h s st root e = ap (λ k. kids_of k (forest s)) e ∙ kids_of_root i st root
-
-pub handle_live : (i h : ℕ) (s : State) → has_root i (forest s) ≡ true → h ≡ i → holds h (forest s) ≡ true
-handle_live i h s root e = ap (λ k. holds k (forest s)) e ∙ root_held i (forest s) root
