@@ -29,12 +29,7 @@ within_bits r t k = grind arith
 -- ---- by the kind of the node
 
 pub sum_over : (w u : Tree) → kind.Add ≡ root_kind w → kind.Add ≡ root_kind u → is_polynomial w ≡ true → AreExpandedFrom (children_of w) (children_of u) → IsHeld (polynomial_of u) (high w) (low w)
-sum_over (add ts) u k l p e = by u l e
-  where
-    by : (v : Tree) → kind.Add ≡ root_kind v → AreExpandedFrom ts (children_of v) → IsHeld (polynomial_of v) (high (add ts)) (low (add ts))
-    by (add us) l e = sum_held ts us (answers_held ts us p e)
-    by v l e = cc
-sum_over w u k l p e = cc
+sum_over w u k l p e = grind (arith, sum_held, answers_held)
 
 pub product_over : (w u : Tree) → kind.Mult ≡ root_kind w → is_polynomial w ≡ true → AreExpandedFrom (children_of w) (children_of u) → AreHeldTogether (children_of u) (high w) (low w)
 product_over w u k p e = grind (arith, held_together, answers_held)

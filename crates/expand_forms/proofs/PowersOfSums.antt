@@ -22,11 +22,7 @@ or_second a b h = grind arith
 -- ---- expanded trees are none
 
 factor_none : (f : Factor) → is_power_of_sum (factor_tree f) ≡ false
-factor_none f = by (f.exponent == 1)
-  where
-    by : (b : Bool) → is_power_of_sum (if b then symbol f.name else power (symbol f.name) (whole_num f.exponent)) ≡ false
-    by true = refl
-    by false = refl
+factor_none f = grind arith
 
 monomial_none : (m : Monomial) → is_power_of_sum (monomial_tree m) ≡ false
 monomial_none [] = refl
@@ -120,11 +116,7 @@ power_children u h r = cc
 -- ---- what has become of a child
 
 from_expanded : (t u : Tree) → (root_kind t ≡ kind.Pow → ⊥) → IsReadyFrom t u → IsExpandedFrom t u
-from_expanded t u h r p = by (r p)
-  where
-    by : (u ≡ expanded (polynomial_of t)) ⊎ ((is_power_of_sum u ≡ true) × IsOver t u) → u ≡ expanded (polynomial_of t)
-    by (inl e) = e
-    by (inr (k, o)) = absurd (h (sym (over_kind t u o) ∙ power_kind u k))
+from_expanded t u h r p = let k = r p in grind (arith, over_kind, power_kind)
 
 child_same : (t u : Tree) → is_polynomial t ≡ true → IsReadyFrom t u → AreSame (polynomial_of u) (polynomial_of t)
 child_same t u p r = by (r p)
@@ -358,18 +350,10 @@ raised_behind n v ts l k =
 -- ---- an answer
 
 pub answer_expanded : {t u : Tree} → is_polynomial t ≡ true → IsReadyFrom t u → is_power_of_sum u ≡ false → u ≡ expanded (polynomial_of t)
-answer_expanded {t} {u} p r h = by (r p)
-  where
-    by : (u ≡ expanded (polynomial_of t)) ⊎ ((is_power_of_sum u ≡ true) × IsOver t u) → u ≡ expanded (polynomial_of t)
-    by (inl e) = e
-    by (inr (k, o)) = absurd (let x = sym k ∙ h in cc)
+answer_expanded {t} {u} p r h = let k = r p in grind arith
 
 pub answer_over : {t u : Tree} → is_polynomial t ≡ true → IsReadyFrom t u → is_power_of_sum u ≡ true → IsOver t u
-answer_over {t} {u} p r h = by (r p)
-  where
-    by : (u ≡ expanded (polynomial_of t)) ⊎ ((is_power_of_sum u ≡ true) × IsOver t u) → IsOver t u
-    by (inl e) = absurd (let x = sym h ∙ expanded_none (polynomial_of t) e in cc)
-    by (inr (k, o)) = o
+answer_over {t} {u} p r h = let k = r p in grind (arith, expanded_none)
 
 pub beyond_most : (t : Tree) (r : Result ℕ NumberFault) → IfErr r (OfOverflow (λ o. 124 < most_bits t)) → IfOverflow r (MayOverflow t (nodes t))
 beyond_most t r l = grind arith
