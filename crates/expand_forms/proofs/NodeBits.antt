@@ -1,6 +1,6 @@
 -- By what bits the step of a node over expanded children is held.
 use Rattle.expand_forms.proofs.Shared.{◌≡◌, ◌<◌, ◌≤◌, ◌+◌, ◌*◌, ℕ, zero, suc, Result, true, sym, ap, ◌∙◌, subst, arith, IfErr, and_parts, bits, bits_of, high, low, most_bits, Fraction, inverse}
-use Rattle.expand_forms.proofs.Shared.{IsExpandedFrom, are_polynomials, minus_one_fraction, Payload, Tree, add, power, sub, div, Trees, none, more, count, root_kind, AreHeldTogether, IsHeld}
+use Rattle.expand_forms.proofs.Shared.{IsExpandedFrom, are_polynomials, minus_one_fraction, Payload, Tree, power, sub, div, Trees, none, more, count, root_kind, AreHeldTogether, IsHeld}
 use Rattle.expand_forms.proofs.Shared.{IsNoOverflow, scaled, divisor_of, exponent_of, is_divisor, is_exponent, is_polynomial, polynomial_of, product_of, AreExpandedFrom, IsOver, children_of, grown}
 use Rattle.expand_forms.proofs.Shared.{nth, OfOverflow, NumberFault, held_more, held_opposite, held_product, one_held, answer_held, difference_held, held_together, power_within, quotient_held}
 use Rattle.expand_forms.proofs.{Shared.{sum_held, AreHeldFrom, tree_held, tree_monomials}, ChildExpansions.{divisor_same, exponent_same}, Nodes.{from}}

@@ -1,5 +1,5 @@
 -- Terms of an expanded tree that are listed one after another.
-use Rattle.expand_forms.proofs.Shared.{◌≡◌, ◌≤◌, ◌<◌, ℕ, zero, suc, ◌+◌, List, [], ◌∷◌, ◌++◌, length, take, refl, sym, ap, ◌∙◌, subst, arith, HasMonomial, IsNamed, AreMonomials, IsExpanded, list_as}
+use Rattle.expand_forms.proofs.Shared.{◌≡◌, ◌≤◌, ◌<◌, ℕ, zero, suc, List, [], ◌∷◌, ◌++◌, length, take, refl, sym, ap, ◌∙◌, subst, arith, HasMonomial, IsNamed, AreMonomials, IsExpanded, list_as}
 use Rattle.expand_forms.proofs.Shared.{Name, names_length, Polynomial, Summand, Tree, Trees, count, coefficient_in, factors_in, root_kind, more, names, none, normal, nth, polynomial_of, summand}
 use Rattle.expand_forms.proofs.Shared.{term_trees, terms_in, value_of, AreNames, IsListOf, IsOfNames, named_polynomial, AreAmong, IsSummandTree, monomial_of, AreTermsOf, summand_of, Term}
 use Rattle.expansions.proofs.{AllMonomials.{AllHave, normal_all}, Names.{tree_named}, NamedPolynomials.{named_same}, SameCoefficients.{same_cons, same_is, same_normal, same_trans, same_turned}}
