@@ -2,8 +2,8 @@
 use Rattle.std.proofs.Common.{◌≡◌, Bool, true, false, ◌&&◌, ◌||◌, refl, if◌then◌else◌, sym, ap, ◌∙◌, subst, arith, ℕ, zero, suc, ◌<◌, not}
 use Rattle.std.specs.{Prelude.{ℤ, Option, MatchOption}, Option.{is_some}}
 use Rattle.product_reduce.proofs.Shared.{has_undef, are_rationals, Tree, num, undef, mult, power, Trees, none, more, append, names, names_of, is_undef, in_mult, root_kind, count, are_numbers}
-use Rattle.product_reduce.proofs.Shared.{is_number, are_reduced, is_reduced, has_form, all_parts, is_whole_num, is_opaque_exponent, factors_of, is_zero, and_parts, and_from, or_right, zero_fraction}
-use Rattle.product_reduce.proofs.Shared.{lowest, whole_fraction, gcd, load, load_of_factor, Same-eq, nth, children_of, whole_denominator, zero_is, Same-sym, KeepsMeanings, KeepsMeanings-refl}
+use Rattle.product_reduce.proofs.Shared.{is_number, are_reduced, is_reduced, has_form, all_parts, is_whole_num, is_opaque_exponent, factors_of, is_zero, and_parts, or_right, zero_fraction, lowest}
+use Rattle.product_reduce.proofs.Shared.{whole_fraction, gcd, load, load_of_factor, Same-eq, nth, children_of, whole_denominator, zero_is, Same-sym, KeepsMeanings, KeepsMeanings-refl}
 use Rattle.product_reduce.proofs.Shared.{KeepsMeanings-eq, KeepsMeanings-trans, KeepsMeanings-product_more, zero_product, number_zero, number_words, numbers_defined, Same-trans, keeps, reduces_after}
 use Rattle.product_reduce.proofs.Shared.{IsFinished, IsEnding, IsStop, at_zero, at_end, opened, others_in, IsCoefficient, coefficient_before, have_partners, Within, within_eq, within_none}
 use Rattle.product_reduce.proofs.Shared.{within_both, within_trans, number_names, no_new_name, nest_number, parts_reduced, parts_defined, number_parts, HasForm}
@@ -91,9 +91,7 @@ number_factors t h = grind arith
 
 numbers_opened : (ts : Trees) → are_numbers ts ≡ true → are_numbers (opened ts) ≡ true
 numbers_opened none h = refl
-numbers_opened (more t ts) h =
-    let (a, b) = and_parts (is_number t) (are_numbers ts) h in
-    numbers-append (factors_of t) (opened ts) ∙ and_from _ _ (number_factors t a) (numbers_opened ts b)
+numbers_opened (more t ts) h = grind (arith, numbers-append, number_factors t, numbers_opened ts)
 
 no_others : (ts : Trees) → are_numbers ts ≡ true → others_in ts ≡ none
 no_others none h = refl

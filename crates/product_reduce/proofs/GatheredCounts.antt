@@ -1,6 +1,6 @@
 -- The factors of a product are gathered to what counts no more.
 use Rattle.std.proofs.Common.{◌≡◌, ℕ, ◌≤◌, max, Bool, true, false, refl, sym, ap, subst, arith}
-use Rattle.product_reduce.proofs.Shared.{Tree, num, mult, Trees, none, more, append, has_undef, IsNumber, is_number, is_whole_num, base_of, NoneIs, are_reduced, Permuted, permuted_none, permuted_more}
+use Rattle.product_reduce.proofs.Shared.{Tree, mult, Trees, none, more, append, has_undef, IsNumber, is_number, is_whole_num, base_of, NoneIs, are_reduced, Permuted, permuted_none, permuted_more}
 use Rattle.product_reduce.proofs.Shared.{number_words, counted, counted_among, factors_of, IsMonic, factors_monic, IsSorting, is_zero, children_of, numbers_among, product_count, appended}
 use Rattle.product_reduce.proofs.Shared.{flat_product, number_counts_one, AreOthers, IsWritten, IsWrittenProduct, opened, others_in, coefficient_before, coefficient_times, IsGathered}
 use Rattle.product_reduce.proofs.{Forms.{others_no_numbers}, Gathered.{others_permuted}, LastSteps.{sorted_factors}, Stepped.{others_are}}
@@ -86,5 +86,4 @@ others_at_most ts = omega (arith, others_counted (opened ts), opened_counted ts)
 -- a whole number is a Number
 pub whole_number : (e : Tree) → is_whole_num e ≡ true → is_number e ≡ true
 unfolding is_number
-whole_number (num q) h = refl
-whole_number e h = cc
+whole_number e h = grind arith

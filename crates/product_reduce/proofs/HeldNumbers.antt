@@ -1,10 +1,10 @@
 -- What holds Numbers one by one holds their product, also while they are multiplied from left to right.
 use Rattle.std.proofs.Common.{◌≡◌, ℕ, zero, suc, ◌+◌, ◌*◌, ◌^◌, ◌<◌, ◌≤◌, [], ◌∷◌, Bool, true, false, ◌&&◌, if◌then◌else◌, max, pos, refl, sym, ap, ◌∙◌, subst, arith}
-use Rattle.product_reduce.proofs.Shared.{mul-le, and_from, false_from_ne_true, Fraction, one_fraction, is_zero_fraction, Tree, num, root, Trees, none, more, append, is_number, are_numbers, natural_of}
-use Rattle.product_reduce.proofs.Shared.{value, IsBelowAll, Rises, are_alike, Same, Term, Surd, term, surd_of, surd_one, surd_times, term_times, AreProper, value_proper, value_rises, number_words}
-use Rattle.product_reduce.proofs.Shared.{Alike, alike_from, alike_true, Same-trans, square_root, surd_times_assoc, surd_times-surd_one, Same-refl, Same-eq, Same-surd_times, root_above, mass_from}
-use Rattle.product_reduce.proofs.Shared.{IsHeld, IsSumHeld, Addend, addend, addend_of, none_weighted, more_weighted, no_factor_held, weighted, AreHeld, factor_as_tree, held_number, held_wider}
-use Rattle.product_reduce.proofs.Shared.{nothing_held, put_before, both_true, IsFactorHeld, AreFactorsHeld, none_held, factor_held, term_held, product_of_values}
+use Rattle.product_reduce.proofs.Shared.{mul-le, false_from_ne_true, Fraction, one_fraction, is_zero_fraction, Tree, num, root, Trees, none, more, append, is_number, are_numbers, natural_of, value}
+use Rattle.product_reduce.proofs.Shared.{IsBelowAll, Rises, are_alike, Same, Term, Surd, term, surd_of, surd_one, surd_times, term_times, AreProper, value_proper, value_rises, number_words, Alike}
+use Rattle.product_reduce.proofs.Shared.{alike_from, alike_true, Same-trans, square_root, surd_times_assoc, surd_times-surd_one, Same-refl, Same-eq, Same-surd_times, root_above, mass_from, IsHeld}
+use Rattle.product_reduce.proofs.Shared.{IsSumHeld, Addend, addend, addend_of, none_weighted, more_weighted, no_factor_held, weighted, AreHeld, factor_as_tree, held_number, held_wider, nothing_held}
+use Rattle.product_reduce.proofs.Shared.{put_before, both_true, IsFactorHeld, AreFactorsHeld, none_held, factor_held, term_held, product_of_values}
 use Rattle.calc_algebra.proofs.SquareRootLaws.{square_from_scaled}
 use Rattle.calc_bits.specs.Denominators.{Parts, magnitude_over}
 use Rattle.calc_bits.proofs.{ClassMasses.{mass_same}, Held.{held_power, held_times}, MassLaws.{parts_scale, parts_times}, Quotients.{den_divides}, RootsAbove.{root_enough, root_least}}
@@ -103,10 +103,7 @@ last_held (more u (more v ts)) t (term_held p q k n f s x y) = two_more f (last_
 
 last_number : (ts : Trees) (t : Tree) → are_numbers (append ts (more t none)) ≡ true → (are_numbers ts ≡ true) × (is_number t ≡ true)
 last_number none t h = (refl, (both_true (is_number t) true h).0)
-last_number (more u ts) t h =
-    let b = both_true (is_number u) (are_numbers (append ts (more t none))) h in
-    let r = last_number ts t b.1 in
-    (and_from (is_number u) (are_numbers ts) b.0 r.0, r.1)
+last_number (more u ts) t h = grind (arith, last_number ts t)
 
 held_behind : (ts : Trees) (t : Tree) {k n p q : ℕ} → AreFactorsHeld ts k n → IsFactorHeld t p q → AreFactorsHeld (append ts (more t none)) (k + p) (n + q)
 held_behind none t {p = p} {q = q} none_held g = factor_held p q 0 0 g none_held (omega arith) (omega arith)

@@ -1,9 +1,9 @@
 -- The joint of two factors: its exponents, its nest and its load.
-use Rattle.std.proofs.{Common.{ℕ, zero, suc, ◌+◌, ◌≤◌, ◌<◌, max, ◌≡◌, inl, inr, Bool, true, false, ◌&&◌, not, if◌then◌else◌, refl, ap, ◌∙◌, arith}, lemmas.Bool.{true≢false}}
+use Rattle.std.proofs.{Common.{ℕ, zero, suc, ◌+◌, ◌≤◌, ◌<◌, max, ◌≡◌, Bool, true, false, ◌&&◌, not, if◌then◌else◌, refl, ap, arith}, lemmas.Bool.{true≢false}}
 use Rattle.std.specs.Prelude.{⊤}
-use Rattle.product_reduce.proofs.Shared.{Fraction, one_fraction, nest, nest_of, weight, weight_of_factors, load_of_factor, load_of_factors, is_number, IsNumber, is_opaque_exponent, is_whole_num}
-use Rattle.product_reduce.proofs.Shared.{is_reduced, HasForm, IsSumForm, base_of, Tree, num, add, mult, power, root, Trees, none, more, count, is_mult, number_words, number_test, reduced_parts}
-use Rattle.product_reduce.proofs.Shared.{removed, nth, exponent_of, joint, AllParts}
+use Rattle.product_reduce.proofs.Shared.{Fraction, one_fraction, nest, nest_of, weight, weight_of_factors, load_of_factor, load_of_factors, is_number, IsNumber, is_whole_num, is_reduced, HasForm}
+use Rattle.product_reduce.proofs.Shared.{IsSumForm, base_of, Tree, num, add, mult, power, root, Trees, none, more, count, is_mult, number_words, number_test, reduced_parts, removed, nth, exponent_of}
+use Rattle.product_reduce.proofs.Shared.{joint, AllParts}
 use Rattle.calc_measures.proofs.Weights.{some_weight}
 use Rattle.tree_room.proofs.PowerCounts.{power_no_number}
 use Rattle.coefficients.proofs.Forms.{own_form}
@@ -114,8 +114,7 @@ flat_load t m h = grind arith
 pub joint_load : (t u : Tree) → load_of_factor (joint t u) ≡ weight (base_of t)
 joint_load t u =
     let x = add (more (exponent_of t) (more (exponent_of u) none)) in
-    let n : is_number x ≡ false = sum_is_no_number (exponent_of t) (exponent_of u) (exponent_words t) (exponent_words u) in
-    flat_load (joint t u) refl (power_no_number (base_of t) x) ∙ ap (λ (k : Bool). weight (if k && true then power (base_of t) x else base_of t)) n
+    grind (arith, flat_load (joint t u) refl (power_no_number (base_of t) x), sum_is_no_number (exponent_of t) (exponent_of u) (exponent_words t) (exponent_words u))
 
 pub load_split : (at : ℕ) (ts : Trees) → at < count ts → load_of_factors ts ≡ load_of_factor (nth at ts) + load_of_factors (removed at ts)
 load_split at none l = absurd (omega arith)
@@ -127,8 +126,7 @@ load_split (suc at) (more t ts) l = omega (arith, load_split at ts (omega arith)
 formed_weight : (t : Tree) → HasForm t → 2 ≤ weight t
 formed_weight (root a) h = grind (arith, some_weight)
 formed_weight (power b e) h = omega (arith, some_weight b)
-formed_weight (mult none) (inl h) = absurd h
-formed_weight (mult none) (inr h) = absurd h.two
+formed_weight (mult none) h = grind arith
 formed_weight (mult (more t ts)) h = by (is_number (mult (more t ts))) (is_number t) (some_weight t)
   where
     by : (k l : Bool) → 1 ≤ weight t → 2 ≤ (if k then 2 else 1 + (if l then 2 else 0) + ((if l then 0 else weight t) + weight_of_factors ts))
