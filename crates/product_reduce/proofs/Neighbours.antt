@@ -1,6 +1,6 @@
 -- Neighbours among sorted factors, and what their bases tell of all factors.
 use Rattle.std.specs.Prelude.{IsSortedByKey, IsPermutation}
-use Rattle.std.proofs.{Common.{ℕ, zero, suc, ◌<◌, ◌+◌, ◌≡◌, Bool, true, false, not, ◌&&◌, if◌then◌else◌, refl, sym, ap, ◌∙◌, arith, add-one}, lemmas.Bool.{true≢false}}
+use Rattle.std.proofs.Common.{ℕ, zero, suc, ◌<◌, ◌+◌, ◌≡◌, Bool, true, false, not, ◌&&◌, if◌then◌else◌, refl, sym, ap, ◌∙◌, arith, add-one}
 use Rattle.product_reduce.proofs.Shared.{is_eq, is_lt, count_removed, and_parts, is_number, base_of, NoneIs, RisesBy, are_reduced, tree_cmp, Permuted, Permuted-sym, tree_cmp_total, Tree, Trees, none}
 use Rattle.product_reduce.proofs.Shared.{more, count, is_mult, list_of, nth, count_append, coefficient_before, is_partner, has_partner, have_partners, joint, IsJointAt, is_single, is_pair, IsPairAt}
 use Rattle.product_reduce.proofs.{Shared.{NoPairBetween, joined_pair}, Finished.{reduced_nth}, JointPlaces.{before_is, nth_behind, reduced_removed}}
@@ -19,11 +19,8 @@ apart_at zero (more t (more u ts)) l h = h.0.0
 apart_at (suc n) (more t ts) l h = apart_at n ts (omega arith) h.1
 
 pub pair_partners : (n : ℕ) (ts us : Trees) → IsPermutation (list_of ts) (list_of us) → IsPairAt n us → have_partners ts ≡ true
-pair_partners n ts us m p = by (have_partners ts) refl
-  where
-    by : (k : Bool) → have_partners ts ≡ k → k ≡ true
-    by true e = refl
-    by false e = absurd (true≢false (sym (partners_of_pair _ _ p.pair) ∙ apart_at n us p.within (apart_permuted (of_lists ts us m) (apart_words ts e))))
+pair_partners n ts us m p =
+    grind (arith, partners_of_pair (nth n us) (nth (suc n) us) p.pair, λ (e : have_partners ts ≡ false). apart_at n us p.within (apart_permuted (of_lists ts us m) (apart_words ts e)))
 
 -- ---- no pair tells that none has
 
