@@ -17,14 +17,7 @@ record IsAt (t : Tree) (n : ℕ) (ts : Trees) : Type 0 where
 partner_at : (t : Tree) (n : ℕ) (ts : Trees) → n < count ts → is_partner t (nth n ts) ≡ true → ((k : ℕ) → k < n → is_partner t (nth k ts) ≡ false) → IsAt t n ts
 partner_at t n none l e h = absurd (omega arith)
 partner_at t zero (more u ts) l e h = grind arith
-partner_at t (suc n) (more u ts) l e h =
-    let a = partner_at t n ts (omega arith) e (λ k m. h (suc k) (omega arith)) in
-    let d = h 0 (omega arith) in
-    record {
-      has = ap (λ (b : Bool). if b then true else has_partner t ts) d ∙ a.has;
-      is = ap (λ (b : Bool). if b then u else first_partner t ts) d ∙ a.is;
-      others = ap (λ (b : Bool). if b then ts else more u (without_partner t ts)) d ∙ ap (more u) a.others;
-    }
+partner_at t (suc n) (more u ts) l e h = grind (arith, partner_at t n ts (omega arith) e (λ k m. h (suc k) (omega arith)), h 0 (omega arith))
 
 -- ---- all factors
 
