@@ -1,5 +1,5 @@
 -- The factors of a product are gathered to what counts no more.
-use Rattle.std.proofs.Common.{◌≡◌, ℕ, ◌≤◌, max, Bool, true, false, refl, sym, ap, subst, arith}
+use Rattle.std.proofs.Common.{◌≡◌, ℕ, ◌≤◌, max, true, false, refl, sym, ap, subst, arith}
 use Rattle.product_reduce.proofs.Shared.{Tree, mult, Trees, none, more, append, has_undef, IsNumber, is_number, is_whole_num, base_of, NoneIs, are_reduced, Permuted, permuted_none, permuted_more}
 use Rattle.product_reduce.proofs.Shared.{number_words, counted, counted_among, factors_of, IsMonic, factors_monic, IsSorting, is_zero, children_of, numbers_among, product_count, appended}
 use Rattle.product_reduce.proofs.Shared.{flat_product, number_counts_one, AreOthers, IsWritten, IsWrittenProduct, opened, others_in, coefficient_before, coefficient_times, IsGathered}
@@ -41,7 +41,7 @@ written_counted : (c : Tree) (us : Trees) → is_number c ≡ true → AreOthers
 written_counted c us h o = grind (arith, number_counted, put_counted, number_words)
 
 pub finished_counted : (ts : Trees) (t : Tree) → are_reduced ts ≡ true → has_undef ts ≡ false → IsWrittenProduct ts t → counted t ≤ counted (mult ts)
-finished_counted ts t r d w = by (is_zero w.coefficient) refl
+finished_counted ts t r d w = grind (arith, w.zero, λ (e : is_zero w.coefficient ≡ false). of_written (w.written e), number_counts_one c number)
   where
     c : Tree
     c = w.coefficient
@@ -53,10 +53,6 @@ finished_counted ts t r d w = by (is_zero w.coefficient) refl
     of_written x =
         let m = of_lists (others_in (opened ts)) x.us x.sorted.moved in
         omega (arith, ap counted x.is, written_counted c x.us number (others_permuted m (others_are ts r d)), all_counted ts x.us m)
-
-    by : (b : Bool) → is_zero c ≡ b → counted t ≤ counted (mult ts)
-    by true e = omega (arith, ap counted (w.zero e), number_counts_one c number)
-    by false e = of_written (w.written e)
 
 pub gathered_counted : (ts : Trees) (t : Tree) → IsGathered ts t → counted_among (children_of t) ≤ counted_among ts
 gathered_counted ts t g =

@@ -51,9 +51,7 @@ pub joined_at : (i j : ℕ) (ts : Trees) → IsFirstPair i j ts → joined ts �
 joined_at i j none h = absurd (omega (arith, h.pair.within))
 joined_at zero zero (more t ts) h = absurd (omega (arith, h.pair.order))
 joined_at zero (suc j) (more t ts) h =
-    let a = partner_at t j ts (omega (arith, h.pair.within)) h.pair.partner (λ k l. h.pair.nearest (suc k) (omega arith) (omega arith)) in
-    ap (λ (b : Bool). if b then more (joint t (first_partner t ts)) (without_partner t ts) else more t (joined ts)) a.has
-    ∙ ap (λ (u : Tree). more (joint t u) (without_partner t ts)) a.is ∙ ap (more (joint t (nth j ts))) a.others
+    grind (arith, partner_at t j ts (omega (arith, h.pair.within)) h.pair.partner (λ k l. h.pair.nearest (suc k) (omega arith) (omega arith)))
 joined_at (suc i) zero (more t ts) h = absurd (omega (arith, h.pair.order))
 joined_at (suc i) (suc j) (more t ts) h =
     ap (λ (b : Bool). if b then more (joint t (first_partner t ts)) (without_partner t ts) else more t (joined ts))
