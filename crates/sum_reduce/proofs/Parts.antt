@@ -1,15 +1,11 @@
 -- The key of a term's part.
-use Rattle.std.proofs.Common.{ℕ, ◌≤◌, ◌≡◌, ◌≢◌, ◌⊎◌, inl, inr, eqb, cond, Bool, true, false, sym, ap, ◌∙◌, arith}
-use Rattle.sum_reduce.proofs.Shared.{ne_eqb, eq-eqb, is_number, split_product, product_tree, part_of, is_reduced, Tree, Trees, count, is_mult, coefficient_length, plain, children_of, IsExpression}
-use Rattle.sum_reduce.proofs.Shared.{Forest, tree_at}
+use Rattle.std.proofs.Common.{ℕ, ◌≤◌, ◌≡◌, eqb, cond, true, false, ap, ◌∙◌, arith}
+use Rattle.sum_reduce.proofs.Shared.{is_number, split_product, product_tree, part_of, is_reduced, Tree, Trees, count, is_mult, coefficient_length, plain, children_of, IsExpression, Forest, tree_at}
 use Rattle.coefficients.proofs.Lengths.{IsMeasured, long, measured, some_factors, product_part}
 use Rattle.node_order.specs.{declared.keys.Key.{Key}, Keys.{trees_behind, key_tree, IsKey}}
 
 whole_product : (t : Tree) → is_mult t ≡ true → 2 ≤ count (children_of t) → t ≡ product_tree (children_of t)
 whole_product t m l = grind arith
-
-zero_one_more : (n : ℕ) → (n ≡ 0) ⊎ ((n ≡ 1) ⊎ ((n ≢ 0) × (n ≢ 1)))
-zero_one_more n = grind arith
 
 -- what stands behind the coefficient
 behind_coefficient : (ts : Trees) → IsMeasured ts → 1 ≤ count (split_product ts).factors → trees_behind (coefficient_length ts) ts ≡ (split_product ts).factors
@@ -21,12 +17,7 @@ key_value t n m r h e =
     let l = long t m r in
     let some = some_factors t m r h in
     let is : product_tree (trees_behind n (children_of t)) ≡ part_of t = ap (λ (k : ℕ). product_tree (trees_behind k (children_of t))) e ∙ ap product_tree (behind_coefficient (children_of t) (measured t m r) some) ∙ product_part t m in
-    elim (zero_one_more n) [
-      | inl z ↦ ap (λ (b : Bool). cond b t (product_tree (trees_behind n (children_of t)))) (eq-eqb n 0 z) ∙ whole_product t m l.two
-          ∙ ap (λ (k : ℕ). product_tree (trees_behind k (children_of t))) (sym z) ∙ is
-      | inr (inl o) ↦ ap (λ (b : Bool). cond b t (product_tree (trees_behind n (children_of t)))) (ne_eqb n 0 (λ z. absurd (omega (arith, z, o)))) ∙ is
-      | inr (inr o) ↦ ap (λ (b : Bool). cond b t (product_tree (trees_behind n (children_of t)))) (ne_eqb n 0 o.0) ∙ is
-    ]
+    grind (arith, is, whole_product t m l.two)
 
 pub record IsPartKey (k : Key) (t : Tree) (f : Forest) : Type 0 where
   pub valid : IsKey k f
