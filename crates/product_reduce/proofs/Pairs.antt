@@ -54,9 +54,7 @@ joined_at zero (suc j) (more t ts) h =
     grind (arith, partner_at t j ts (omega (arith, h.pair.within)) h.pair.partner (λ k l. h.pair.nearest (suc k) (omega arith) (omega arith)))
 joined_at (suc i) zero (more t ts) h = absurd (omega (arith, h.pair.order))
 joined_at (suc i) (suc j) (more t ts) h =
-    ap (λ (b : Bool). if b then more (joint t (first_partner t ts)) (without_partner t ts) else more t (joined ts))
-    (no_partner t ts (λ k l. h.first 0 (omega arith) (suc k) (omega arith) (omega arith)))
-    ∙ ap (more t) (joined_at i j ts (behind_first i j t ts h))
+    grind (arith, no_partner t ts (λ k l. h.first 0 (omega arith) (suc k) (omega arith) (omega arith)), joined_at i j ts (behind_first i j t ts h))
 
 -- ---- one place more
 
