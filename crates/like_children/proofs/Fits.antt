@@ -145,5 +145,6 @@ product_fits q c ts zs h l m e k b = by (is_zero_fraction q) refl
 pub rational_fits : (q : Fraction) (ts : Trees) (zs : List Addend) (h l : ℕ) (o : Overflow) → IsMonic (add ts) → NamesPut (num q) (add ts) o → Overflows o
     → IsSumHeld (distributed (value (num q)) (addends (add ts)) ++ zs) h l → AreFewBits h l → ⊥
 rational_fits q ts zs h l o m n f k b =
-    let same : operation_fits (operation_of o.op) (value_of o.a) (value_of o.b) ≡ fraction_fits (times q (value_of o.b)) = λ i. operation_fits (operation_of (n.product i)) (n.first i) (value_of o.b) in
+    let same : operation_fits (operation_of o.op) (value_of o.a) (value_of o.b) ≡ fraction_fits (times q (value_of o.b)) =
+    λ i. operation_fits (operation_of (n.product i)) (n.first i) (value_of o.b) in
     true≢false (sym (product_fits q (value_of o.b) ts zs h l m n.second k b) ∙ sym same ∙ f)
