@@ -24,10 +24,12 @@ from pathlib import Path
 
 PROGRAM = "poincare"
 SOURCES = ("src", "specs", "proofs")
-# The memory that a proof takes, in bytes, but for few that take more for a while.
-LANE_BYTES = 4_500_000_000
+# The most memory that a proof takes, in bytes.
+LANE_BYTES = 3_000_000_000
 # More processes than this share no proof's searches any faster.
 MOST_JOBS = 4
+# A crate is late where the lines that wait for it, shared by nobody, are so many times those of all that is left, shared by all processors.
+LATE = 1.5
 
 
 def say(words):
@@ -132,7 +134,8 @@ class Build:
         self.crates, self.lanes = read_crates(root), count_lanes()
         waiting = lines_waiting(self.crates)
         self.left = sorted(self.crates.values(), key=lambda it: -waiting[it.name])
-        self.sums, self.ready, self.under_way, self.failed = {}, set(), set(), []
+        self.waiting, self.lines = waiting, {name: it.count_lines() for name, it in self.crates.items()}
+        self.sums, self.ready, self.under_way, self.failed = {}, set(), {}, []
         for it in self.crates.values():
             self.sums[it.name] = hashlib.sha256((kit.version + it.sum_over(self.sums)).encode()).hexdigest()
         self.called, self.changed, self.begun = set(), threading.Condition(), time.monotonic()
@@ -175,22 +178,34 @@ class Build:
     def can_begin(self):
         return [it for it in self.left if self.ready.issuperset(it.below)]
 
+    def is_late(self, crate):
+        lines_left = sum(lines for name, lines in self.lines.items() if name not in self.ready)
+        return self.waiting[crate.name] * self.lanes > LATE * lines_left
+
+    def jobs_for(self, found):
+        """The processes that the first of these crates gets, none where it has to wait. One that is late gets two, and waits for one
+        processor less."""
+        free = self.lanes - sum(self.under_way.values())
+        jobs = math.ceil(free / len(found))
+        if free >= 0 and self.lanes > 1 and self.is_late(found[0]):
+            jobs = max(jobs, 2)
+        return min(max(jobs, 0), MOST_JOBS)
+
     def take(self):
         """Waits for a crate that can be begun, and gives it with the processes that are left to it; None when no more come."""
         with self.changed:
             while self.left and not self.failed:
-                if found := self.can_begin():
+                found = self.can_begin()
+                if found and (jobs := self.jobs_for(found)):
                     self.left.remove(found[0])
-                    # No processor is left idle, though some have more than one process at times.
-                    jobs = math.ceil(self.lanes / (len(self.under_way) + len(found)))
-                    self.under_way.add(found[0].name)
-                    return found[0], min(jobs, MOST_JOBS)
+                    self.under_way[found[0].name] = jobs
+                    return found[0], jobs
                 self.changed.wait()
             return None
 
     def note(self, crate, status):
         """Notes how a crate's proof ended, and tells it."""
-        self.under_way.discard(crate.name)
+        del self.under_way[crate.name]
         if status:
             self.failed.append(crate.name)
             return
@@ -207,7 +222,7 @@ class Build:
 
     def run(self):
         """Builds the libraries and the program; whether all is proved."""
-        threads = [threading.Thread(target=self.work) for _ in range(self.lanes)]
+        threads = [threading.Thread(target=self.work) for _ in range(self.lanes + 1)]
         for it in threads:
             it.start()
         for it in threads:
