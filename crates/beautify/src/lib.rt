@@ -13,6 +13,3 @@ mod shares;
 mod sums;
 
 pub use faces::Faces;
-
-#[cfg(test)]
-mod tests;

@@ -16,6 +16,3 @@ pub use laws::{command_lines_ask_once, dumps_are_short};
 pub use numbers::{read_number, write_count};
 pub use parts::are_blanks;
 pub use reports::{write_after, write_forgot, write_no_breaker, write_pool_report, write_unknown};
-
-#[cfg(test)]
-mod tests;

@@ -11,6 +11,3 @@ pub use laws::texts_are_short;
 pub use place::{Place, level};
 pub use text::Text;
 pub use writing::{deciding_kind, write_leaf, write_text, write_tree};
-
-#[cfg(test)]
-mod tests;

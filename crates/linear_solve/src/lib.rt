@@ -20,6 +20,3 @@ pub use row::{EquationRow, NameRow, Row};
 pub use side_names::{Listed, NAME_LIMIT, NameList, in_array, names_in};
 pub use solution::{Line, Solution};
 pub use solving::solve;
-
-#[cfg(test)]
-mod tests;

@@ -11,6 +11,3 @@ pub use laws::{
     held_trees_have_the_entries, held_trees_stay, values_stay,
 };
 pub use table::NameTable;
-
-#[cfg(test)]
-mod tests;

@@ -11,6 +11,3 @@ mod sorting;
 pub use comparing::compare;
 pub use keys::{Key, compare_keys};
 pub use sorting::{Keys, sort_children};
-
-#[cfg(test)]
-mod tests;

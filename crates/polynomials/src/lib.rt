@@ -16,6 +16,3 @@ pub use degrees::degree;
 pub use insertion::insert;
 pub use term::Term;
 pub use unfit::Unfit;
-
-#[cfg(test)]
-mod tests;

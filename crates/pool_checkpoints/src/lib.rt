@@ -6,6 +6,3 @@ mod marks;
 
 pub use laws::{marks_nest, pools_are_restored};
 pub use marks::{Mark, commit, open_mark, roll_back};
-
-#[cfg(test)]
-mod tests;

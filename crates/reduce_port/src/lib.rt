@@ -8,6 +8,3 @@ mod step;
 pub use fault::ReduceFault;
 pub use reducer::Reducer;
 pub use step::Step;
-
-#[cfg(test)]
-mod tests;

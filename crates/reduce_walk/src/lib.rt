@@ -6,6 +6,3 @@ mod walking;
 
 pub use node_step::NodeStep;
 pub use walking::walk;
-
-#[cfg(test)]
-mod tests;

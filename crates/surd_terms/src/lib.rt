@@ -15,6 +15,3 @@ pub use products::{product, product_with, undivided};
 pub use roots::square_root;
 pub use sums::{Joined, join};
 pub use term::Term;
-
-#[cfg(test)]
-mod tests;

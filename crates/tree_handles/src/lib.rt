@@ -34,6 +34,3 @@ pub use releasing::{drop_behind, release};
 pub use siblings::{ChildIds, child_ids};
 pub use undef::{has_undefined_child, is_undefined, undefined};
 pub use visits::{Nodes, Visit, nodes_below, nodes_of};
-
-#[cfg(test)]
-mod tests;

@@ -24,8 +24,24 @@ $ --interrupt 0
 :after 1 = no breaker
 7 = 7";
 
-/// The place of the first row whose line has another answer, or is stopped by another breaker than the second. Those
-/// that tripped are dropped behind each line.
+/// Whether a line has the answer that is wanted, and is stopped by no other breaker than the second. Those that tripped are dropped
+/// behind it.
+fn is_answered<B: Breaker>(
+    session: &mut Session,
+    watch: &mut Watch<B>,
+    line: &str,
+    text: &str,
+) -> bool {
+    let answer = session.line(&DeepReducer, watch, line.as_bytes());
+    watch.sweep();
+    let by_the_second = match answer {
+        LineAnswer::Refused(Refusal::Interrupted { by }) => by == 1,
+        _ => true,
+    };
+    by_the_second && session.text() == text.as_bytes()
+}
+
+/// The place of the first row whose line is not answered so.
 fn first_other<B: Breaker>(
     alloc: Global,
     watch: &mut Watch<B>,
@@ -33,16 +49,8 @@ fn first_other<B: Breaker>(
 ) -> Result<Option<usize>, AllocError> {
     let mut session = Session::open(alloc, 32_768)?;
     for (place, row) in table.lines().enumerate() {
-        let Some((line, text)) = row.split_once(" = ") else {
-            return Ok(Some(place));
-        };
-        let answer = session.line(&DeepReducer, watch, line.as_bytes());
-        watch.sweep();
-        let by_the_second = match answer {
-            LineAnswer::Refused(Refusal::Interrupted { by }) => by == 1,
-            _ => true,
-        };
-        if !by_the_second || session.text() != text.as_bytes() {
+        let (line, text) = row.split_once(" = ").unwrap_or((row, ""));
+        if !is_answered(&mut session, watch, line, text) {
             return Ok(Some(place));
         }
     }

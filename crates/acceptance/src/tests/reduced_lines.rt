@@ -1,14 +1,16 @@
 //! Lines reduced, and interrupted at every check.
+mod numbers;
 mod tables;
 mod trials;
 
+use numbers::NUMBERS;
 use std::test::Fail;
 use tables::{CANCELLED, FACES, HALVES, POWERS, PRODUCTS, ROOTED, SUMS, SURDS, UNDEFINED, WIDE};
 use trials::{Outcome, first_other, first_other_node, first_uninterrupted};
 
 /// The tables of lines with their answers.
-const ANSWERED: [&str; 9] = [
-    SURDS, CANCELLED, UNDEFINED, POWERS, HALVES, ROOTED, PRODUCTS, SUMS, FACES,
+const ANSWERED: [&str; 10] = [
+    SURDS, CANCELLED, UNDEFINED, POWERS, HALVES, ROOTED, PRODUCTS, SUMS, FACES, NUMBERS,
 ];
 
 #[test]

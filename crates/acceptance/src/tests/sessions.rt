@@ -16,20 +16,36 @@ fn two_breakers(alloc: Global) -> Result<Watch<CountBreaker>, AllocError> {
     Ok(Watch::new(breakers))
 }
 
-/// The place of the first row that is not answered by its text.
-fn first_other(alloc: Global, table: &str) -> Result<Option<usize>, AllocError> {
+/// Whether a line of a session is answered by a text.
+fn is_answered(
+    session: &mut Session,
+    watch: &mut Watch<CountBreaker>,
+    line: &str,
+    text: &str,
+) -> bool {
+    session.line(&DeepReducer, watch, line.as_bytes());
+    watch.sweep();
+    session.text() == text.as_bytes()
+}
+
+/// Whether the rows of a session are answered by their texts.
+fn are_answered(alloc: Global, rows: &str) -> Result<bool, AllocError> {
     let mut session = Session::open(alloc, 32768)?;
     let mut watch = two_breakers(alloc)?;
-    for (place, row) in table.lines().enumerate() {
-        if let Some((line, text)) = row.split_once(" = ") {
-            session.line(&DeepReducer, &mut watch, line.as_bytes());
-            watch.sweep();
-            if session.text() != text.as_bytes() {
-                return Ok(Some(place));
-            }
-        } else {
-            session = Session::open(alloc, 32768)?;
-            watch = two_breakers(alloc)?;
+    for row in rows.lines() {
+        let (line, text) = row.split_once(" = ").unwrap_or((row, ""));
+        if !is_answered(&mut session, &mut watch, line, text) {
+            return Ok(false);
+        }
+    }
+    Ok(true)
+}
+
+/// The place of the first session whose rows are not answered by their texts.
+fn first_other(alloc: Global, table: &str) -> Result<Option<usize>, AllocError> {
+    for (place, rows) in table.split("\n\n").enumerate() {
+        if !are_answered(alloc, rows)? {
+            return Ok(Some(place));
         }
     }
     Ok(None)

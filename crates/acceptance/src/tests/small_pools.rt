@@ -9,7 +9,7 @@ use calc_session::{LineAnswer, Refusal, Session};
 use deep_reduce::DeepReducer;
 use std::alloc::{AllocError, Global};
 use std::test::Fail;
-use tables::{JOINED, REDUCED, ROOMS, SHOWN};
+use tables::{CALCULATED, JOINED, REDUCED, ROOMS, SHOWN};
 
 /// What became of a line in a pool.
 #[derive(Clone, Copy, Debug, PartialEq, Eq)]
@@ -77,7 +77,7 @@ fn first_other(alloc: Global, table: &str) -> Result<Option<usize>, AllocError> 
 
 #[test]
 fn small_pools_are_full(rt: HostRuntime) -> Result<(), Fail> {
-    for table in [REDUCED, SHOWN, JOINED] {
+    for table in [REDUCED, SHOWN, JOINED, CALCULATED] {
         let other = first_other(rt.alloc(), table)?;
         assert_eq!(rt; other, None, "{table}");
     }

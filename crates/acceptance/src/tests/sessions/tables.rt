@@ -267,4 +267,94 @@ ans = 2
 :expand y+1 = ! interrupted
 :expand 2^127 = ! not polynomial
 :expand 4^32×4^32 = ! overflow 18446744073709551616×18446744073709551616
-8 = 8";
+8 = 8
+
+:solve x+y-3=0;x-y-1=0 = x=2,y=1
+:solve 2×y+3×z-7=0;4×x-6×z+1=0;4×x+2×y-3×z-6=0 = x=-1/4+3×z/2,y=7/2-3×z/2,z free
+:solve 2×x-3×y+5×z+1=0;x+y+z-6=0;3×x-2×y+6×z+4=0 = none -1/9,-1/9,1/9
+:solve 9223372036854775783×x+9223372036854775643×y+9223372036854775549×z+1=0;9223372036854775507×x\
++9223372036854775433×y+9223372036854775421×z+2=0;9223372036854775417×x+9223372036854775399×y\
++9223372036854775351×z+3=0 = ! overflow \
+-9223372036854775643/9223372036854775783×682529530727253375650/304371277216207581519
+:solve x+2×y-1=0 = x=1-2×y,y free
+:solve 3+0×x=0 = none 1/3
+
+:expand 2 = 2
+:expand -2 = -2
+:expand x = x
+:expand x×x = x^2
+:expand (x+y)×2/2 = x+y
+:expand (x^2+2×x-2)^2 = 4-8×x+4×x^3+x^4
+:expand (x/2-2/3)^2 = 4/9-2×x/3+x^2/4
+:expand (x+1)^2-(x^2+x×2+1) = 0
+:expand (x+y)^5-(x+y)^2×(x+y)^3 = 0
+:expand (x+y)×((x+1)×(x-y))-(x-y)×(x+y)×(x+1) = 0
+:expand (a+b+c+d+e+f+g+h+i)^2 = 2×a×b+2×a×c+2×a×d+2×a×e+2×a×f+2×a×g+2×a×h+2×a×i+2×b×c+2×b×d+2×b×e+2×b×f+2×b×g\
++2×b×h+2×b×i+2×c×d+2×c×e+2×c×f+2×c×g+2×c×h+2×c×i+2×d×e+2×d×f+2×d×g+2×d×h+2×d×i+2×e×f+2×e×g+2×e×h+2×e×i+2×f×g\
++2×f×h+2×f×i+2×g×h+2×g×i+2×h×i+a^2+b^2+c^2+d^2+e^2+f^2+g^2+h^2+i^2
+:expand x/y = ! not polynomial
+:expand (x+1)^20-(x+1)^20 = 0
+:expand (x+y+z)^4 = 12×x×y×z^2+12×x×y^2×z+4×x×y^3+4×x×z^3+4×y×z^3+12×x^2×y×z+6×x^2×y^2+6×x^2×z^2+4×x^3×y+4×x^3×z+6×y^2×z^2+4×y^3×z+x^4+y^4+z^4
+:expand (x^32)^32-(x^16)^32×(x^16)^32 = 0
+:expand (((x^32)^8+y)^2)^2 = 4×x^256×y^3+6×x^512×y^2+4×x^768×y+x^1024+y^4
+:after 1 = after 1
+:expand (x+1)^2 = ! interrupted
+:after 1 = after 1
+:expand x = x
+
+:diff x √(√(√(√(√(√(√(√(x)))))))) = \
+1/(256×√(x)×√(√(x))×√(√(√(x)))×√(√(√(√(x))))×√(√(√(√(√(x)))))×√(√(√(√(√(√(x))))))×√(√(√(√(√(√(√(x)))))))×√(√(√(√(√(√(√(√(x)))))))))
+:diff x ((((((((x+1)^2+1)^2+1)^2+1)^2+1)^2+1)^2+1)^2+1) = 64×(1+(1+x)^2)×(1+(1+(1+x)^2)^2)×(1+(1+(1+(1\
++x)^2)^2)^2)×(1+(1+(1+(1+(1+x)^2)^2)^2)^2)×(1+(1+(1+(1+(1+(1+x)^2)^2)^2)^2)^2)×(1+(1+(1+(1+(1+(1+(1\
++x)^2)^2)^2)^2)^2)^2)×(2+2×x)
+:diff x x^3/3-x^2/2+x = 1-x+x^2
+:diff x (x+y)×(x-y) = 2×x
+:diff x 2^x = ! no derivative
+:diff x √(x^2+1) = x/√(1+x^2)
+:diff x (x^2+1)^-3 = -6×x/(1+x^2)^4
+:diff x x^(1/2) = ! no derivative
+:diff x undef = 0
+:diff x -(x-y) = -1
+
+:pool = pool 16/32768 nodes 1 trees 1
+\x20:pool  = pool 16/32768 nodes 1 trees 1
+:forget x = no x
+:forget \t ans  = ! reserved
+:after 007 = after 7
+:after 00000000000000000007 = after 7
+:after 18446744073709551615 = after 18446744073709551615
+:after 18446744073709551616 = ! command
+:after 000000000000000000007 = ! command
+:after -1 = ! command
+:after = ! command
+:after3 = ! command
+:pool x = ! command
+: pool = ! command
+:POOL = ! command
+: = ! command
+:forget = ! command
+:forget 1 = ! command
+:forget sqrt = ! command
+:forget abcdefgh = ! command
+:forget x y = ! command
+:diff x x^3 = 3×x^2
+\t:diff \t a1  2 ? = ! character 16
+:diff x :pool = ! character 9
+:diff = ! command
+:diff x = ! command
+:diff x  = ! command
+:diff x+1 = ! command
+:diff 1 x = ! command
+:diff sqrt x = ! command
+:diff abcdefgh x = ! command
+:diffx x = ! command
+:solve x=1;y = ! command
+:solve ;  = ! command
+:solve = ! command
+:solve  = ! command
+:solvex = ! command
+:expand (x+1)^2 = 1+2×x+x^2
+:expand = ! command
+:expand(x) = ! command
+:expandx = ! command
+:pooled = ! command";

@@ -23,7 +23,12 @@ x+√(2)×x = (1+√(2))×x\n\
 0.1+0.2 = 3/10\n\
 x^(y+z)×x^(y-z) = x^(2×y)\n\
 ((x^a)^b)^c = ((x^a)^b)^c\n\
-x/(y-y) = undef";
+x/(y-y) = undef\n\
+√(2)×x+x+a+2×b+3×c = a+2×b+3×c+(1+√(2))×x\n\
+√(2)+√(3)+2×b+3×c+2×d = √(2)+√(3)+2×b+3×c+2×d\n\
+(1+y)+x+y = 1+x+2×y\n\
+y+x+y = x+2×y\n\
+x+1-x = 1";
 
 /// Lines whose answers are sums, fractions and powers with names.
 pub const SHOWN: &str = "\
@@ -47,6 +52,17 @@ a-(b-(c-d)) = a-b+c-d\n\
 -x/2 = -x/2\n\
 (x/y)^-2 = y^2/x^2\n\
 a+b+c+d+e+f+g+h = a+b+c+d+e+f+g+h";
+
+/// Commands that place trees: derivatives, expansions and solutions.
+pub const CALCULATED: &str = "\
+:diff x x^2×y/(1+x) = (2×x×y×(1+x)-x^2×y)/(1+x)^2\n\
+:diff x √(x^2+1) = x/√(1+x^2)\n\
+:diff x (x^2+1)^-3 = -6×x/(1+x^2)^4\n\
+:expand (x+y)^3 = 3×x×y^2+3×x^2×y+x^3+y^3\n\
+:expand (x+1)×(x-y) = x-y-x×y+x^2\n\
+:expand (a+b+c+d+e)×(f+g+h+i)-a×f = \
+a×g+a×h+a×i+b×f+b×g+b×h+b×i+c×f+c×g+c×h+c×i+d×f+d×g+d×h+d×i+e×f+e×g+e×h+e×i\n\
+:solve x+2y=1;y-z=2 = x=-3-2×z,y=2+z,z free";
 
 /// Products whose factors are joined: bases that come twice and three times in scattered orders; joints that become Numbers,
 /// products and other bases that are there already; exponents that cancel.

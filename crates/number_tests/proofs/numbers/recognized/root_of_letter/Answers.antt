@@ -1,5 +1,0 @@
-use Rattle.number_tests.proofs.Shared.{given_rest, gives_as}
-use Rattle.number_tests.proofs.numbers.recognized.root_of_letter.Goals as goal
-
-pub returns-clause-ok : goal.returns-clause-ok
-returns-clause-ok c = gives_as c.in_ok-tree.ensures.ok (given_rest c.in_ok-radicand.ensures.ok) (λ t e. tt)
