@@ -1,5 +1,6 @@
 mod boxed_breakers;
 mod fixtures;
+mod product_steps;
 mod program_rows;
 mod reduced_lines;
 mod round_trips;

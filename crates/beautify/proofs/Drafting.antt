@@ -1,11 +1,9 @@
 -- Nodes that are written one behind another, and become one tree.
-use Rattle.beautify.proofs.Shared.{inl, inr, ◌≡◌, ◌∙◌, ℕ, suc, ◌≤◌, List, [], ◌∷◌, ◌++◌, length, Option, None, Some, refl, sym, ap, subst, arith, true, false}
-use Rattle.beautify.proofs.Shared.{Bool, cond, eqb, length-append, eq-eqb, Payload, Tree, Trees, none, more, count, grown, takes, plains, State, Forest, Label, empty, tree, join, arity}
-use Rattle.beautify.proofs.Shared.{first_trees, rest_trees, one_tree, root_id, Ends, Gives, Represents, has_root, join_assoc, all-first_trees, all-rest_trees, gives, forest, IsDraft, Written}
-use Rattle.beautify.proofs.Shared.{Noted, AreNew, AreFound, alone_in, notes_of, spelled, with_written, first, behind, by_test, IsWhole, IsOnce, join-empty, count-plains}
-use Rattle.std.specs.Prelude.{IfSome, ◌⊎◌}
-use Rattle.tree_handles.proofs.{Adopting.behind_there, Forests.arity-first_trees, Roots.{root-left, root-right}}
-use Rattle.tree_handles.specs.Roots.{adopted, behind_root}
+use Rattle.beautify.proofs.Shared.{adopted_there, inl, inr, ◌≡◌, ◌∙◌, ℕ, suc, ◌≤◌, List, [], ◌∷◌, ◌++◌, length, Option, None, Some, refl, sym, ap, subst, arith, true, false, Bool, cond, eqb}
+use Rattle.beautify.proofs.Shared.{length-append, eq-eqb, Payload, Tree, Trees, none, more, count, grown, takes, plains, State, Forest, Label, empty, tree, join, arity, first_trees, rest_trees}
+use Rattle.beautify.proofs.Shared.{one_tree, root_id, Ends, Gives, Represents, has_root, join_assoc, all-first_trees, all-rest_trees, gives, forest, IsDraft, Written, Noted, AreNew, AreFound}
+use Rattle.beautify.proofs.Shared.{alone_in, notes_of, spelled, with_written, first, behind, by_test, IsWhole, IsOnce, join-empty, count-plains, IfSome, ◌⊎◌, behind_there, arity-first_trees}
+use Rattle.beautify.proofs.Shared.{root-left, root-right, adopted, behind_root}
 
 -- one more node
 pub written : {base : Forest} {ts us : Trees} {notes : List Noted} {s t : State} {i : ℕ} {x : Payload} (n : ℕ) → IsDraft base ts (more (grown x (first n us)) (behind n us)) notes s → Ends i (one_tree i x empty) (forest s) (forest t) → takes x n ≡ true → n ≤ count us
@@ -31,12 +29,6 @@ plains-first n f = refl
 plains-rest : (n : ℕ) (f : Forest) → plains (rest_trees n f) ≡ behind n (plains f)
 plains-rest (suc n) (tree l k r) = plains-rest n r
 plains-rest n f = refl
-
-adopted_there : (i n : ℕ) (f r k : Forest) (l : Label) → has_root i f ≡ false → l.id ≡ i → adopted i n (join f (tree l k r)) ≡ join f (tree l (join k (first_trees n r)) (rest_trees n r))
-adopted_there i n empty r k l h e = ap (λ (t : Bool). cond t (tree l (join k (first_trees n r)) (rest_trees n r)) (tree l k (adopted i n r))) (eq-eqb l.id i e)
-adopted_there i n (tree m j s) r k l h e =
-    by_test (λ t. cond t true (has_root i s) ≡ false → cond t (tree m (join j (first_trees n (join s (tree l k r)))) (rest_trees n (join s (tree l k r)))) (tree m j (adopted i n (join s (tree l k r)))) ≡ tree m j (join s (tree l (join k (first_trees n r)) (rest_trees n r)))) (eqb m.id i)
-    (λ q z. absurd cc) (λ q z. ap (λ (x : Forest). tree m j x) (adopted_there i n s r k l z e)) h
 
 -- the first nodes stand alone, and the others are trees already, the first of which has this root
 pub record IsJoining (base : Forest) (ts : Trees) (notes : List Noted) (f : Forest) (root : Option ℕ) : Type 0 where

@@ -1,15 +1,13 @@
 -- A face keeps each meaning of its tree.
-use Rattle.beautify.proofs.Shared.{◌≡◌, ℕ, zero, suc, ◌*◌, ◌<◌, ◌++◌, [], ℤ, pos, negsuc, nat_abs, Bool, true, false, not, refl, sym, ap, ◌∙◌, arith, subst}
-use Rattle.beautify.proofs.Shared.{append_assoc, append-nil, inl, inr, ⊤, int_is_negative, parts, diffs, eq_diff, Fraction, lowest, times, whole_fraction, minus_one_fraction, lowest_parts}
-use Rattle.beautify.proofs.Shared.{same_lowest, times_lowest, den_pos, mul_pos, Tree, num, symbol, undef, add, mult, power, root, neg, sub, div, Trees, none, more, AllParts, AllPartsOf, is_num}
-use Rattle.beautify.proofs.Shared.{whole_num, Surd, surd_of, surd_one, surd_scale, surd_times, surd_power, Assignment, Means, MeansSum, MeansProduct, IsPower, IsWholePower, SoFar, single}
-use Rattle.beautify.proofs.Shared.{summed, as_tree, face, has_minus, with_minus, unsigned_face, unless_one, product_of, fraction_of, power_below, exponent_below, below_zero}
-use Rattle.beautify.proofs.Shared.{factor_above, factor_below, factors_above, factors_below, face_of_sum, next_term, next_terms, IsTerm, none_is, split_product, is_reduced, NoneIs, HasForm}
-use Rattle.beautify.proofs.{Shared.{IsReduced, append, reduced_words, AllParts-map, ints, and_parts, one_fraction, is_number}, Trees.{unless_one_test, power_below_test}}
-use Rattle.std.proofs.Common.{◌*ℤ◌}
-use Rattle.calc_algebra.proofs.SurdLaws.{Agree, Agree-refl, Agree-sym, Agree-trans, Agree-eq, Agree-Same, Agree-append, Agree-surd_times, Agree-surd_times_right, surd_times_assoc}
-use Rattle.calc_algebra.proofs.{SurdLaws.{surd_times-surd_one, surd_times-one, surd_times_left_comm, surd_times-surd_of, inverse_times, inverse_power}, TermLaws.Same-refl}
-use Rattle.calc_algebra.proofs.{SquareClassLaws.Same-Agree, MeaningLaws.Means-Same, PowerRewrites.exponent_is}
+use Rattle.beautify.proofs.Shared.{◌≡◌, ℕ, zero, suc, ◌*◌, ◌<◌, ◌++◌, [], ℤ, pos, negsuc, nat_abs, Bool, true, false, not, refl, sym, ap, ◌∙◌, arith, subst, append_assoc, append-nil, inl, inr, ⊤}
+use Rattle.beautify.proofs.Shared.{int_is_negative, parts, diffs, eq_diff, Fraction, lowest, times, whole_fraction, minus_one_fraction, lowest_parts, same_lowest, times_lowest, den_pos, mul_pos, Tree}
+use Rattle.beautify.proofs.Shared.{num, symbol, undef, add, mult, power, root, neg, sub, div, Trees, none, more, AllParts, AllPartsOf, is_num, whole_num, Surd, surd_of, surd_one, surd_scale}
+use Rattle.beautify.proofs.Shared.{surd_times, surd_power, Assignment, Means, MeansSum, MeansProduct, IsPower, IsWholePower, SoFar, single, summed, as_tree, face, has_minus, with_minus, unsigned_face}
+use Rattle.beautify.proofs.Shared.{unless_one, product_of, fraction_of, power_below, exponent_below, below_zero, factor_above, factor_below, factors_above, factors_below, face_of_sum, next_term}
+use Rattle.beautify.proofs.Shared.{next_terms, IsTerm, none_is, split_product, is_reduced, NoneIs, HasForm, IsReduced, append, reduced_words, AllParts-map, ints, and_parts, one_fraction, is_number}
+use Rattle.beautify.proofs.Shared.{◌*ℤ◌, Agree, Agree-refl, Agree-sym, Agree-trans, Agree-eq, Agree-Same, Agree-append, Agree-surd_times, Agree-surd_times_right, surd_times_assoc, surd_times-surd_one}
+use Rattle.beautify.proofs.Shared.{surd_times-one, surd_times_left_comm, surd_times-surd_of, inverse_times, inverse_power, Same-refl, Same-Agree, Means-Same, exponent_is}
+use Rattle.beautify.proofs.Trees.{unless_one_test, power_below_test}
 
 -- in each product, no factor but the first is a rational
 abbrev pub LeadsOnly : Tree → Type 0

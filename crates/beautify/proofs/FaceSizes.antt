@@ -1,11 +1,8 @@
 -- The face of a reduced tree is no smaller than a leaf.
-use Rattle.std.proofs.Common.{◌≡◌, ℕ, ◌≤◌, Bool, true, false, arith}
-use Rattle.std.specs.Prelude.{⊤}
-use Rattle.beautify.proofs.Shared.{is_reduced, face, face_of_sum, factor_above, factors_above, fraction_of, has_minus, next_term, next_terms, unless_one, unsigned_face, with_minus, SoFar, as_tree}
-use Rattle.beautify.proofs.{Shared.{Tree, add, power, Trees, none, more, append, AllParts, AllPartsOf, HasTwo, is_undef, size, least_size}, Showables.{reduced_showable}, Sizes.sizes-append}
-use Rattle.beautify.proofs.Resolving.{own_part}
-use Rattle.beautify.specs.Showing.{AreFactors, IsFactor, IsShowable}
-use Rattle.calc_language.specs.Grammar.{plus_term}
+use Rattle.beautify.proofs.Shared.{◌≡◌, ℕ, ◌≤◌, Bool, true, false, arith, ⊤, is_reduced, face, face_of_sum, factor_above, factors_above, fraction_of, has_minus, next_term, next_terms, unless_one}
+use Rattle.beautify.proofs.Shared.{unsigned_face, with_minus, SoFar, as_tree, Tree, add, power, Trees, none, more, append, AllParts, AllPartsOf, HasTwo, is_undef, size, least_size, AreFactors}
+use Rattle.beautify.proofs.{Shared.{IsFactor, IsShowable, plus_term}, Showables.{reduced_showable}, Resolving.{own_part}}
+use Rattle.calc_terms.proofs.SmallLaws.{sizes_append as sizes-append}
 
 signed_least : (b : Bool) (t : Tree) → 16 ≤ size t → 16 ≤ size (with_minus b t)
 signed_least b t h = grind arith

@@ -1,15 +1,10 @@
 -- The face of a reduced tree: it can be written, has no new name, and its text reads as it.
-use Rattle.std.proofs.Common.{◌≡◌, ℕ, zero, suc, nat_abs, inl, inr, List, [], ◌∷◌, Bool, true, false, refl, sym, ap, ◌∙◌, subst, arith}
-use Rattle.std.specs.Prelude.{Contains, ⊤}
-use Rattle.beautify.proofs.Shared.{Tree, num, symbol, undef, add, mult, power, root, neg, sub, div, Trees, none, more, append, AllParts, AllPartsOf, is_mult, is_undef, whole_num, HasTwo, IsComplete}
-use Rattle.beautify.proofs.Shared.{AreComplete, SoFar, single, summed, as_tree, face, has_minus, with_minus, unsigned_face, unless_one, product_of, fraction_of, power_below}
-use Rattle.beautify.proofs.Shared.{exponent_below, factor_above, factor_below, factors_above, factors_below, face_of_sum, next_term, next_terms, IsTerm, is_reduced, NoneIs, HasForm, IsReduced}
-use Rattle.beautify.proofs.{Shared.{reduced_words, AllParts-zip}, Trees.{unless_one_by, power_below_by}}
-use Rattle.calc_terms.specs.{Name.{is_name}, Trees.{names, names_of}}
-use Rattle.calc_algebra.proofs.Names.{Within, within_both, within_left, within_none, within_right, within_trans}
-use Rattle.calc_algebra.specs.Rewritings.{HasNoNewName}
-use Rattle.calc_language.specs.{Texts.{text, IsWritable, AreWritable, IsNamed, HasNames}, Reads.{Reads}}
-use Rattle.calc_language.proofs.ReadLaws.{text_reads}
+use Rattle.beautify.proofs.Shared.{◌≡◌, ℕ, zero, suc, nat_abs, inl, inr, List, [], ◌∷◌, Bool, true, false, refl, sym, ap, ◌∙◌, subst, arith, Contains, ⊤, Tree, num, symbol, undef, add, mult, power}
+use Rattle.beautify.proofs.Shared.{root, neg, sub, div, Trees, none, more, append, AllParts, AllPartsOf, is_mult, is_undef, whole_num, HasTwo, IsComplete, AreComplete, SoFar, single, summed, as_tree}
+use Rattle.beautify.proofs.Shared.{face, has_minus, with_minus, unsigned_face, unless_one, product_of, fraction_of, power_below, exponent_below, factor_above, factor_below, factors_above}
+use Rattle.beautify.proofs.Shared.{factors_below, face_of_sum, next_term, next_terms, IsTerm, is_reduced, NoneIs, HasForm, IsReduced, reduced_words, AllParts-zip, is_name, names, names_of, Within}
+use Rattle.beautify.proofs.Shared.{within_both, within_left, within_none, within_right, within_trans, HasNoNewName, text, IsWritable, AreWritable, IsNamed, HasNames, Reads, text_reads}
+use Rattle.beautify.proofs.Trees.{unless_one_by, power_below_by}
 
 module _ (known : List (List ℕ)) where
   -- what the face of a tree asks of each of its nodes

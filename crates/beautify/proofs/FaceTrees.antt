@@ -1,7 +1,6 @@
 -- The face in the place of its tree.
-use Rattle.beautify.proofs.Shared.{◌≡◌, ◌∙◌, ℕ, [], ◌∷◌, sym, ap, subst, true, Tree, face, is_reduced, KeepsMeanings, Forest, join, join_assoc, IsHanded, Gives, Ends, Starts}
-use Rattle.beautify.proofs.{Shared.{KeepsFront, without_root}, FaceLaws.reduced_face_means}
-use Rattle.tree_handles.proofs.Lasts.{ends_without}
+use Rattle.beautify.proofs.Shared.{◌≡◌, ◌∙◌, ℕ, [], ◌∷◌, sym, ap, subst, true, Tree, face, is_reduced, KeepsMeanings, Forest, join, join_assoc, IsHanded, Gives, Ends, Starts, KeepsFront, without_root}
+use Rattle.beautify.proofs.{Shared.{ends_without}, FaceLaws.{reduced_face_means}}
 
 pub face_keeps : (t : Tree) → is_reduced t ≡ true → KeepsMeanings t (face t)
 face_keeps t h = record { means = λ f once v m. reduced_face_means t h f v m }

@@ -10,7 +10,6 @@ pub mod Steps
 pub mod FaceTrees
 pub mod Showables
 pub mod Signs
-pub mod Examples
 pub mod FaceLaws
 pub mod FaceTexts
 pub mod FaceSizes

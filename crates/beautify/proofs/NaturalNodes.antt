@@ -1,10 +1,9 @@
 -- The rationals of a tree, node by node.
-use Rattle.beautify.proofs.Shared.{◌≡◌, ℕ, List, [], ◌∷◌, ◌++◌, ℤ, Bool, true, false, not, ◌==◌, refl, sym, ap, ◌∙◌, arith, is_natural, has_natural_numbers}
-use Rattle.beautify.proofs.Shared.{holds_natural, all_parts, all_parts_of, Node, int_is_negative, Payload, kind_of_payload, Trees, count, Kind, Visit, flatten-join, seen, found-join, visit_here}
-use Rattle.beautify.proofs.Shared.{visits_left, no_visit, one_at, by_test, alone, count-plains, nth, grown, compound, plains, plain, takes, takes_kind, AllExpressions, IsExpression, Forest}
-use Rattle.beautify.proofs.Shared.{empty, tree, join, flatten, root_payload, holds, payload_in, tree_at, eqb-true, eq-eqb}
-use Rattle.std.proofs.Common.{◌&&◌}
-use Rattle.tree_handles.specs.Visits.{visits_of, visit_at, AreFound}
+use Rattle.beautify.proofs.Shared.{and_true, ◌≡◌, ℕ, List, [], ◌∷◌, ◌++◌, ℤ, Bool, true, false, not, ◌==◌, refl, sym, ap, ◌∙◌, arith, is_natural, has_natural_numbers, holds_natural, all_parts}
+use Rattle.beautify.proofs.Shared.{all_parts_of, Node, int_is_negative, Payload, kind_of_payload, Trees, count, Kind, Visit, flatten-join, seen, found-join, visit_here, visits_left, no_visit, one_at}
+use Rattle.beautify.proofs.Shared.{by_test, alone, count-plains, nth, grown, compound, plains, plain, takes, takes_kind, AllExpressions, IsExpression, Forest, empty, tree, join, flatten, root_payload}
+use Rattle.beautify.proofs.Shared.{holds, payload_in, tree_at, eqb-true, eq-eqb, ◌&&◌, visits_of, visit_at}
+use Rattle.tree_handles.specs.Visits.{AreFound}
 use Rattle.calc_terms.specs.declared.kind.Kind.TheVariants as kind
 
 -- the same of a list of nodes
@@ -14,9 +13,6 @@ hold_naturals (n ∷ ns) = holds_natural n.payload && hold_naturals ns
 
 and_assoc : (a b c : Bool) → ((a && b) && c) ≡ (a && (b && c))
 and_assoc a b c = grind arith
-
-and_true : (a : Bool) → (a && true) ≡ a
-and_true a = grind arith
 
 hold-append : (ns ms : List Node) → hold_naturals (ns ++ ms) ≡ (hold_naturals ns && hold_naturals ms)
 hold-append [] ms = refl

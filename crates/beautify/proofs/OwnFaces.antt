@@ -2,10 +2,10 @@
 use Rattle.beautify.proofs.Shared.{◌≡◌, ℕ, ℤ, pos, negsuc, zero, suc, nat_abs, true, false, not, inl, inr, refl, sym, ap, ◌∙◌, arith, ⊤, is_natural, has_natural_numbers, reduced_words, IsTerm}
 use Rattle.beautify.proofs.Shared.{all_parts_of, none_is, is_reduced, HasForm, IsReduced, IsFrontForm, face, has_minus, with_minus, unsigned_face, unless_one, product_of, fraction_of, power_below}
 use Rattle.beautify.proofs.Shared.{exponent_below, below_zero, factor_above, factor_below, factors_above, factors_below, face_of_sum, next_terms, summed, as_tree, Fraction, whole_fraction}
-use Rattle.beautify.proofs.Shared.{int_is_negative, Tree, num, symbol, undef, add, mult, power, root, Trees, none, more, append, AllParts, AllPartsOf, HasTwo, is_num, whole_num}
-use Rattle.beautify.proofs.{Shared.{append-none, and_parts, eqb-true, one_fraction}, FaceLaws.form_leads, Showables.{first_part, formed, two_terms, two_factors}, Trees.{append_assoc, unless_one_test}}
-use Rattle.std.specs.Prelude.{◌≢◌}
-use Rattle.calc_algebra.proofs.NumberRewrites.{fraction_whole}
+use Rattle.beautify.proofs.Shared.{int_is_negative, Tree, num, symbol, undef, add, mult, power, root, Trees, none, more, append, AllParts, AllPartsOf, HasTwo, is_num, whole_num, append-none}
+use Rattle.beautify.proofs.{Shared.{and_parts, eqb-true, one_fraction, ◌≢◌, fraction_whole}, FaceLaws.{form_leads}, Showables.{formed, two_terms, two_factors}, Trees.{unless_one_test}}
+use Rattle.calc_algebra.proofs.SmallLaws.{own_form as first_part}
+use Rattle.calc_terms.proofs.SmallLaws.{append_assoc}
 
 -- ---- whole numbers
 

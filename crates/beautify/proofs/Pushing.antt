@@ -1,8 +1,7 @@
 -- Lists of what is still to be written.
-use Rattle.beautify.proofs.Shared.{◌≡◌, ◌∙◌, ℕ, ◌+◌, ◌*◌, ◌≤◌, List, [], ◌∷◌, ◌++◌, length, refl, sym, ap, subst, arith, Tree, Trees, none, AllParts, plain}
-use Rattle.beautify.proofs.Shared.{IsExpression, Forest, join, tree_at, IsShowable, Form, Pending, Divisor, Part, Over, One, Owes, AreReady}
-use Rattle.beautify.proofs.Shared.{IsReady, IsReadyPart, TakesForm, with_next, owed_before, next_room, form_room, rooms, least_size}
-use Rattle.tree_handles.proofs.Joins.{holds-left, tree_at-join_left}
+use Rattle.beautify.proofs.Shared.{◌≡◌, ◌∙◌, ℕ, ◌+◌, ◌*◌, ◌≤◌, List, [], ◌∷◌, ◌++◌, length, refl, sym, ap, subst, arith, Tree, Trees, none, AllParts, plain, IsExpression, Forest, join, tree_at}
+use Rattle.beautify.proofs.Shared.{IsShowable, Form, Pending, Divisor, Part, Over, One, Owes, AreReady, IsReady, IsReadyPart, TakesForm, with_next, owed_before, next_room, form_room, rooms}
+use Rattle.beautify.proofs.Shared.{least_size, holds-left, tree_at-join_left}
 
 owed-append : (ps qs : List Pending) (f : Forest) (us : Trees) → owed_before (ps ++ qs) f us ≡ owed_before qs f (owed_before ps f us)
 owed-append [] qs f us = refl

@@ -1,12 +1,11 @@
 -- Faces of single nodes over the faces of their children, and their bytes.
 use Rattle.beautify.proofs.Shared.{◌≡◌, ◌∙◌, ◌==◌, if◌then◌else◌, None, Some, ℕ, zero, suc, ◌+◌, ◌*◌, ◌<◌, ◌≤◌, nat_abs, refl, sym, ap, subst, arith, true, false, Bool, Tree, Trees, Fraction}
-use Rattle.beautify.proofs.Shared.{has_minus, with_minus, is_symbol, face_of_sum, Part, Numerator, Denominator, num, power, root, mult, add, div, none, more, append, count, size, sizes, nth}
-use Rattle.beautify.proofs.Shared.{plain, children_of, root_kind, whole_num, AllParts, AllPartsOf, HasTwo, is_num, num_least, IsExpression, Forest, tree_at, Form, Face, Unsigned, Divisor, IsReadyPart}
+use Rattle.beautify.proofs.Shared.{has_minus, with_minus, is_symbol, face_of_sum, Part, Numerator, Denominator, num, power, root, mult, add, div, none, more, append, count, size, sizes, nth, plain}
+use Rattle.beautify.proofs.Shared.{children_of, root_kind, whole_num, AllParts, AllPartsOf, HasTwo, is_num, num_least, IsExpression, Forest, tree_at, Form, Face, Unsigned, Divisor, IsReadyPart}
 use Rattle.beautify.proofs.Shared.{IsShowable, IsFactor, AreFactors, first, behind, face, unsigned_face, exponent_below, stands_below, divisor_of, product_of, fraction_of, unless_one, numerator_of}
 use Rattle.beautify.proofs.Shared.{denominator_of, factor_above, factor_below, factors_above, factors_below, form_room, part_room, part_above, part_below, share_room, Terms, Above, Below, least_size}
-use Rattle.beautify.proofs.{Sizes.eight_each, Trees.{unless_one_by, unless_one_test, first-append, behind-append}}
-use Rattle.calc_terms.specs.{Kind.size_by_form, Short.is_short}
-use Rattle.calc_terms.proofs.ShortForm.{short_whole}
+use Rattle.beautify.proofs.{Shared.{size_by_form, is_short, short_whole}, Sizes.{eight_each}, Trees.{unless_one_by, unless_one_test, first-append, behind-append}}
+use Rattle.calc_terms.proofs.SmallLaws.{two_count as two_or_more}
 use Rattle.calc_terms.specs.declared.kind.Kind.TheVariants as kind
 
 -- ---- children
@@ -165,16 +164,9 @@ few_below : (ts : Trees) → AreFactors ts → count (factors_below ts) ≤ coun
 few_below none h = omega arith
 few_below (more t ts) h = omega (arith, one_below t (factors_below ts) h.0, few_below ts h.1)
 
-pub no_trees : (ts : Trees) → count ts ≡ 0 → ts ≡ none
-no_trees none h = refl
-no_trees (more t ts) h = absurd (omega arith)
-
 -- the first trees by their number
 pub product_first : (n : ℕ) (ts us : Trees) → n ≡ count ts → more (product_of (first n (append ts us))) (behind n (append ts us)) ≡ more (product_of ts) us
 product_first n ts us e = rw (e, first-append ts us, behind-append ts us) refl
-
-two_or_more : (ts : Trees) → HasTwo ts → 2 ≤ count ts
-two_or_more ts h = grind arith
 
 fraction_parted : (above below : Trees) → 0 < count below → div (product_of above) (product_of below) ≡ fraction_of above below
 fraction_parted above none h = absurd (omega arith)

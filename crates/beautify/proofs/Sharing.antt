@@ -1,12 +1,12 @@
 -- What the children of a node put into its face, pushed one after another and turned round.
-use Rattle.beautify.proofs.Shared.{◌≡◌, ◌∙◌, ℕ, suc, ◌+◌, ◌-◌, ◌<◌, ◌≤◌, ◌==◌, if◌then◌else◌, List, [], ◌∷◌, ◌++◌, length, Option, None, Some, refl, sym, ap, subst, arith, true, false, Bool}
-use Rattle.beautify.proofs.Shared.{nat_abs, append_assoc as list_assoc, append-nil, ⊤, length-append, append-none, children_of, TakesForm, in_form, IsReadyPart, divisor_of, numerator_of}
-use Rattle.beautify.proofs.Shared.{denominator_of, is_num, root_kind, form_room, Tree, Trees, num, none, more, append, count, nth, plain, AllParts, AllPartsOf, whole_num}
-use Rattle.beautify.proofs.Shared.{IsExpression, Forest, tree_at, unsigned_face, unsigned_faces, unless_one, factor_above, factor_below, factors_above, factors_below, behind, Share, Terms, Above}
-use Rattle.beautify.proofs.Shared.{Below, Pending, Part, Numerator, Denominator, Form, Unsigned, Divisor, Owes, IsReady, IsShowable, IsFactor, AreSharing, part_of, part_above, part_below, part_room}
-use Rattle.beautify.proofs.{Shared.{share_room, shared, stands_below, with_next, next_room, by_test}, Pushing.{pushed, owes_as}, Trees.{append_assoc, behind-next, behind-all}}
-use Rattle.std.proofs.{Common.{take, drop}, lemmas.List.{reverse-append, length-reverse, length-drop, length-take-le, take_all, drop_all, take_rest, take_at, drop_at}}
-use mathlib.Core.List.{reverse}
+use Rattle.beautify.proofs.Shared.{◌≡◌, ◌∙◌, ℕ, suc, ◌+◌, ◌-◌, ◌<◌, ◌≤◌, ◌==◌, if◌then◌else◌, List, [], ◌∷◌, ◌++◌, length, Option, None, Some, refl, sym, ap, subst, arith, true, false, Bool, nat_abs}
+use Rattle.beautify.proofs.Shared.{append_assoc as list_assoc, append-nil, ⊤, length-append, append-none, children_of, TakesForm, in_form, IsReadyPart, divisor_of, numerator_of, denominator_of}
+use Rattle.beautify.proofs.Shared.{is_num, root_kind, form_room, Tree, Trees, num, none, more, append, count, nth, plain, AllParts, AllPartsOf, whole_num, IsExpression, Forest, tree_at, unsigned_face}
+use Rattle.beautify.proofs.Shared.{unsigned_faces, unless_one, factor_above, factor_below, factors_above, factors_below, behind, Share, Terms, Above, Below, Pending, Part, Numerator, Denominator}
+use Rattle.beautify.proofs.Shared.{Form, Unsigned, Divisor, Owes, IsReady, IsShowable, IsFactor, AreSharing, part_of, part_above, part_below, part_room, share_room, shared, stands_below, with_next}
+use Rattle.beautify.proofs.Shared.{next_room, by_test, take, drop, reverse-append, length-reverse, length-drop, length-take-le, take_all, drop_all, take_rest, take_at, drop_at, reverse}
+use Rattle.beautify.proofs.{Pushing.{pushed, owes_as}, Trees.{behind-next, behind-all}}
+use Rattle.calc_terms.proofs.SmallLaws.{append_assoc}
 use Rattle.calc_terms.specs.declared.kind.Kind.TheVariants as kind
 
 -- the trees of nodes

@@ -1,7 +1,7 @@
 -- The parts of a reduced tree can be shown.
+use Rattle.calc_algebra.proofs.{SmallLaws.{own_form as first_part}, NumberLaws.{number_test}}
 use Rattle.beautify.proofs.Shared.{◌≡◌, ◌≤◌, ℕ, ℤ, suc, arith, true, false, Tree, num, symbol, undef, add, mult, power, root, neg, sub, div, Trees, none, more, AllParts, AllPartsOf, is_mult, is_undef}
 use Rattle.beautify.proofs.Shared.{HasTwo, Fraction, below_zero, exponent_below, has_minus, classes, is_reduced, NoneIs, HasForm, IsWholePowerForm, reduced_words, IsShowable, IsFactor, AreFactors}
-use Rattle.calc_algebra.proofs.NumberLaws.{number_test}
 
 -- the root of a part of a reduced tree
 abbrev pub IsFormed : Tree → Type 0
@@ -13,9 +13,6 @@ IsFormed _ = Unit {0}
 
 pub formed : (t : Tree) → HasForm t → IsFormed t
 formed t h = grind arith
-
-pub first_part : (t : Tree) → AllParts HasForm t → HasForm t
-first_part t h = grind arith
 
 factor : (t : Tree) → IsFormed t → is_mult t ≡ false → IsFactor t
 factor t f h = grind arith

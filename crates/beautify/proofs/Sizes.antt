@@ -1,10 +1,6 @@
 -- Bytes of trees.
 use Rattle.beautify.proofs.Shared.{◌≡◌, ◌+◌, ◌*◌, ◌≤◌, arith, Trees, none, more, append, count, sizes, least_size}
 
-pub sizes-append : (xs ys : Trees) → sizes (append xs ys) ≡ sizes xs + sizes ys
-sizes-append none ys = omega arith
-sizes-append (more x xs) ys = omega (arith, sizes-append xs ys)
-
 pub eight_each : (ts : Trees) → 8 * count ts ≤ sizes ts
 eight_each none = omega arith
 eight_each (more t ts) = omega (arith, least_size t, eight_each ts)

@@ -1,13 +1,11 @@
 -- A face under way: what is written, and what is still owed.
 use Rattle.beautify.proofs.Shared.{◌≡◌, ◌∙◌, ℕ, ◌+◌, ◌-◌, ◌*◌, ◌<◌, ◌≤◌, List, [], ◌∷◌, ◌++◌, length, refl, sym, ap, subst, arith, eqb, cond, pos, Payload, rational, Ratio, whole, whole_size, One}
-use Rattle.beautify.proofs.Shared.{Tree, Trees, none, more, count, size, AllParts, grown, plain, IsExpression, State, free_of, Full, used, Forest, empty, tree}
-use Rattle.beautify.proofs.Shared.{join, arity, bytes_in, tree_at, holds, one_tree, Ends, Starts, KeepsRefusals, IsRefused, Stands, forest, face, IsShowable, Form, Face, Pending, Part, Noted, Owes}
-use Rattle.beautify.proofs.Shared.{IsNode, IsReady, IsReadyPart, IsWritten, in_form, with_next, next_room, form_room, rooms, children_taken, IsDraft, first, behind, by_test, one_at, alone_in}
-use Rattle.beautify.proofs.Shared.{least_size, used_forest, kids, nodes_in, children_of, few_in, size-plain, bytes_in-join, keeps_after, join_assoc, join-empty, expression_children}
+use Rattle.beautify.proofs.Shared.{Tree, Trees, none, more, count, size, AllParts, grown, plain, IsExpression, State, free_of, Full, used, Forest, empty, tree, join, arity, bytes_in, tree_at, holds}
+use Rattle.beautify.proofs.Shared.{one_tree, Ends, Starts, KeepsRefusals, IsRefused, Stands, forest, face, IsShowable, Form, Face, Pending, Part, Noted, Owes, IsNode, IsReady, IsReadyPart, IsWritten}
+use Rattle.beautify.proofs.Shared.{in_form, with_next, next_room, form_room, rooms, children_taken, IsDraft, first, behind, by_test, one_at, alone_in, least_size, used_forest, kids, nodes_in}
+use Rattle.beautify.proofs.Shared.{children_of, few_in, size-plain, bytes_in-join, keeps_after, join_assoc, join-empty, expression_children, Result, Ok, Err, IfOk, IfErr, size_of_payload}
 use Rattle.beautify.proofs.{Drafting.{written, no_nodes}, Pushing.{popped, owes_none, owes_still, owes_as, owes_own, eight_each, eight_next, some_room, rooms_still, rooms-snoc}}
-use Rattle.std.proofs.Common.{Result, Ok, Err}
-use Rattle.std.specs.Prelude.{IfOk, IfErr}
-use Rattle.calc_terms.specs.Payload.{size_of_payload}
+use Rattle.tree_handles.proofs.ForestLists.{kids_below as kids_nodes}
 
 -- ---- bytes
 
@@ -151,14 +149,6 @@ all_written {first = start} {s = s} {t = t} {notes = notes} {xs = xs} w z = by x
     by (p ∷ ps) o z = absurd (omega (arith, z))
 
 -- ---- a node's children are few
-
-arity_nodes : (f : Forest) → arity f ≤ nodes_in f
-arity_nodes empty = omega arith
-arity_nodes (tree l k r) = omega (arith, arity_nodes r)
-
-kids_nodes : (f : Forest) → arity (kids f) ≤ nodes_in f
-kids_nodes empty = omega arith
-kids_nodes (tree l k r) = omega (arith, arity_nodes k)
 
 pub few_children : (i : ℕ) (s : State) → Stands s → IsExpression i (forest s) → count (children_of (plain (tree_at i (forest s)))) ≤ 65535
 few_children i s st e = omega (arith, few_in i s st, kids_nodes (tree_at i (forest s)), expression_children i (forest s) e)

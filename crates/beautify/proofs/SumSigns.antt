@@ -1,8 +1,8 @@
 -- The terms of a sum, joined from left to right.
 use Rattle.beautify.proofs.Shared.{◌≡◌, ◌∙◌, ℕ, zero, suc, ◌+◌, ◌-◌, ◌*◌, ◌<◌, ◌≤◌, List, length, refl, sym, ap, subst, arith, true, false, Bool, Tree, Trees, add, sub, none, more, append, count, nth}
-use Rattle.beautify.proofs.Shared.{Forest, first, behind, Pending, Owes, SoFar, single, summed, as_tree, face, has_minus, unsigned_face, unsigned_faces, face_of_sum, next_term, next_terms}
-use Rattle.beautify.proofs.{Pushing.owes_as, Trees.{append_assoc, behind-append, first-append, behind-next, behind-all, count-append}}
-use Rattle.calc_language.specs.Grammar.{plus_term, minus_term}
+use Rattle.beautify.proofs.Shared.{Forest, first, behind, Pending, Owes, SoFar, single, summed, as_tree, face, has_minus, unsigned_face, unsigned_faces, face_of_sum, next_term, next_terms, plus_term}
+use Rattle.beautify.proofs.{Shared.{minus_term}, Pushing.{owes_as}, Trees.{behind-append, first-append, behind-next, behind-all}}
+use Rattle.calc_terms.proofs.SmallLaws.{count_append as count-append, append_assoc}
 
 -- the trees that stand for what a sum has made so far
 abbrev pub parts : SoFar → Trees

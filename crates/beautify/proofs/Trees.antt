@@ -14,14 +14,6 @@ pub first-append : (xs ys : Trees) → first (count xs) (append xs ys) ≡ xs
 first-append none ys = refl
 first-append (more x xs) ys = ap (more x) (first-append xs ys)
 
-pub append_assoc : (xs ys zs : Trees) → append (append xs ys) zs ≡ append xs (append ys zs)
-append_assoc none ys zs = refl
-append_assoc (more x xs) ys zs = ap (more x) (append_assoc xs ys zs)
-
-pub count-append : (xs ys : Trees) → count (append xs ys) ≡ count xs + count ys
-count-append none ys = omega arith
-count-append (more x xs) ys = omega (arith, count-append xs ys)
-
 -- the next of those behind the first ones
 pub behind-next : (n : ℕ) (ts : Trees) → n < count ts → behind n ts ≡ more (nth n ts) (behind (suc n) ts)
 behind-next n none h = absurd (omega arith)

@@ -1,8 +1,6 @@
 -- Arming as far as it has come.
-use Rattle.std.proofs.{Common.{◌≡◌, ℕ, zero, suc, ◌+◌, ◌<◌, ◌≤◌, List, [], ◌∷◌, true, false, length, get_or, map, refl, sym, ap, ◌∙◌, arith, add-one}, Math.ListN.{set, get_or-map}}
-use Rattle.std.proofs.{lemmas.List.{map-set, length-map, set-get_or}, lemmas.Bool.{cond-true, cond-false}, lemmas.List.Folds.{list_any_at}}
-use Rattle.std.specs.List.{list_any}
-use Rattle.breakers.specs.{State.{State, armed_after}, Breakers.{armed_first}}
+use Rattle.breakers.proofs.Shared.{◌≡◌, ℕ, zero, suc, ◌+◌, ◌<◌, ◌≤◌, List, [], ◌∷◌, true, false, length, get_or, map, refl, sym, ap, ◌∙◌, arith, add-one, set, get_or-map, map-set, length-map}
+use Rattle.breakers.proofs.Shared.{set-get_or, cond-true, cond-false, list_any_at, list_any, State, armed_after, armed_first}
 
 -- none of the first breakers, as many as this, can be armed
 abbrev pub NoneArms : ℕ → List State → Type 0

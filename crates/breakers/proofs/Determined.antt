@@ -1,9 +1,6 @@
 -- Where each breaker tells its plan, a check has one outcome.
-use Rattle.std.proofs.{Common.{◌≡◌, ◌≢◌, ℕ, zero, suc, ◌+◌, List, [], ◌∷◌, Bool, true, false, Option, Some, None, refl, sym, ap, ◌∙◌, subst, inl, inr, if◌then◌else◌}, lemmas.Bool.{cases_lt}}
-use Rattle.std.proofs.lemmas.List.Elements.{All-from_recursion, recursion_from_All}
-use Rattle.std.specs.List.{AllByRecursion}
-use Rattle.breakers.specs.{State.{State, Polls, StepsPlan, largest_count}, Breakers.{Check}, Laws.{TellsPlan, ToldChecksHaveOneOutcome}, declared.breaker.Plan.{Plan}}
-use Rattle.breakers.specs.declared.breaker.Plan.TheVariants.{Untold, Idle, After}
+use Rattle.breakers.proofs.Shared.{◌≡◌, ◌≢◌, ℕ, zero, suc, ◌+◌, List, [], ◌∷◌, Bool, true, false, Option, Some, None, refl, sym, ap, ◌∙◌, subst, inl, inr, if◌then◌else◌, cases_lt, All-from_recursion}
+use Rattle.breakers.proofs.Shared.{recursion_from_All, AllByRecursion, State, Polls, StepsPlan, largest_count, Check, TellsPlan, ToldChecksHaveOneOutcome, Plan, Untold, Idle, After}
 
 State-same : (b c : State) → b.polls ≡ c.polls → b.trips ≡ c.trips → b.plan ≡ c.plan
     → b.can_be_armed ≡ c.can_be_armed → b ≡ c

@@ -4,3 +4,4 @@ pub mod Sweeping
 pub mod Determined
 pub mod Runs
 pub mod Stops
+mod Shared

@@ -1,7 +1,6 @@
 -- A check as far as it has come, and whose trips it makes rise.
-use Rattle.std.proofs.Common.{◌≡◌, ℕ, zero, suc, ◌+◌, ◌<◌, ◌≤◌, ◌↔◌, List, [], ◌∷◌, length, get_or, map, true, false, Some, None, Result, Ok, Err, refl, ap, subst, arith, add-one}
-use Rattle.std.proofs.{Math.ListN.{set, get_or-map}, lemmas.List.{map-set, length-map}}
-use Rattle.breakers.specs.{State.{State, Polls}, Breakers.{Check, TripsRose}, declared.watch.Interrupted.{Interrupted}}
+use Rattle.breakers.proofs.Shared.{◌≡◌, ℕ, zero, suc, ◌+◌, ◌<◌, ◌≤◌, ◌↔◌, List, [], ◌∷◌, length, get_or, map, true, false, Some, None, Result, Ok, Err, refl, ap, subst, arith, add-one, set}
+use Rattle.breakers.proofs.Shared.{get_or-map, map-set, length-map, State, Polls, Check, TripsRose, Interrupted}
 
 -- the first breakers, as many as this, were polled and did not trip, and the others are as they were
 abbrev pub PassedBelow : ℕ → List State → List State → Type 0

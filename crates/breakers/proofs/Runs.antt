@@ -1,7 +1,6 @@
 -- Checks that follow one another.
-use Rattle.std.proofs.{Common.{◌↔◌, ℕ, zero, suc, ◌+◌, List, [], ◌∷◌, false, Some, None, sym, subst, arith, zero-add}, Math.Nat.{suc-add}}
-use Rattle.breakers.specs.{State.{State, Polls}, Breakers.{Check, CalmChecks, TripsRose}, Laws.{CalmChecksRaiseNoTrips, OnlyTheTrippedRose}}
-use Rattle.breakers.proofs.Polling.{unpolled, tripped_rises}
+use Rattle.breakers.proofs.Shared.{◌↔◌, ℕ, zero, suc, ◌+◌, List, [], ◌∷◌, false, Some, None, sym, subst, arith, zero-add, suc-add, State, Polls, Check, CalmChecks, TripsRose, CalmChecksRaiseNoTrips}
+use Rattle.breakers.proofs.{Shared.{OnlyTheTrippedRose}, Polling.{unpolled, tripped_rises}}
 
 -- a calm check leaves all trips as they were
 after-calm : (old mid new : List State) (place : ℕ) → Check old mid None

@@ -1,7 +1,6 @@
 -- Checks up to one at which a calculation stops.
-use Rattle.std.proofs.Common.{◌≡◌, ◌↔◌, ℕ, ◌+◌, ◌≤◌, ◌<◌, List, Some, None, arith, refl}
+use Rattle.breakers.proofs.Shared.{◌≡◌, ◌↔◌, ℕ, ◌+◌, ◌≤◌, ◌<◌, List, Some, None, arith, refl, Check, CalmChecks, CalmUpTo, TripsRose, TripsWithin, State}
 use Rattle.breakers.proofs.Runs.{only_the_tripped_rose, CalmChecks-append}
-use Rattle.breakers.specs.{Breakers.{Check, CalmChecks, CalmUpTo, TripsRose, TripsWithin}, State.{State}}
 
 pub one_calm : (old new : List State) → Check old new None → CalmChecks 1 old new
 one_calm old new c = (new, c, refl)

@@ -1,7 +1,5 @@
 -- What a filter by trips leaves of the states.
-use Rattle.std.proofs.Common.{◌≡◌, List, [], ◌∷◌, Bool, true, false, cond, map, refl, ap, ◌∙◌, ◌==◌}
-use Rattle.std.specs.List.{filter}
-use Rattle.breakers.specs.{State.{State}, Breakers.{kept}}
+use Rattle.breakers.proofs.Shared.{◌≡◌, List, [], ◌∷◌, Bool, true, false, cond, map, refl, ap, ◌∙◌, ◌==◌, filter, State, kept}
 
 module _ {A : Type 0} (state : A → State) where
   -- the states of the things that have not tripped are the states without trips

@@ -1,9 +1,9 @@
 -- A clean radicand below 10^12 is square-free, and square-free radicands that are alike are equal.
 use Rattle.calc_algebra.proofs.Shared.{◌≡◌, ℕ, zero, suc, ◌*◌, ◌/◌, ◌≤◌, ◌<◌, ◌^◌, ◌⊎◌, inl, inr, true, sym, ap, ◌∙◌, arith, subst, dvd_trans, left_of, is_clean, IsClean, mul_pos, gcd, gcd_is, gauss}
 use Rattle.calc_algebra.proofs.Shared.{divided, are_alike, square_root, IsGcd, mul-one, mul-dvd-mul_left, dvd-mul_right, IsTried, empty_product, one_factor_more, dvd-mul_left, dvd-zero, one-dvd}
-use Rattle.calc_algebra.proofs.{Shared.{mul-div_cancel', dvd_refl, ◌∣◌}, ComputedNumbers.{left_of_free, left_of_tried}, SquareRootLaws.{factor_pos, mul_cancel}, NumberLaws.{clean_words}}
+use Rattle.calc_algebra.proofs.{Shared.{mul-div_cancel', dvd_refl, ◌∣◌, le_of_dvd}, ComputedNumbers.{left_of_free, left_of_tried}, SquareRootLaws.{mul_cancel}, NumberLaws.{clean_words}}
 use Rattle.calc_algebra.proofs.SquareClassLaws.{Alike, alike_from}
-use Rattle.std.proofs.lemmas.Nat.Gcd.{le_of_dvd}
+use Rattle.calc_terms.proofs.SmallLaws.{positive_factor as factor_pos}
 
 -- no square of a number above 1 divides r
 abbrev pub IsSquareFree : ℕ → Type 0

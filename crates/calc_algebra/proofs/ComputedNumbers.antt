@@ -1,7 +1,8 @@
 -- What the computed functions on naturals give.
 use Rattle.calc_algebra.proofs.Shared.{◌≡◌, ℕ, zero, suc, ◌+◌, ◌*◌, ◌^◌, ◌≤◌, ◌<◌, true, refl, arith, inl, inr, ◌/◌, ◌%◌, ap, sym, subst, ◌⊎◌, mod-eq-zero_of_dvd, dvd_of_mod-eq-zero, dvd_trans}
 use Rattle.calc_algebra.proofs.Shared.{square_root, trial_limit, without, left_from, left_of, IsTried, empty_product, one_factor_more, are_alike, dvd-mul_right, mul-div_cancel', ◌∣◌}
-use Rattle.calc_algebra.proofs.{SquareClassLaws.{alike_from, alike_true}, SquareRootLaws.{factor_pos}}
+use Rattle.calc_algebra.proofs.SquareClassLaws.{alike_from, alike_true}
+use Rattle.calc_terms.proofs.SmallLaws.{positive_factor as factor_pos}
 
 pub below_power : (k : ℕ) → k < 2 ^ k
 below_power zero = omega arith

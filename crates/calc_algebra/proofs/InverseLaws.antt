@@ -4,7 +4,8 @@ use Rattle.calc_algebra.proofs.Shared.{IsShort, negative_lowest, times_comm, tim
 use Rattle.calc_algebra.proofs.Shared.{inverse_of, zero_fraction, one_fraction, is_zero_fraction, plus_comm, plus_assoc, same_lowest, lowest_parts, den_pos, plus_lowest, times_lowest, mul_pos}
 use Rattle.calc_algebra.proofs.Shared.{quotient, whole_fraction, gcd, int_is_zero, parts, diffs, eq_diff, are_alike, Same, Inverts, square_root, Surd, term, surd_of, surd_one, surd_times, surd_power}
 use Rattle.calc_algebra.proofs.{Shared.{zero_is, no_zero, cross_products, mul-one}, MeaningLaws.{class_coefficient-surd_of, Same-sym}, SquareClassLaws.{Alike, alike_from, alike_true, Same-Agree}}
-use Rattle.calc_algebra.proofs.{SquareClassLaws.{Same-trans}, SquareRootLaws.{factor_pos, square_from_scaled}, SurdLaws.{Agree-sym, Agree-trans, Agree-eq, Agree-Same, Agree-surd_times}}
+use Rattle.calc_algebra.proofs.{SquareClassLaws.{Same-trans}, SquareRootLaws.{square_from_scaled}, SurdLaws.{Agree-sym, Agree-trans, Agree-eq, Agree-Same, Agree-surd_times}}
+use Rattle.calc_terms.proofs.SmallLaws.{positive_factor as factor_pos}
 use Rattle.calc_algebra.proofs.{SurdLaws.{Agree-surd_times_right, one_inverse, inverse_times, inverse_power, surd_times_comm, surd_times-nil, times_zero}, TermLaws.{Same-refl, Same-eq, Same-append}}
 use Rattle.calc_algebra.proofs.TermLaws.{extracted, joined_radicand, zero_term, zero_radicand}
 

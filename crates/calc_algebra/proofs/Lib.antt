@@ -26,3 +26,4 @@ pub mod ComputedNumbers
 pub mod Names
 pub mod Rewritings
 pub mod Shared
+pub mod SmallLaws

@@ -10,7 +10,7 @@ use Rattle.calc_algebra.proofs.{SurdLaws.{one_inverse}, HalfLaws.{one_is_not_two
 power_same : (n : ℤ) (w v u : Surd) → IsWholePower n w v → Same v u → IsWholePower n w u
 power_same n w v u h e = grind (arith, Same-trans, Same-sym)
 
-root_same : (p : ℤ) (q : ℕ) (v u : Surd) → IsRootOf p q v → Same v u → IsRootOf p q u
+pub root_same : (p : ℤ) (q : ℕ) (v u : Surd) → IsRootOf p q v → Same v u → IsRootOf p q u
 root_same p q v u h e = grind (arith, Same-trans, Same-sym)
 
 row_same : (w x v u : Surd) → IsPower w x v → Same v u → IsPower w x u
@@ -42,7 +42,7 @@ whole_one m n e = cancel_pos m n (whole_fraction m).den (den_pos (whole_fraction
 join : {v u w x : Surd} → Same v w → Same u x → Agree w x → Agree v u
 join a b c = Agree-trans (Same-Agree a) (Agree-trans c (Agree-sym (Same-Agree b)))
 
-one_inverse' : (y x w u : Surd) → Inverts y w → Inverts x u → Agree w u → Agree y x
+pub one_inverse' : (y x w u : Surd) → Inverts y w → Inverts x u → Agree w u → Agree y x
 one_inverse' y x w u a b c = one_inverse y x w (Same-Agree a) (Agree-trans (Agree-surd_times_right x c) (Same-Agree b))
 
 one_power : (n : ℤ) (w x v u : Surd) → Agree w x → IsWholePower n w v → IsWholePower n x u → Agree v u

@@ -1,4 +1,5 @@
 -- The test for reduced trees says what its words say.
+use Rattle.calc_terms.proofs.Names.{not_true as from_not}
 use Rattle.calc_algebra.proofs.Shared.{◌==◌, if◌then◌else◌, false_from_ne_true, num, ◌≡◌, inl, inr, ℕ, Bool, true, false, not, ◌||◌, refl, ap, arith, is_lt, and_parts, and_from, or_left, or_right}
 use Rattle.calc_algebra.proofs.Shared.{not-true, not_from_false, eqb-true, leb-true, Fraction, Tree, undef, add, mult, power, root, neg, sub, div, Trees, none, more, AllParts, AllPartsOf, is_undef}
 use Rattle.calc_algebra.proofs.Shared.{tree_cmp, whole_power_form, power_form, split_product, none_is, rises_by, sum_form, product_form, has_form, all_parts, all_parts_of, is_reduced, NoneIs, RisesBy}
@@ -6,9 +7,6 @@ use Rattle.calc_algebra.proofs.Shared.{IsWholePowerForm, IsPowerForm, IsSumForm,
 use Rattle.calc_algebra.proofs.NumberLaws.{number_words, number_test, rises_words, rises_test}
 
 -- ---- Booleans
-
-pub from_not : (b : Bool) → not b ≡ true → b ≡ false
-from_not b h = not-true b h
 
 -- ---- lists
 

@@ -2,13 +2,6 @@
 use Rattle.calc_algebra.proofs.Shared.{◌≡◌, true, is_reduced, Tree, KeepsMeanings, HasNoNewName, Rewrites, Reduces}
 pub use Rattle.calc_algebra.proofs.MeaningRewrites.{KeepsMeanings-trans}
 
--- what the laws of meanings say of rewritings
-pub keeps : {t u : Tree} → KeepsMeanings t u → KeepsMeanings t u
-keeps h = h
-
-pub kept : {t u : Tree} → KeepsMeanings t u → KeepsMeanings t u
-kept h = h
-
 pub HasNoNewName-trans : {t u x : Tree} → HasNoNewName t u → HasNoNewName u x → HasNoNewName t x
 HasNoNewName-trans h k = record { name = λ y c. h.name y (k.name y c) }
 

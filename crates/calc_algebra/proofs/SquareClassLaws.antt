@@ -1,8 +1,9 @@
 -- Being alike is an equivalence, and surds that are equal class by class agree at every number.
-use Rattle.calc_algebra.proofs.Shared.{ℕ, ◌*◌, ◌≡◌, ◌<◌, ◌⊎◌, pos, ◌*ℤ◌, ◌∷◌, Bool, true, false, Contains, refl, sym, ap, ◌∙◌, arith, inl, inr, Contains-append_right, and_from, []}
-use Rattle.calc_algebra.proofs.Shared.{times_comm, times_assoc, times_plus, zero_plus, zero_times, Fraction, plus, times, zero_fraction, same_lowest, times_lowest, mul_pos, quotient, are_alike}
-use Rattle.calc_algebra.proofs.{Shared.{term_share, class_coefficient, radicands, Same, square_root, Term, Surd}, SquareRootLaws.{factor_pos, square_root-square, square_from_scaled}}
+use Rattle.calc_algebra.proofs.Shared.{ℕ, ◌*◌, ◌≡◌, ◌<◌, ◌⊎◌, pos, ◌*ℤ◌, ◌∷◌, Bool, true, false, Contains, refl, sym, ap, ◌∙◌, arith, inl, inr, Contains-append_right, and_from, [], times_comm}
+use Rattle.calc_algebra.proofs.Shared.{times_assoc, times_plus, zero_plus, zero_times, Fraction, plus, times, zero_fraction, same_lowest, times_lowest, mul_pos, quotient, are_alike, term_share}
+use Rattle.calc_algebra.proofs.{Shared.{class_coefficient, radicands, Same, square_root, Term, Surd}, SquareRootLaws.{square_root-square, square_from_scaled}}
 use Rattle.calc_algebra.proofs.SurdLaws.{Agree, Agree-Same, Agree-trans}
+use Rattle.calc_terms.proofs.SmallLaws.{same_tests as same_bool, positive_factor as factor_pos}
 
 -- the product is the square of t, which is not 0
 pub record Alike (r s t : ℕ) : Type 0 where
@@ -39,10 +40,6 @@ alike_trans r c s t u a b =
   where
     squares : (r c s t u : ℕ) → t * t ≡ r * c → u * u ≡ c * s → (r * s) * (c * c) ≡ (t * u) * (t * u)
     squares r c s t u p q = omega (arith, ap (λ n. n * (u * u)) p, ap (λ n. (r * c) * n) q)
-
--- the coefficient at one number of a class tells that at another
-same_bool : (a b : Bool) → (a ≡ true → b ≡ true) → (b ≡ true → a ≡ true) → a ≡ b
-same_bool a b f g = grind arith
 
 module _ (c s u : ℕ) (b : Alike c s u) where
   test_moved : (r : ℕ) → are_alike r s ≡ are_alike r c

@@ -29,9 +29,6 @@ one_square_root n r s h k = grind arith
 pub square_root-square : (t : ℕ) → square_root (t * t) ≡ t
 square_root-square t = one_square_root (t * t) _ t (square_root_is (t * t)) (record { within = omega arith; above = omega arith })
 
-pub factor_pos : (a b n : ℕ) → a * b ≡ n → 0 < n → 0 < b
-factor_pos a b n e h = grind arith
-
 pub mul_cancel : (x y s : ℕ) → 0 < s → x * s ≡ y * s → x ≡ y
 mul_cancel x y s p h = grind arith
 

@@ -80,7 +80,7 @@ map_one (t ∷ v) = λ i. one_term t i ∷ map_one v i
 pub surd_times-surd_one : (v : Surd) → surd_times surd_one v ≡ v
 surd_times-surd_one v = append-nil (map (term_times (term one_fraction 1)) v) ∙ map_one v
 
-times_exchange : (q c a x : Fraction) → times (times q c) (times a x) ≡ times (times q a) (times c x)
+pub times_exchange : (q c a x : Fraction) → times (times q c) (times a x) ≡ times (times q a) (times c x)
 times_exchange q c a x = grind (arith, times_assoc, times_comm)
 
 ratio_split : (t a s : ℕ) → 0 < a → 0 < s → quotient t s ≡ times (lowest (pos a) 1) (quotient t (a * s))

@@ -2,7 +2,8 @@
 use Rattle.calc_algebra.proofs.Shared.{◌≡◌, ℕ, zero, suc, ◌*◌, ◌<◌, pos, ◌∷◌, ◌++◌, Bool, true, false, if◌then◌else◌, refl, sym, ap, ◌∙◌, arith, append_assoc, times_comm, times_assoc, times_plus, []}
 use Rattle.calc_algebra.proofs.Shared.{zero_plus, zero_times, Fraction, lowest, plus, times, zero_fraction, plus_assoc, times_lowest, mul_pos, quotient, whole_fraction, are_alike, term_share, Same}
 use Rattle.calc_algebra.proofs.Shared.{square_root, Term, Surd, term, surd_scale, surd_times, surd_power, false_from_ne_true, one-mul}
-use Rattle.calc_algebra.proofs.{SquareRootLaws.{factor_pos, square_root-square, square_from_scaled}, SurdLaws.{Agree, Agree-refl, Agree-sym, Agree-trans, Agree-eq, Agree-Same, Agree-append}}
+use Rattle.calc_algebra.proofs.{SquareRootLaws.{square_root-square, square_from_scaled}, SurdLaws.{Agree, Agree-refl, Agree-sym, Agree-trans, Agree-eq, Agree-Same, Agree-append}}
+use Rattle.calc_terms.proofs.SmallLaws.{positive_factor as factor_pos}
 use Rattle.calc_algebra.proofs.{SurdLaws.{append_comm, Agree-surd_scale, Agree-surd_times, Agree-surd_power, times_zero}, SquareClassLaws.{Alike, alike_from, alike_true, Same-Agree}}
 pub use Rattle.calc_algebra.proofs.SquareClassLaws.{Same-refl, positive_right as alike_right}
 

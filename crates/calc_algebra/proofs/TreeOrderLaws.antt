@@ -1,8 +1,7 @@
 -- The order of trees is total, and Equal exactly for identical trees.
-use Rattle.calc_algebra.proofs.Shared.{ℕ, ◌+◌, ◌*◌, ◌≡◌, ℤ, pos, ◌*ℤ◌, ◌<ℤ◌, ◌<◌, false, ◌&&◌, nat_eq, refl, sym, ap, ◌∙◌, arith, Ordering, Less, Equal, int_cmp, ordering_then}
-use Rattle.calc_algebra.proofs.Shared.{ordering_reverse, MatchOrdering, ints, Fraction, same_fraction, den_pos, fraction_cmp, tree_cmp, trees_cmp, root_code, Tree, num, symbol, undef, add, mult}
-use Rattle.std.proofs.lemmas.Map.Lookups.{exact_bytes, exact_signed}
-use Rattle.calc_algebra.proofs.Shared.{power, root, neg, sub, div, Trees, none, more, nat_list_cmp_total, int_cmp_total, tied_itself, int_ranked, IsTotalOrder, up, down}
+use Rattle.calc_algebra.proofs.Shared.{ℕ, ◌+◌, ◌*◌, ◌≡◌, ℤ, pos, ◌*ℤ◌, ◌<ℤ◌, ◌<◌, false, ◌&&◌, nat_eq, refl, sym, ap, ◌∙◌, arith, Ordering, Less, Equal, int_cmp, ordering_then, ordering_reverse}
+use Rattle.calc_algebra.proofs.Shared.{MatchOrdering, ints, Fraction, same_fraction, den_pos, fraction_cmp, tree_cmp, trees_cmp, root_code, Tree, num, symbol, undef, add, mult, exact_bytes}
+use Rattle.calc_algebra.proofs.Shared.{exact_signed, power, root, neg, sub, div, Trees, none, more, nat_list_cmp_total, int_cmp_total, tied_itself, int_ranked, IsTotalOrder, up, down}
 
 both_equal : (a b : Ordering) → ordering_then a b ≡ Equal → (a ≡ Equal) × (b ≡ Equal)
 both_equal a b h = grind arith

@@ -18,7 +18,7 @@ parts_power d v zero h = subst (λ k. Parts k surd_one) (sym (pow-zero d)) parts
 parts_power d v (suc zero) h = subst (λ k. Parts k v) (sym (power_once d)) h
 parts_power d v (suc (suc n)) h = subst (λ k. Parts k (surd_power v (suc (suc n)))) (mul_comm d (d ^ suc n) ∙ sym (pow-suc d (suc n))) (parts_times d (d ^ suc n) v (surd_power v (suc n)) h (parts_power d v (suc n) h))
 
-one_magnitude : magnitude_over 1 one_fraction ≡ 1
+pub one_magnitude : magnitude_over 1 one_fraction ≡ 1
 unfolding one_fraction
 one_magnitude = magnitude_is 1 (lowest (pos 1) 1) 1 1 1 (den_divides (pos 1) 1 (omega arith)) (omega arith) (abs_cross (pos 1) 1 (omega arith)) refl
 

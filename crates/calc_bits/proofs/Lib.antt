@@ -8,3 +8,4 @@ pub mod Parts
 pub mod HeldByOne
 pub mod NoLarger
 mod Shared
+pub mod SmallLaws

@@ -68,7 +68,7 @@ held_same_by_one p v h l a r s f k = grind (arith, mass_of_same)
 
 -- ---- what stands behind both is left out
 
-plus_cancel_right : (a b c : Fraction) → plus a c ≡ plus b c → a ≡ b
+pub plus_cancel_right : (a b c : Fraction) → plus a c ≡ plus b c → a ≡ b
 plus_cancel_right a b c e = sym (back a) ∙ ap (λ x. plus x (negative c)) e ∙ back b
   where
     back : (x : Fraction) → plus (plus x c) (negative c) ≡ x

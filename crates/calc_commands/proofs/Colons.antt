@@ -1,8 +1,5 @@
 -- Command lines begin with a colon, and blank ones do not.
-use Rattle.std.proofs.Common.{◌≡◌, ℕ, List, [], ◌∷◌, ◌++◌, true, false, refl, arith}
-use Rattle.std.specs.{List.{list_all}}
-use Rattle.calc_language.specs.Tokens.{is_blank}
-use Rattle.calc_commands.specs.Commands.{Asked, IsCommandLine, is_command}
+use Rattle.calc_commands.proofs.Shared.{◌≡◌, ℕ, List, [], ◌∷◌, ◌++◌, true, false, refl, arith, list_all, is_blank, Asked, IsCommandLine, is_command}
 
 colon_behind : (before rest : List ℕ) → list_all is_blank before ≡ true → is_command (before ++ (58 ∷ rest)) ≡ true
 colon_behind [] rest h = refl

@@ -1,7 +1,6 @@
 -- Lemmas on decimal digits.
-use Rattle.calc_commands.proofs.Shared.{arith, ◌≡◌, ℕ, List, true, Some, None, Result, list_all, is_ascii_digit, result_ok, digits_value}
-use Rattle.std.proofs.{Common.{MatchResult, rules}, lemmas.Str.IsUtf8-from_ascii, lemmas.Fmt.IsAscii-from_digits, lemmas.Str.Parse.{IsNumeralModel, numerals_by_value}}
-use Rattle.std.specs.Str.{IsUtf8}
+use Rattle.calc_commands.proofs.Shared.{arith, ◌≡◌, ℕ, List, true, Some, None, Result, list_all, is_ascii_digit, result_ok, digits_value, MatchResult, rules, IsUtf8-from_ascii, IsAscii-from_digits}
+use Rattle.calc_commands.proofs.Shared.{IsNumeralModel, numerals_by_value, IsUtf8}
 
 abbrev pub AreDigits : List ℕ → Type 0
 AreDigits text = list_all is_ascii_digit text ≡ true

@@ -1,9 +1,7 @@
 -- The bytes in use, and their text.
-use Rattle.calc_commands.proofs.Shared.{◌≡◌, ◌∙◌, ℕ, ◌<◌, ◌≤◌, List, [], ◌∷◌, ◌++◌, length, get_or, take, sym, ap, arith, append-nil, length-encodings, extended, entries}
-use Rattle.std.proofs.{Common.{◌+◌, ◌*◌, replicate, append_assoc, length-append}, lemmas.List.{length-take, take_at, take_more}}
-use Rattle.node_pool.specs.{Nodes.{used, encodings}, State.{State, IsPool, bytes_of, free_of}}
-use Rattle.line_text.specs.Content.{Content}
-use Rattle.calc_commands.specs.Reports.{parting, byte_text, entry, dump_of}
+use Rattle.calc_commands.proofs.Shared.{◌≡◌, ◌∙◌, ℕ, ◌<◌, ◌≤◌, List, [], ◌∷◌, ◌++◌, length, get_or, take, sym, ap, arith, append-nil, length-encodings, extended, entries, ◌+◌, ◌*◌, replicate}
+use Rattle.calc_commands.proofs.Shared.{append_assoc, length-append, take_at, take_more, used, encodings, State, IsPool, bytes_of, free_of, Content, parting, byte_text, entry, dump_of}
+use Rattle.std.proofs.lemmas.List.{length-take}
 
 -- the bytes in use are those of the nodes
 pub used_bytes : (s : State) → IsPool s → take (used s.nodes) (bytes_of s) ≡ encodings s.nodes

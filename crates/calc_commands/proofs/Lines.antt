@@ -1,19 +1,12 @@
 -- Command lines by their parts.
-use Rattle.calc_commands.proofs.Shared.{◌≡◌, ◌∙◌, ℕ, ◌<◌, List, [], ◌∷◌, ◌++◌, length, Bool, true, false, Option, Some, None, cond, refl, sym, ap, subst, arith, ◌&&◌, list_all, lt-ltb, append-nil}
-use Rattle.calc_commands.proofs.{Shared.{is_in}, Values.not_digits, Runs.{all-append, all_other, first_of_all}}
-use Rattle.std.proofs.{lemmas.Slice.Eq.bytes_eq-Decides, Common.{eqb, ltb}, lemmas.Bool.{eqb-true, ne_eqb}}
-use Rattle.std.specs.{Str.bytes_eq, Prelude.{◌||◌, not, codes, IfSome, IsNone}, Option.{option_map, option_and_then}}
-use Rattle.calc_terms.specs.Name.{is_name, is_name_byte}
-use Rattle.calc_terms.proofs.Names.{spelled}
-use Rattle.calc_language.specs.Tokens.{is_blank, leading_run}
-use Rattle.calc_commands.specs.Commands.{Asked, pool, dump, draw, layout, forget, after, diff, solve, expand, asked_of, begins_dark, Has, IsTextBehind, HasText, IsCommandLine, asks_pool, asks_dump}
-use Rattle.calc_commands.specs.{Commands.{asks_draw, asks_layout, asks_forget, asks_after, asks_diff, asks_solve, asks_expand}, Numbers.value_of, Parsing.{are_blanks, behind_colon, argument_of}}
-use Rattle.calc_commands.specs.{Parsing.{word_and_rest, text_behind, name_and_text, asked_alone, asked_for, asked_to_derive, asked_in}, declared.command.Command.{Command}}
-use Rattle.calc_language.proofs.LeadingRuns.{run_whole, run_all, run_stops, stops, run_of}
+use Rattle.calc_commands.proofs.Shared.{by_test, ◌≡◌, ◌∙◌, ℕ, ◌<◌, List, [], ◌∷◌, ◌++◌, length, Bool, true, false, Option, Some, None, cond, refl, sym, ap, subst, arith, ◌&&◌, list_all, lt-ltb}
+use Rattle.calc_commands.proofs.Shared.{append-nil, is_in, bytes_eq-Decides, ltb, eqb-true, ne_eqb, bytes_eq, ◌||◌, not, codes, IfSome, IsNone, option_map, option_and_then, is_name, is_name_byte}
+use Rattle.calc_commands.proofs.Shared.{spelled, is_blank, leading_run, Asked, pool, dump, draw, layout, forget, after, diff, solve, expand, asked_of, begins_dark, Has, IsTextBehind, HasText}
+use Rattle.calc_commands.proofs.Shared.{IsCommandLine, asks_pool, asks_dump, asks_draw, asks_layout, asks_forget, asks_after, asks_diff, asks_solve, asks_expand, value_of, are_blanks, behind_colon}
+use Rattle.calc_commands.proofs.Shared.{argument_of, word_and_rest, text_behind, name_and_text, asked_alone, asked_for, asked_to_derive, asked_in, Command, run_whole, run_all, run_stops, stops}
+use Rattle.calc_commands.proofs.{Shared.{run_of}, Values.{not_digits}, Runs.{all-append, all_other, first_of_all}}
+use Rattle.std.proofs.Common.{eqb}
 use Rattle.calc_commands.specs.declared.parts.Class.TheVariants as class
-
-by_test : (P : Bool → Type 0) (t : Bool) → (t ≡ true → P true) → (t ≡ false → P false) → P t
-by_test P t y n = grind arith
 
 -- ---- bytes
 

@@ -1,9 +1,6 @@
 -- Runs of bytes at the front.
+use Rattle.calc_commands.proofs.Shared.{both, ◌&&◌, list_all, arith, refl}
 use Rattle.std.specs.Prelude.{ℕ, ◌≡◌, List, [], ◌∷◌, ◌++◌, Bool, true}
-use Rattle.calc_commands.proofs.Shared.{◌&&◌, list_all, arith, refl}
-
-both : (a b : Bool) → (a && b) ≡ true → (a ≡ true) × (b ≡ true)
-both a b h = grind arith
 
 pub all-append : (p : ℕ → Bool) (a b : List ℕ) → list_all p a ≡ true → list_all p b ≡ true → list_all p (a ++ b) ≡ true
 all-append p [] b h k = k

@@ -1,13 +1,11 @@
 -- How a text is split into equations.
-use Rattle.std.proofs.Common.{append-nil, ◌≡◌, ◌∙◌, inl, inr, ℕ, suc, ◌+◌, ◌-◌, ◌<◌, ◌≤◌, List, [], ◌∷◌, ◌++◌, length, map, take, drop, get_or, eqb, Bool, true, false, refl, sym, ap, subst}
-use Rattle.std.proofs.{Common.{arith, append_assoc, drop-cons, length-append, length-take, length-drop}, lemmas.Bool.{both_ways, cases_lt, eq-eqb, eqb-true, lt-leb, le-leb}, lemmas.List.{drop-drop}}
-use Rattle.std.proofs.{lemmas.List.{drop-take, get_or-take, get_or_default, length-map, map-append, take-append-drop, take-take, take_all}, lemmas.List.Elements.{All-append, All-cons, All-drop}}
-use Rattle.std.proofs.{lemmas.List.Elements.{All-head, All-nil, All-push, All-tail, All-take}, lemmas.List.Splits.{join_with_byte-slice_split, length-slice_split, slice_split_at, slice_split_first}}
-use Rattle.std.proofs.{lemmas.List.Splits.{slice_split_none}, lemmas.List.Sums.{fails_before_first, passes_at_first}}
-use Rattle.std.specs.{Prelude.{All, Contains}, List.{join_with_byte, position_or_len, slice_split}}
-use Rattle.tree_handles.proofs.Outcomes.{by_test}
-use Rattle.calc_commands.specs.{Equations.{AreSides, Sides, Splits, all_placed, cut_at, placed, written, written_all}, Parsing.{are_blanks}, Ranges.{AreSplit, IsWithin, between}}
-use Rattle.calc_commands.specs.{Ranges.{pieces_at, pieces_from, sides_at}, declared.equations.EquationRange.{EquationRange}}
+use Rattle.calc_commands.proofs.Shared.{◌≡◌, ◌∙◌, inl, inr, ℕ, suc, ◌+◌, ◌<◌, ◌≤◌, List, [], ◌∷◌, ◌++◌, length, map, take, drop, get_or, Bool, true, false, refl, sym, ap, subst, arith, append_assoc}
+use Rattle.calc_commands.proofs.Shared.{drop-cons, length-append, length-drop, both_ways, cases_lt, eq-eqb, eqb-true, lt-leb, le-leb, drop-drop, drop-take, get_or-take, get_or_default, length-map}
+use Rattle.calc_commands.proofs.Shared.{map-append, take-append-drop, take-take, take_all, All-append, All-cons, All-drop, All-head, All-nil, All-push, All-tail, All-take, join_with_byte-slice_split}
+use Rattle.calc_commands.proofs.Shared.{length-slice_split, slice_split_at, slice_split_first, slice_split_none, fails_before_first, passes_at_first, All, Contains, join_with_byte, position_or_len}
+use Rattle.calc_commands.proofs.Shared.{slice_split, by_test, AreSides, Sides, Splits, all_placed, cut_at, placed, written, written_all, are_blanks, AreSplit, IsWithin, between, pieces_at}
+use Rattle.calc_commands.proofs.Shared.{pieces_from, sides_at, EquationRange}
+use Rattle.std.proofs.Common.{append-nil, ◌-◌, eqb, length-take}
 
 -- ---- bytes other than one
 

@@ -1,7 +1,6 @@
 -- The value of a text of digits.
-use Rattle.calc_commands.proofs.Shared.{arith, ◌≡◌, ℕ, ◌<◌, ◌≤◌, List, length, false, Some, None, Result, sym, ap, lt-ltb, list_all}
-use Rattle.calc_commands.proofs.{Shared.{is_ascii_digit, result_ok, ParsesUnsigned, digits_value}, Digits.{AreDigits, digits_are_numerals}}
-use Rattle.std.proofs.{Common.{◌^◌, Ok, Err}, lemmas.Str.Parse.parse_digits, lemmas.Bool.{le-leb}}
+use Rattle.calc_commands.proofs.Shared.{arith, ◌≡◌, ℕ, ◌<◌, ◌≤◌, List, length, false, Some, None, Result, sym, ap, lt-ltb, list_all, is_ascii_digit, result_ok, ParsesUnsigned, digits_value, ◌^◌, Ok}
+use Rattle.calc_commands.proofs.{Shared.{Err, parse_digits, le-leb}, Digits.{AreDigits, digits_are_numerals}}
 use Rattle.calc_commands.specs.Numbers.{value_of}
 
 pub too_many_digits : (text : List ℕ) → 20 < length text → value_of text ≡ None

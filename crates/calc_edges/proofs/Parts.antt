@@ -1,7 +1,5 @@
 -- Lemmas on parts of what a sink was to take.
-use Rattle.std.proofs.{Common.{ℕ, ◌+◌, ◌≤◌, List, ◌++◌, length, take, Option, sym, subst, arith, length-append}, KnownBytes.{Appends-trans}, Math.Seq.{take-append-add}, lemmas.List.{take-append-le}}
-use Rattle.std.specs.Io.KnownBytes.{Appends}
-use Rattle.calc_edges.specs.Taken.{AppendsPart}
+use Rattle.calc_edges.proofs.Shared.{ℕ, ◌+◌, ◌≤◌, List, ◌++◌, length, take, Option, sym, subst, arith, length-append, Appends-trans, take-append-add, take-append-le, Appends, AppendsPart}
 
 -- a part behind what was taken whole
 pub AppendsPart-after : (a b c : Option (List ℕ)) (bs cs : List ℕ) → Appends a b bs → AppendsPart b c cs → AppendsPart a c (bs ++ cs)

@@ -1,6 +1,5 @@
 -- Lemmas on what came before the first failure.
-use Rattle.std.proofs.Common.{◌≡◌, ◌∙◌, ℕ, List, Option, Result, Ok, Err, arith}
-use Rattle.calc_edges.specs.{Faults.{HasCause, IsCalm, StopsAtFailure, counted}, declared.failures.Failures.{Failures}}
+use Rattle.calc_edges.proofs.Shared.{◌≡◌, ◌∙◌, ℕ, List, Option, Result, Ok, Err, arith, HasCause, IsCalm, StopsAtFailure, counted, Failures}
 
 -- where nothing had failed before, it stopped at the first failure in all
 pub stops_later : {X : Type 0} (bytes : X → Option (List ℕ)) (faults : X → Failures) (old middle new : X)

@@ -1,7 +1,6 @@
 -- A run of bytes at the front of a list, and what stands behind it.
-use Rattle.calc_language.proofs.Shared.{ℕ, ◌≡◌, List, [], ◌∷◌, ◌++◌, Bool, true, length, ◌&&◌, not, ◌==◌, nat_eq, list_all, arith, refl, ap, ◌∙◌, leading_run, false, keep, same_bytes}
-use Rattle.std.specs.{List.prefix_len, Cmp.Lexicographic.pointwise, Prelude.{◌+◌, ◌≤◌, take, drop}}
-use Rattle.std.proofs.{Common.cond, Math.Numerals.one-add}
+use Rattle.calc_language.proofs.Shared.{ℕ, ◌≡◌, List, [], ◌∷◌, ◌++◌, Bool, true, length, ◌&&◌, not, ◌==◌, nat_eq, list_all, arith, refl, ap, ◌∙◌, leading_run, false, keep, same_bytes, prefix_len}
+use Rattle.calc_language.proofs.Shared.{pointwise, ◌+◌, ◌≤◌, take, drop, cond, one-add}
 
 pub run_front : (p : ℕ → Bool) (bytes : List ℕ) → take (prefix_len p bytes) bytes ≡ (leading_run p bytes).0
 run_front p [] = refl

@@ -1,10 +1,8 @@
 -- A text reads as at most one tree, and what is written is read again.
-use Rattle.calc_language.proofs.Shared.{ℕ, ◌≡◌, List, [], ◌∷◌, Bool, true, false, ◌==◌, ◌||◌, nat_le, Some, None, arith, refl, sym, ap, ◌∙◌, subst, as_tree, single}
-use Rattle.calc_language.proofs.Shared.{IsSum, Reads, text, IsWritable, admits, first_of_sum, later_of_sum, first_of_product, left_of_quotient, base, Token, token_at, is_blank, Scans, at_end}
-use Rattle.calc_language.proofs.{Shared.{at_blank, at_token, Tree, IsComplete}, ReaderComplete.one_sum, Spelled.{spelled, in_text, text_spelled, tree_scanned}}
-use Rattle.calc_language.proofs.Written.{Brackets, IsReadable, binding, is_signed, sum_so_far, product_so_far, tokens, reads_again}
-use Rattle.std.proofs.lemmas.Bool.{eqb-true}
-use Rattle.calc_language.specs.Texts.{admits_signed}
+use Rattle.calc_language.proofs.Shared.{ℕ, ◌≡◌, List, [], ◌∷◌, Bool, true, false, ◌==◌, ◌||◌, nat_le, Some, None, arith, refl, sym, ap, ◌∙◌, subst, as_tree, single, IsSum, Reads, text, IsWritable}
+use Rattle.calc_language.proofs.Shared.{admits, first_of_sum, later_of_sum, first_of_product, left_of_quotient, base, Token, token_at, is_blank, Scans, at_end, at_blank, at_token, Tree, IsComplete}
+use Rattle.calc_language.proofs.{Shared.{eqb-true, admits_signed}, ReaderComplete.{one_sum}, Spelled.{spelled, in_text, text_spelled, tree_scanned}, Written.{Brackets, IsReadable, binding, is_signed}}
+use Rattle.calc_language.proofs.Written.{sum_so_far, product_so_far, tokens, reads_again}
 
 -- no token begins with a blank
 pub blank_no_token : (b : ℕ) (bs : List ℕ) → is_blank b ≡ true → token_at (b ∷ bs) ≡ None

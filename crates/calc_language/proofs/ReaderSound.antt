@@ -26,7 +26,7 @@ andthen_some : {A B : Type 0} (r : Read A) (f : A → List Token → Read B) (y 
 andthen_some None f y e = cc
 andthen_some (Some p) f y e = (p, refl, e)
 
-some_is : {A : Type 0} (x y : A) → Some x ≡ Some y → x ≡ y
+pub some_is : {A : Type 0} (x y : A) → Some x ≡ Some y → x ≡ y
 some_is x y e = cc
 
 nothing_more : {A : Type 0} (P : List Token → A → Type 0) (a ts : List Token) (s : A) (y : A × List Token) → P a s → Some (s, ts) ≡ Some y → TookAfter P a ts y

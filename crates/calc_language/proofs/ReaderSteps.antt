@@ -1,8 +1,6 @@
 -- More steps read the same.
-use Rattle.calc_language.proofs.Shared.{ℕ, zero, suc, ◌+◌, ◌≡◌, List, Some, sym, ap, ◌∙◌, arith, SoFar, single, Token, Tree, Trees, none, more}
-use Rattle.calc_language.proofs.Reader.{Read, andthen, sum_at, terms_at, signed_at, product_at, factors_at, right_at, joined_at, powers_at, power_at, raise_at, exponent_at, primary_at}
-use Rattle.std.proofs.Common.{zero-add}
-use native.Mathlib.Nat.{suc-add}
+use Rattle.calc_language.proofs.{Shared.{ℕ, zero, suc, ◌+◌, ◌≡◌, List, Some, sym, ap, ◌∙◌, arith, SoFar, single, Token, Tree, Trees, none, more, zero-add, suc-add}, Reader.{Read, andthen, sum_at}}
+use Rattle.calc_language.proofs.Reader.{terms_at, signed_at, product_at, factors_at, right_at, joined_at, powers_at, power_at, raise_at, exponent_at, primary_at}
 
 abbrev pub More : {A : Type 0} → Read A → Read A → Type 0
 More {A} p q = (y : A × List Token) → p ≡ Some y → q ≡ Some y

@@ -1,7 +1,7 @@
 -- Functions that read a text, for examples that compute.
+use Rattle.calc_language.proofs.{Shared.{refl, subst, Token, arrow_mark, name, token_at, is_blank, Scans, at_end, at_blank, at_token, SoFar, as_tree, Reads, Stores}, ReaderSound.{some_is, reads-Sum}}
+use Rattle.calc_language.proofs.Reader.{sum_at}
 use Rattle.std.proofs.Common.{◌≡◌, ℕ, zero, suc, List, [], ◌∷◌, ◌++◌, Bool, true, false, Option, Some, None}
-use Rattle.calc_language.proofs.{Reader.sum_at, Shared.{refl, subst, Token, arrow_mark, name, token_at, is_blank, Scans, at_end, at_blank, at_token, SoFar, as_tree, Reads}, ReaderSound.{reads-Sum}}
-use Rattle.calc_language.specs.Reads.{Stores}
 
 abbrev before : Token → Option (List Token) → Option (List Token)
 before t None = None
@@ -15,9 +15,6 @@ scan_in (suc k) (b ∷ bs) = elim (is_blank b) [
   | true ↦ scan_in k bs
   | false ↦ elim (token_at (b ∷ bs)) [ Some p ↦ before p.0 (scan_in k p.1) | None ↦ None ]
 ]
-
-some_is : {A : Type 0} (x y : A) → Some x ≡ Some y → x ≡ y
-some_is x y e = cc
 
 pub scan_sound : (k : ℕ) (bs : List ℕ) (ts : List Token) → scan_in k bs ≡ Some ts → Scans bs ts
 unfolding scan_in

@@ -2,14 +2,12 @@
 use Rattle.calc_language.proofs.Shared.{ℕ, zero, suc, ◌+◌, ◌≡◌, ⊤, List, [], ◌∷◌, ◌++◌, length, Bool, true, false, not, ◌&&◌, ◌||◌, ◌==◌, nat_le, if◌then◌else◌, Some, None, nat_eq, refl, sym, ap, ◌∙◌}
 use Rattle.calc_language.proofs.Shared.{arith, append_assoc, append-nil, subst, list_all, first_of_sum, later_of_sum, first_of_product, left_of_quotient, base, admits, text, IsWritable, Scans, at_end}
 use Rattle.calc_language.proofs.Shared.{at_token, name, Token, literal, undef_mark, root_mark, plus_mark, minus_mark, times_mark, slash_mark, caret_mark, left_mark, right_mark, arrow_mark}
-use Rattle.calc_language.proofs.Shared.{leading_run, same_bytes, token_at, Tree, num, symbol, undef, add, mult, power, root, neg, sub, div, Trees, none, more}
+use Rattle.calc_language.proofs.Shared.{leading_run, same_bytes, token_at, Tree, num, symbol, undef, add, mult, power, root, neg, sub, div, Trees, none, more, pointwise, ◌/◌, ◌%◌, ◌<◌, pos, nat_abs}
+use Rattle.calc_language.proofs.Shared.{codes, nat_tests, leb-true, le-leb, and_parts, and_from, or_left, or_right, or_parts, not-true, lowest, is_name, is_reserved, begins_with_letter, is_digit}
+use Rattle.calc_language.proofs.Shared.{is_letter, is_name_byte, digits_before, Place, whole_text, left_of_difference, later_of_product, exponent, at_place, in_parentheses, text_of_sum, text_of_terms}
+use Rattle.calc_language.proofs.Shared.{text_of_product, text_of_factors, IsNatural, AreWritable, times_sign, root_sign, digits_value, decimals, token_of_word, or_else, if_so, whole_numerator}
 use Rattle.calc_language.proofs.{LeadingRuns.{stops, run_of, same_bytes-pointwise}, Written.{Brackets, inside, placed, tokens, tokens_of_sum, tokens_of_terms, tokens_of_product, tokens_of_factors}}
-use Rattle.std.specs.{Cmp.Lexicographic.pointwise, Prelude.{◌/◌, ◌%◌, ◌<◌, pos, nat_abs, codes}}
-use Rattle.std.proofs.{lemmas.Bool.Decides.nat_tests, lemmas.Bool.{leb-true, le-leb, and_parts, and_from, or_left, or_right, or_parts, not-true}}
-use Rattle.calc_terms.specs.{Fractions.lowest, Name.{is_name, is_reserved, begins_with_letter, is_digit, is_letter, is_name_byte}}
-use Rattle.calc_language.specs.Texts.{decimal, digits_before, Place, whole_text, left_of_difference, later_of_product, exponent, at_place, in_parentheses, text_of_sum, text_of_terms, text_of_product}
-use Rattle.calc_language.specs.{Texts.{text_of_factors, IsNatural, AreWritable}, Tokens.{literal_at, word_at, times_sign, root_sign, digits_value, decimals, token_of_word, or_else, if_so}}
-use Rattle.calc_terms.proofs.FractionFacts.{whole_numerator}
+use Rattle.calc_language.specs.{Texts.{decimal}, Tokens.{literal_at, word_at}}
 
 abbrev pub spell : Token → List ℕ
 spell (literal q) = decimal (nat_abs q.num)

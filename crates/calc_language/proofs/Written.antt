@@ -1,11 +1,10 @@
 -- What a format writes is read again, over tokens.
-use Rattle.calc_language.proofs.Shared.{ℕ, ◌≡◌, ⊤, List, [], ◌∷◌, ◌++◌, Bool, true, false, nat_le, if◌then◌else◌, refl, sym, ap, subst, append_assoc, append-nil, SoFar}
-use Rattle.calc_language.proofs.Shared.{single, as_tree, IsSum, Sum, first_term, plus_more, minus_more, Signed, minus_signed, plain_signed, Product, first_factor, times_more, over_more, Right}
-use Rattle.calc_language.proofs.Shared.{minus_right, plain_right, one_power, Power, plain_power, raised_power, Exponent, minus_exponent, plain_exponent, Primary, a_literal, a_name, an_undef}
-use Rattle.calc_language.proofs.Shared.{parenthesized, a_root, name, Token, literal, undef_mark, root_mark, plus_mark, minus_mark, times_mark, slash_mark, caret_mark, left_mark, right_mark}
-use Rattle.calc_language.proofs.Shared.{Tree, num, symbol, undef, add, mult, power, root, neg, sub, div, Trees, none, more, append, IsComplete}
-use Rattle.calc_language.specs.{Grammar.{summed, multiplied}, Texts.level}
-use Rattle.calc_terms.specs.Trees.{AreComplete}
+use Rattle.calc_language.proofs.Shared.{append_none, ℕ, ◌≡◌, ⊤, List, [], ◌∷◌, ◌++◌, Bool, true, false, nat_le, if◌then◌else◌, refl, sym, ap, subst, append_assoc, append-nil, SoFar, single, as_tree}
+use Rattle.calc_language.proofs.Shared.{IsSum, Sum, first_term, plus_more, minus_more, Signed, minus_signed, plain_signed, Product, first_factor, times_more, over_more, Right, minus_right}
+use Rattle.calc_language.proofs.Shared.{plain_right, one_power, Power, plain_power, raised_power, Exponent, minus_exponent, plain_exponent, Primary, a_literal, a_name, an_undef, parenthesized, a_root}
+use Rattle.calc_language.proofs.Shared.{name, Token, literal, undef_mark, root_mark, plus_mark, minus_mark, times_mark, slash_mark, caret_mark, left_mark, right_mark, Tree, num, symbol, undef, add}
+use Rattle.calc_language.proofs.Shared.{mult, power, root, neg, sub, div, Trees, none, more, append, IsComplete, summed, multiplied, level, AreComplete}
+use Rattle.calc_terms.proofs.SmallLaws.{append_assoc as append_assoc'}
 
 -- ---- formats
 
@@ -202,14 +201,6 @@ of_opposite b h w =
       right = λ g. minus_right (at_right w b (λ e. g));
       exponent = λ g. minus_exponent (at_exponent w b (λ e. g));
     }
-
-append_none : (us : Trees) → append us none ≡ us
-append_none none = refl
-append_none (more u us) = ap (more u) (append_none us)
-
-append_assoc' : (us vs ws : Trees) → append (append us vs) ws ≡ append us (append vs ws)
-append_assoc' none vs ws = refl
-append_assoc' (more u us) vs ws = ap (more u) (append_assoc' us vs ws)
 
 -- ---- the tokens of trees in a format
 

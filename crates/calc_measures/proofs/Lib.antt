@@ -6,3 +6,4 @@ pub mod LiteralValues
 pub mod Weights
 pub mod ZeroBounds
 mod Shared
+pub mod SmallLaws

@@ -26,7 +26,7 @@ IsHalfOf n (exactly q) = ((q.den == 2) ≡ true) × (q.num ≡ n)
 IsHalfOf n (overflow op a b) = Unit {0}
 IsHalfOf n v = ⊥
 
-one_times : (z : ℤ) → z *ℤ pos 1 ≡ z
+pub one_times : (z : ℤ) → z *ℤ pos 1 ≡ z
 one_times z = omega (arith, ints)
 
 odd_half : (n d : Fraction) → n.den ≡ 1 → (o : int_is_even n.num ≡ false) → d.num ≡ pos 2 → d.den ≡ 1 → times n (inverse d) ≡ half_of n.num o

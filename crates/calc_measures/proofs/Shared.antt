@@ -1,11 +1,11 @@
 -- The names of other crates that the proofs share.
 pub use Rattle.calc_algebra.proofs.{ComputedNumbers.{below_power}, HalfLaws.{half_of, half_of_is}, MeaningRewrites.{Permuted, permuted_more, permuted_none, permuted_swap, permuted_trans}}
 pub use Rattle.calc_algebra.proofs.{NumberLaws.{number_words}, ReducedLaws.{reduced_words}}
-unfoldable pub use Rattle.calc_algebra.specs.{Clean.{is_clean, left_of}, Numbers.{is_number}, SquareRoots.{square_root}}
 pub use Rattle.calc_algebra.specs.{Numbers.{AreTerms, IsNumber, IsTerm, are_numbers}, Reduced.{base_of, is_half_num, is_opaque_exponent, is_reduced}}
-pub use Rattle.calc_measures.specs.{Literals.{half_literal, half_quotient, half_value, int_is_two, is_half_literal, is_some, opposite, or_literal, whole_literal}, Loads.{has_coefficient}}
-pub use Rattle.calc_measures.specs.{Loads.{load_of_factor, load_of_factors, nest, nest_of, weight, weight_of_factors}, Measures.{HighLow, bounds, bounds_of_factors, bounds_of_terms, ceil_log2, high}}
-pub use Rattle.calc_measures.specs.{Measures.{least_exponent, low, power_bounds}, PlainOverflows.{is_overflow, nodes_among, nodes_to_overflow, with_child}, PlainTrees.{IsPlainAnswer}}
+unfoldable pub use Rattle.calc_algebra.specs.{Clean.{is_clean, left_of}, Numbers.{is_number}, SquareRoots.{square_root}}
+pub use Rattle.calc_measures.specs.{Literals.{half_literal, half_quotient, half_value, int_is_two, is_half_literal, is_some, opposite, or_literal, whole_literal, whole_value}, Loads.{has_coefficient}}
+pub use Rattle.calc_measures.specs.{Loads.{load, load_of_factor, load_of_factors, nest, nest_of, weight, weight_of_factors}, Measures.{HighLow, bounds, bounds_of_factors, bounds_of_terms, ceil_log2}}
+pub use Rattle.calc_measures.specs.{Measures.{high, least_exponent, low, power_bounds}, PlainOverflows.{is_overflow, nodes_among, nodes_to_overflow, with_child}, PlainTrees.{IsPlainAnswer}}
 pub use Rattle.calc_measures.specs.PlainValues.{PlainValue, calculated, divided, exactly, gather, on_one, overflow, plain_of, plain_value, powered, undefined, values}
 pub use Rattle.calc_terms.proofs.FractionFacts.{whole_denominator, whole_numerator}
 pub use Rattle.calc_terms.specs.{Fits.{fits, fraction_fits, fraction_power, mul_op, operation_fits, pow_op, result_of}, FractionLaws.{one_times, times_comm}, Fractions.{Fraction, den_pos, inverse}}

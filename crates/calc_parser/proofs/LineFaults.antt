@@ -1,9 +1,8 @@
 -- What `Parser::read` answers, from what it found.
-use Rattle.calc_parser.proofs.Shared.{ℕ, ◌≡◌, ◌≤◌, ◌↔◌, List, Option, Result, Ok, Err, MatchResult, IsOk, arith, refl, ap, subst, option_map, Token, Name, name_of, Tree, depth}
-use Rattle.calc_parser.proofs.{Shared.{Placed, bare, IsLine, IsShallow, IsFaultOf, ParseFault, Syntax, Deep}, Answered.{accepted, not_deep}}
-use Rattle.calc_tokens.specs.{Faults.IsFaultOf as IsTokenFaultOf, Scanned.AreTokensOf, declared.tokens.TokenFault.TokenFault}
-use Rattle.calc_tokens.proofs.OneScan.{character_or_all, wide_or_all, character_or_wide, one_character, one_wide, one_list}
-use Rattle.calc_parser.specs.{Refused.IsLineFaultOf, declared.parser.LineFault.LineFault}
+use Rattle.calc_parser.proofs.Shared.{ℕ, ◌≡◌, ◌≤◌, ◌↔◌, List, Option, Result, Ok, Err, MatchResult, IsOk, arith, refl, ap, subst, option_map, Token, Name, name_of, Tree, depth, Placed, bare, IsLine}
+use Rattle.calc_parser.proofs.Shared.{IsShallow, IsFaultOf, ParseFault, Syntax, Deep, AreTokensOf, TokenFault, character_or_all, wide_or_all, character_or_wide, one_character, one_wide, one_list}
+use Rattle.calc_parser.proofs.{Shared.{IsLineFaultOf, LineFault}, Answered.{accepted, not_deep}}
+use Rattle.calc_tokens.specs.{Faults.IsFaultOf as IsTokenFaultOf}
 use Rattle.calc_parser.specs.declared.parser.LineFault.TheVariants as line_fault
 
 -- the tokens of a line, which is shallow, or its fault

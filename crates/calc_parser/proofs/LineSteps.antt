@@ -1,9 +1,8 @@
 -- The steps of a line's tree, from the sum before its store.
 use Rattle.calc_parser.proofs.Shared.{ℕ, ◌≡◌, List, [], ◌∷◌, ◌++◌, map, Option, Some, None, refl, sym, ap, ◌∙◌, subst, arith, append-nil, Token, name, arrow_mark, IsSum, one_sum_tree, Tree, Placed}
-use Rattle.calc_parser.proofs.{Shared.{bare, placed, finish, run, start, postfix, node_of, tokens_in, IsLine, IsNoLine, IsSplit, Step}, Runs.no_sum}
+use Rattle.calc_parser.proofs.{Shared.{bare, placed, finish, run, start, postfix, node_of, tokens_in, IsLine, IsNoLine, IsSplit, Step, AreStepsOf}, Runs.{no_sum}}
 use Rattle.calc_parser.proofs.Checks.{bare-placed, short_stores_nothing, sum_of_line}
 use Rattle.calc_tokens.specs.declared.tokens.Token.{Token as Listed}
-use Rattle.calc_parser.specs.Steps.{AreStepsOf}
 
 -- the tokens behind the sum of a line
 abbrev store_of : Option (List ℕ) → List Token

@@ -1,7 +1,6 @@
 -- The nodes of what a sum or a product has made so far.
-use Rattle.calc_parser.proofs.Shared.{ℕ, ◌+◌, ◌≡◌, ◌≤◌, List, [], ◌∷◌, ◌++◌, refl, sym, ap, ◌∙◌, arith, append_assoc, append-nil, Kind, Token, Tree, add, mult}
-use Rattle.calc_parser.proofs.Shared.{Trees, none, more, append, count, SoFar, single, summed, multiplied, as_tree, plus_term, times_factor, joined_tree, Sum, plus_more}
-use Rattle.calc_parser.proofs.Shared.{Product, times_more, Node, parent, postfix, postfixes, gathered}
+use Rattle.calc_parser.proofs.Shared.{ℕ, ◌+◌, ◌≡◌, ◌≤◌, List, [], ◌∷◌, ◌++◌, refl, sym, ap, ◌∙◌, arith, append_assoc, append-nil, Kind, Token, Tree, add, mult, Trees, none, more, append, count, SoFar}
+use Rattle.calc_parser.proofs.Shared.{single, summed, multiplied, as_tree, plus_term, times_factor, joined_tree, Sum, plus_more, Product, times_more, Node, parent, postfix, postfixes, gathered}
 use Rattle.calc_terms.specs.declared.kind.Kind.TheVariants as kind
 
 pub postfixes-append : (ts us : Trees) → postfixes (append ts us) ≡ postfixes ts ++ postfixes us

@@ -1,7 +1,6 @@
 -- What the reader does behind an operand is what the automaton does.
 use Rattle.calc_parser.proofs.Shared.{ℕ, ◌≡◌, ◌⊎◌, List, ◌∷◌, ◌++◌, Some, Result, arith, sym, ap, ◌∙◌, Name, Token, What, token_of, Open, Expects, Operand, Node, State, state, ended, gathered}
-use Rattle.calc_parser.proofs.Shared.{end_power, end_powers, end_product, sum_nodes, begin_operand, leave_parentheses, at_operator, open_in, nodes_in, state_in, IsStep}
-use Rattle.calc_parser.specs.{declared.reader.Reader.Reader, declared.postfix.Postfix.Postfix}
+use Rattle.calc_parser.proofs.Shared.{end_power, end_powers, end_product, sum_nodes, begin_operand, leave_parentheses, at_operator, open_in, nodes_in, state_in, IsStep, Reader, Postfix}
 use Rattle.calc_terms.specs.declared.kind.Kind.TheVariants as kind
 use Rattle.calc_tokens.specs.declared.tokens.What.TheVariants as what
 use Rattle.calc_parser.specs.declared.nesting.Open.TheVariants as opened

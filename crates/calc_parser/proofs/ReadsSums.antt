@@ -1,9 +1,9 @@
 -- What is a sum is read, and its nodes in postfix order are found.
-use Rattle.calc_parser.proofs.Shared.{arith, ℕ, ◌+◌, ◌≡◌, List, [], ◌∷◌, ◌++◌, Bool, true, false, Option, Some, None, refl, sym, ap, ◌∙◌, append_assoc, append-nil, Token, name, undef_mark, root_mark}
-use Rattle.calc_parser.proofs.Shared.{plus_mark, minus_mark, times_mark, slash_mark, caret_mark, left_mark, right_mark, Tree, Trees, count, IsSum, SoFar, as_tree, joined_tree, joins, Sum, first_term}
-use Rattle.calc_parser.proofs.Shared.{plus_more, minus_more, Signed, minus_signed, plain_signed, Product, first_factor, times_more, over_more, Right, minus_right, plain_right, Joined, one_power}
-use Rattle.calc_parser.proofs.Shared.{another_power, Power, plain_power, raised_power, Exponent, minus_exponent, plain_exponent, Primary, parenthesized, a_root, Open}
-use Rattle.calc_parser.proofs.Shared.{Operand, Operator, Node, parent, postfix, postfixes, state, Ended, ended, gathered, end_power, end_factor, end_term, sum_nodes, minus_in, leave_parentheses, step}
+use Rattle.calc_parser.proofs.Shared.{joins_before, arith, ℕ, ◌+◌, ◌≡◌, List, [], ◌∷◌, ◌++◌, Bool, true, false, Option, Some, None, refl, sym, ap, ◌∙◌, append_assoc, append-nil, Token, name}
+use Rattle.calc_parser.proofs.Shared.{undef_mark, root_mark, plus_mark, minus_mark, times_mark, slash_mark, caret_mark, left_mark, right_mark, Tree, Trees, count, IsSum, SoFar, as_tree, joined_tree}
+use Rattle.calc_parser.proofs.Shared.{joins, Sum, first_term, plus_more, minus_more, Signed, minus_signed, plain_signed, Product, first_factor, times_more, over_more, Right, minus_right, plain_right}
+use Rattle.calc_parser.proofs.Shared.{Joined, one_power, another_power, Power, plain_power, raised_power, Exponent, minus_exponent, plain_exponent, Primary, parenthesized, a_root, Open, Operand}
+use Rattle.calc_parser.proofs.Shared.{Operator, Node, parent, postfix, postfixes, state, Ended, ended, gathered, end_power, end_factor, end_term, sum_nodes, minus_in, leave_parentheses, step}
 use Rattle.calc_parser.proofs.{Shared.{when_closed, finish, then_run, run, start}, Contexts.{begins_sum, begins_term, begins_right, begins_exponent, begins_factor, sum_alone, term_alone}}
 use Rattle.calc_parser.proofs.{Contexts.{factor_alone, term_factor, sum_term, right_factor}, Made.{postfixes-one_more, count-one_more, alone_nodes, joined_nodes, product_nodes, product_count}}
 use Rattle.calc_parser.proofs.Made.{sum_nodes_of, sum_count, whole_product, whole_sum, times_nodes, times_count, plus_nodes, plus_count, has_factors, has_terms, grouped}
@@ -75,9 +75,6 @@ joined_next e c h = grind (arith)
 
 product_end : (e : Ended) (c : List Token) → ends_product c ≡ true → product_on e c ≡ sum_on (end_term e.nesting (e.nodes ++ gathered kind.Mult e.count)) c
 product_end e c h = grind (arith)
-
-pub joins_before : (b c : List Token) → joins b ≡ true → joins (b ++ c) ≡ true
-joins_before b c e = grind (arith)
 
 -- a minus sign before an exponent, a factor, a term
 minus_exponent_in : (s : List Open) → begins_exponent s ≡ true → minus_in s ≡ opened.NegatedExponent

@@ -1,6 +1,7 @@
 -- A tree from its nodes in postfix order.
-use Rattle.calc_parser.proofs.Shared.{◌≡◌, ◌+◌, List, [], ◌∷◌, ◌++◌, true, refl, sym, ap, ◌∙◌, subst, arith, append_assoc, append-nil, Tree, add}
-use Rattle.calc_parser.proofs.Shared.{mult, power, root, neg, sub, div, Trees, none, more, append, count, append-none, Node, postfix, postfixes, children_in, tree_over, takes_children}
+use Rattle.calc_parser.proofs.Shared.{◌≡◌, ◌+◌, List, [], ◌∷◌, ◌++◌, true, refl, sym, ap, ◌∙◌, subst, arith, append_assoc, append-nil, Tree, add, mult, power, root, neg, sub, div, Trees, none, more}
+use Rattle.calc_parser.proofs.Shared.{append, count, append-none, Node, postfix, postfixes, children_in, tree_over, takes_children}
+use Rattle.calc_terms.proofs.SmallLaws.{count_append as count-append, first_is as head_is, others_are as tail_is, append_assoc as append_trees}
 
 -- the last of the trees become the children of the node
 pub record Takes (n : Node) (ts below us : Trees) : Type 0 where
@@ -12,10 +13,6 @@ pub record Takes (n : Node) (ts below us : Trees) : Type 0 where
 abbrev pub Makes : Trees → List Node → Tree → Type 0
 Makes ts [] t = ts ≡ more t none
 Makes ts (n ∷ ns) t = (below : Trees) × (us : Trees) × Takes n ts below us × Makes (append below (more (tree_over n us) none)) ns t
-
-pub append_trees : (a b c : Trees) → append (append a b) c ≡ append a (append b c)
-append_trees none b c = refl
-append_trees (more t a) b c = ap (more t) (append_trees a b c)
 
 -- a node over the last trees
 over : (n : Node) (ts us : Trees) (ns : List Node) (u : Tree) → count us ≡ children_in n → takes_children n ≡ true → Makes (append ts (more (tree_over n us) none)) ns u → Makes (append ts us) (n ∷ ns) u
@@ -54,22 +51,12 @@ replayed t ns e = subst (λ x. Makes none x t) (sym (e ∙ sym (append-nil (post
 
 -- ---- lists of trees in two parts
 
-pub count-append : (ts us : Trees) → count (append ts us) ≡ count ts + count us
-count-append none us = omega arith
-count-append (more t ts) us = omega (arith, count-append ts us)
-
 pub record SameParts (a b c d : Trees) : Type 0 where
   pub fronts : a ≡ c
   pub ends : b ≡ d
 
 no_front : (t : Tree) (a b d : Trees) → append (more t a) b ≡ d → count b ≡ count d → ⊥
 no_front t a b d e h = let c : count (append (more t a) b) ≡ count d = ap count e in omega (arith, count-append (more t a) b)
-
-tail_is : (t u : Tree) (ts us : Trees) → more t ts ≡ more u us → ts ≡ us
-tail_is t u ts us e = cc
-
-head_is : (t u : Tree) (ts us : Trees) → more t ts ≡ more u us → t ≡ u
-head_is t u ts us e = cc
 
 pub same_parts : (a b c d : Trees) → append a b ≡ append c d → count b ≡ count d → SameParts a b c d
 same_parts none b none d e h = record { fronts = refl; ends = e }

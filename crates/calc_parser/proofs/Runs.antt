@@ -1,10 +1,8 @@
 -- A run over a list of tokens, by place.
 use Rattle.calc_parser.proofs.Shared.{ℕ, suc, ◌+◌, ◌≡◌, ◌≤◌, ◌<◌, List, [], ◌∷◌, ◌++◌, length, drop, Option, Some, None, Result, Ok, Err, MatchResult, OnOk, arith, refl, sym, ap, ◌∙◌, get_or}
 use Rattle.calc_parser.proofs.Shared.{drop-cons, add-one, get_or_append_left, get_or-map, drop_all, Token, undef_mark, Tree, IsSum, token_of, Node, postfix, State, step, then_run, finish, run, start}
-use Rattle.calc_parser.proofs.{Shared.{token_in, tokens_in}, ReadsSums.sum_is_read, OnlySums.only_sums}
-use Rattle.std.specs.Prelude.{OnErr}
+use Rattle.calc_parser.proofs.{Shared.{token_in, tokens_in, OnErr, NoSum}, ReadsSums.{sum_is_read}, OnlySums.{only_sums}}
 use Rattle.calc_tokens.specs.declared.tokens.Token.{Token as Placed}
-use Rattle.calc_parser.specs.declared.reader.NoSum.{NoSum}
 
 pub count_tokens : (tokens : List Placed) → length (tokens_in tokens) ≡ length tokens
 count_tokens [] = refl

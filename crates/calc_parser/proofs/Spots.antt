@@ -3,9 +3,9 @@ use Rattle.calc_parser.proofs.Shared.{ℕ, ◌≡◌, List, [], ◌∷◌, ◌++
 use Rattle.calc_parser.proofs.Shared.{caret_mark, left_mark, Tree, power, neg, Trees, none, more, append, count, SoFar, single, as_tree, plus_term, minus_term, times_factor, over_factor, joined_tree}
 use Rattle.calc_parser.proofs.Shared.{joins, Sum, first_term, plus_more, minus_more, Signed, minus_signed, plain_signed, Product, first_factor, times_more, over_more, Right, minus_right, plain_right}
 use Rattle.calc_parser.proofs.Shared.{Joined, one_power, another_power, Power, raised_power, Exponent, minus_exponent, plain_exponent, Primary, Open, Node, parent, postfix, postfixes, Ended, ended}
-use Rattle.calc_parser.proofs.{Shared.{gathered, end_power, end_factor, end_term, sum_nodes}, Contexts.{begins_sum, begins_term, begins_right, begins_exponent, begins_factor, sum_alone, term_alone}}
-use Rattle.calc_parser.proofs.Made.{postfixes-one_more, count-one_more, alone_nodes, joined_nodes, product_nodes, product_count, sum_nodes_of, sum_count, whole_product, whole_sum, times_nodes}
-use Rattle.calc_parser.proofs.{Made.{times_count, plus_nodes, plus_count, has_factors, has_terms, grouped}, ReadsSums.joins_before}
+use Rattle.calc_parser.proofs.{Shared.{gathered, end_power, end_factor, end_term, sum_nodes, joins_before}, Contexts.{begins_sum, begins_term, begins_right, begins_exponent, begins_factor, sum_alone}}
+use Rattle.calc_parser.proofs.{Contexts.{term_alone}, Made.{postfixes-one_more, count-one_more, alone_nodes, joined_nodes, product_nodes, product_count, sum_nodes_of, sum_count, whole_product}}
+use Rattle.calc_parser.proofs.Made.{whole_sum, times_nodes, times_count, plus_nodes, plus_count, has_factors, has_terms, grouped}
 use Rattle.calc_terms.specs.declared.kind.Kind.TheVariants as kind
 use Rattle.calc_parser.specs.declared.nesting.Open.TheVariants as opened
 

@@ -1,16 +1,15 @@
 -- The building of a tree, node by node.
-use Rattle.calc_parser.proofs.Shared.{◌≡◌, ℕ, ◌+◌, ◌-◌, ◌<◌, ◌≤◌, List, [], ◌∷◌, ◌++◌, length, take, drop, map, true, Bool, Err, IsOk, Option, Some, None}
-use Rattle.calc_parser.proofs.Shared.{MatchOption, if◌then◌else◌, refl, sym, ap, ◌∙◌, subst, arith, leb, drop-cons, add-one, le-leb, lt-leb, leb-true, leb-false, get_or-append_right}
-use Rattle.calc_parser.proofs.Shared.{drop_all, Payload, size_of_payload, Tree, Trees, none, more, append, count, free_of, Full, LacksBytes, Stands, forest, KeepsRefusals, IsRefused, Refuses}
-use Rattle.calc_parser.proofs.Shared.{Forest, empty, tree, join, arity, one_tree, bytes_in, before_last, last_trees, Ends, Gives, Represents, KeepsFront, IsOnce, ends_as, represents_none}
-use Rattle.calc_parser.proofs.Shared.{represents_node, represents_join, represents_as, gives, free_forest, by_test, Step, Node, postfix, bytes_of_node, placing, children_in, tree_over}
-use Rattle.calc_parser.proofs.{Shared.{takes_children, Grows, before-last, arity-last_trees, before_last-join, last_trees-join}, Replay.{Takes, Makes, count-append, same_parts, replayed}}
-use Rattle.std.specs.Prelude.{get_or, IsSome}
-use Rattle.std.proofs.Math.Seq.{take-append_seam}
+use Rattle.calc_parser.proofs.Shared.{◌≡◌, ℕ, ◌+◌, ◌-◌, ◌<◌, ◌≤◌, List, [], ◌∷◌, ◌++◌, length, take, drop, map, true, Bool, Err, IsOk, Option, Some, None, MatchOption, if◌then◌else◌, refl, sym, ap}
+use Rattle.calc_parser.proofs.Shared.{◌∙◌, subst, arith, leb, drop-cons, add-one, le-leb, lt-leb, leb-true, leb-false, get_or-append_right, drop_all, Payload, size_of_payload, Tree, Trees, none, more}
+use Rattle.calc_parser.proofs.Shared.{append, count, free_of, Full, LacksBytes, Stands, forest, KeepsRefusals, IsRefused, Refuses, Forest, empty, tree, join, arity, one_tree, bytes_in, before_last}
+use Rattle.calc_parser.proofs.Shared.{last_trees, Ends, Gives, Represents, KeepsFront, IsOnce, ends_as, represents_none, represents_node, represents_join, represents_as, gives, free_forest, by_test}
+use Rattle.calc_parser.proofs.Shared.{Step, Node, postfix, bytes_of_node, placing, children_in, tree_over, takes_children, Grows, before-last, arity-last_trees, before_last-join, last_trees-join}
+use Rattle.calc_parser.proofs.Shared.{IsSome, take-append_seam, takes, plains, IsWhole, arity-join, bytes_in-join, join_assoc, all-first_trees, all-rest_trees, keeps_after, refuses_after, join-empty}
+use Rattle.calc_parser.proofs.{Shared.{starts_join, starts_same, front_at, plains-join, count-plains}, Replay.{Takes, Makes, same_parts, replayed}}
+use Rattle.calc_terms.proofs.SmallLaws.{count_append as count-append}
+use Rattle.std.specs.Prelude.{get_or}
 use Rattle.node_pool.specs.State.{State}
-use Rattle.tree_handles.specs.Expressions.{takes, plains, IsWhole}
-use Rattle.tree_handles.proofs.Forests.{arity-join, bytes_in-join, join_assoc, all-first_trees, all-rest_trees, keeps_after, keeps_none, refuses_after, join-empty}
-use Rattle.tree_handles.proofs.{Fronts.{starts_join, starts_same, front_at}, Plains.{plains-join, count-plains}}
+use Rattle.tree_handles.proofs.Refused.{kept_same as keeps_none}
 
 -- ---- where trees begin
 

@@ -4,7 +4,8 @@ use Rattle.calc_room.proofs.Shared.{lowest, plus, zero_fraction, mul_pos, zero_p
 use Rattle.calc_room.proofs.Shared.{natural_of, are_alike, class_coefficient, Same, Inverts, square_root, Term, Surd, surd_scale, term_times, surd_times, surd_power, surd_of, term, Inverts-not_zero}
 use Rattle.calc_room.proofs.Shared.{Inverts-one, inverse_of_term, term_has_inverse, inverse_of_terms, terms_have_inverse, AreProper, first_coefficient, value_proper, value_rises, AsNumber, as_number}
 use Rattle.calc_room.proofs.Shared.{Alike, alike_from, alike_true, Same-Agree, share_apart, Same-refl, Means, IsRootOf, KeepsMeanings, one_meaning, number_means, Agree-Same, IsSpanned, Spans}
-use Rattle.calc_room.proofs.{Shared.{SpansRoot, SpansTree, SpansTrees, chosen_product}, SpanLaws.{one_spanned, spanned_alike, spanned_times, right_factor}}
+use Rattle.calc_room.proofs.{Shared.{SpansRoot, SpansTree, SpansTrees, chosen_product}, SpanLaws.{one_spanned, spanned_alike, spanned_times}}
+use Rattle.calc_terms.proofs.SmallLaws.{factor_positive as right_factor}
 
 -- ---- lists of terms
 

@@ -1,4 +1,5 @@
 -- What a list of radicands spans.
+use Rattle.calc_terms.proofs.SmallLaws.{factor_positive as right_factor}
 use Rattle.calc_room.proofs.Shared.{◌≡◌, ℕ, ◌*◌, ◌<◌, List, [], ◌∷◌, Bool, true, false, refl, sym, ap, ◌∙◌, arith, mul_pos, are_alike, square_root, square_from_scaled}
 use Rattle.calc_room.proofs.Shared.{Alike, alike_from, alike_true, alike_through, chosen_product, IsSpanned}
 
@@ -49,9 +50,6 @@ second_squared g a b n k e = omega (arith, ap (λ x. g * x) e)
 
 neither_squared : (a b n k : ℕ) → a * b ≡ n * (k * k) → (1 * a) * (1 * b) ≡ (1 * n) * (k * k)
 neither_squared a b n k e = omega (arith, e)
-
-pub right_factor : (a b : ℕ) → 0 < a * b → 0 < b
-right_factor a b h = grind arith
 
 once : (gs : List ℕ) (cs ds : List Bool) → 0 < chosen_product gs cs → 0 < chosen_product gs ds → Squared (chosen_product gs cs) (chosen_product gs ds) (chosen_product gs (chosen_once cs ds))
 unfolding chosen_once

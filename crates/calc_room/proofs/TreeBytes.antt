@@ -7,7 +7,7 @@ use Rattle.calc_room.proofs.{Shared.{counted_among, SpansTree, SpansTrees}, Numb
 
 -- ---- what counts
 
-term_is_number : (t : Tree) → is_term t ≡ true → is_number t ≡ true
+pub term_is_number : (t : Tree) → is_term t ≡ true → is_number t ≡ true
 unfolding is_number
 term_is_number t h = grind arith
 

@@ -1,11 +1,10 @@
 -- Lemmas on commands.
-use Rattle.std.proofs.Common.{◌≡◌, ◌∙◌, ◌↔◌, ℕ, zero, suc, List, [], ◌∷◌, ◌++◌, codes, true, false, Option, Some, refl, ap, arith}
-use Rattle.calc_session.proofs.Shared.{TripsRose, armed_first, forget, forgot_report, Tree, AnswersBy, IsReplyToCommand, forgets, forgot, text_of, Content, extended, bytes_eq, IsHeld, held_by}
-use Rattle.calc_session.proofs.Shared.{Entry, Table, has_entry, without_entry, without_name, flatten, Stands, forest, KeepsRefusals, LineAnswer, Refusal, state_of}
-use Rattle.calc_session.proofs.EvaluationLemmas.{none_rose}
+use Rattle.calc_session.proofs.Shared.{◌≡◌, ◌∙◌, ◌↔◌, zero, suc, [], ◌∷◌, ◌++◌, codes, true, false, refl, ap, arith, TripsRose, armed_first, forget, forgot_report, Tree, AnswersBy, IsReplyToCommand}
+use Rattle.calc_session.proofs.Shared.{forgets, forgot, text_of, Content, extended, bytes_eq, IsHeld, held_by, Entry, Table, has_entry, without_entry, without_name, flatten, Stands, forest}
+use Rattle.calc_session.proofs.{Shared.{KeepsRefusals, LineAnswer, Refusal, state_of, counted-same}, EvaluationLemmas.{none_rose}}
+use Rattle.std.proofs.Common.{ℕ, List, Option, Some}
 use Rattle.breakers.specs.State.{State as Breaker}
 use Rattle.name_table.specs.Tables.{is_stored}
-use Rattle.name_table.proofs.Counting.{counted-same}
 use Rattle.node_pool.specs.State.{State as PoolState}
 use Rattle.calc_session.specs.declared.answers.LineAnswer.TheVariants as answer
 use Rattle.calc_session.specs.declared.answers.Refusal.TheVariants as refusal

@@ -1,10 +1,9 @@
 -- Lemmas on which refusals are counted.
-use Rattle.std.proofs.{lemmas.Bool.{both_ways}, Common.{◌≡◌, ◌∙◌, ℕ, ◌≤◌, List, IfSome, false, inl, inr, Option, None, Some, sym, ap, subst, arith}}
-use Rattle.calc_session.proofs.Shared.{Asked, IsCommandLine, is_command, once, Tree, size, Placed, derivative, fills, Full, AsksForTooMuch, CountsRefusal, ExpressionBecomes, IsCountedBut, IsKnownOf}
-use Rattle.calc_session.proofs.{Shared.{IsNoExpression, LacksBytesFor, LacksDerivative, ReadsText, Reason, Unmade, KeepsRefusals, made_in, State}, EvaluationLemmas.{keeps_then}}
-use Rattle.calc_session.proofs.{PoolLemmas.{still_counted}, TextLemmas.{one_text, read_at_all}}
+use Rattle.calc_session.proofs.Shared.{both_ways, ◌≡◌, ◌∙◌, IfSome, false, inl, inr, sym, ap, subst, arith, Asked, IsCommandLine, is_command, once, Tree, size, Placed, derivative, fills, Full}
+use Rattle.calc_session.proofs.Shared.{AsksForTooMuch, CountsRefusal, ExpressionBecomes, IsCountedBut, IsKnownOf, IsNoExpression, LacksBytesFor, LacksDerivative, ReadsText, Reason, Unmade}
+use Rattle.calc_session.proofs.{Shared.{KeepsRefusals, made_in, State, asks_colon}, EvaluationLemmas.{keeps_then}, PoolLemmas.{still_counted}, TextLemmas.{one_text, read_at_all}}
+use Rattle.std.proofs.Common.{ℕ, ◌≤◌, List, Option, None, Some}
 use Rattle.node_pool.specs.State.{State as PoolState}
-use Rattle.calc_commands.proofs.Colons.{asks_colon}
 
 -- ---- what is known of no refusal
 
@@ -30,10 +29,10 @@ none_read old text n reason h lack k = read_at_all text k.becomes.reads h
 pub none_made : {Known : ℕ → Tree → Full → Type 0} (old : State) (text : List ℕ) (tokens : List Placed) (t : Tree) (reason : Reason) → ReadsText text tokens None t → Unmade (made_in old t) reason → (lack : Full) → IsKnownOf Known old text lack → ⊥
 none_made old text tokens t reason reads unmade lack k = subst (λ m. Unmade m reason) (ap (made_in old) (one_text text reads k.becomes.reads).trees ∙ k.becomes.is_made) unmade
 
-left_is : (l m : ℕ) (t u : Tree) → fills l t ≡ fills m u → l ≡ m
+pub left_is : (l m : ℕ) (t u : Tree) → fills l t ≡ fills m u → l ≡ m
 left_is l m t u e = cc
 
-tree_is : (l m : ℕ) (t u : Tree) → fills l t ≡ fills m u → t ≡ u
+pub tree_is : (l m : ℕ) (t u : Tree) → fills l t ≡ fills m u → t ≡ u
 tree_is l m t u e = cc
 
 pub known_there : {Known : ℕ → Tree → Full → Type 0} (old : State) (text : List ℕ) (t : Tree) (b : ExpressionBecomes old text t) (lack : Full) → IsKnownOf Known old text lack → Known b.left t lack

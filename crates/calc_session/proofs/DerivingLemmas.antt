@@ -12,10 +12,6 @@ over a b h = grind arith
 
 -- ---- the derivative in the place of its tree
 
--- a tree was added behind one that is gone now
-pub beside_released : {old mid new : Forest} {i d : ℕ} {P : Tree → Type 0} → IsHanded i old → Gives old mid d P → new ≡ without_root i mid → Gives (without_root i old) new d P
-beside_released {i = i} h g e = record { tree = g.tree; ends = ends_at (ends_without i g.ends h.root) e; once = g.once; whole = g.whole; told = g.told }
-
 pub front_beside : {old mid new end : Forest} {i d : ℕ} {P : Tree → Type 0} → Gives old mid d P → new ≡ without_root i mid → KeepsFront (d ∷ []) new end → KeepsFront (i ∷ []) old end
 front_beside g e k = front_after_one (behind_new g.ends front_same) (front_at (front_without behind_first (front_end g.ends front_same)) e) k
 

@@ -1,15 +1,11 @@
 -- Lemmas on the layout of the last answer, and on the rows of its picture.
-use Rattle.std.proofs.Common.{◌*◌, ◌≡◌, ◌∙◌, ℕ, zero, suc, ◌+◌, ◌≤◌, List, [], ◌∷◌, ◌++◌, length, encode_utf8_all, Bool, true, false, nat_le, Option, Result, Ok, Err, refl, sym, ap, subst, arith}
-use Rattle.std.proofs.{Common.{append_assoc, append-nil, length-append}, lemmas.Str.{encodes-append}}
+use Rattle.calc_session.proofs.Shared.{◌*◌, ◌≡◌, ◌∙◌, zero, suc, [], ◌∷◌, ◌++◌, encode_utf8_all, Bool, true, false, nat_le, refl, sym, ap, subst, arith, append-nil, length-append, encodes-append}
 use Rattle.calc_session.proofs.Shared.{Appends-trans, leb-true, leb-false, Appends, IsHeld, Table, Full, free_of, GivesLayout, IsLayout, drawing, given_drawing, Block, before_cut, cut, picture}
-use Rattle.calc_session.proofs.Shared.{IsExpression, plain, bytes_in, tree_at, Stands, forest, tree_of_root, root_held, Content, extended, IsDrawn, IsDrawnInPart}
-use Rattle.calc_session.proofs.Shared.{first_rows, row_text, told_at}
-use Rattle.calc_edges.specs.Taken.{AppendsPart}
-use Rattle.calc_edges.proofs.Parts.{AppendsPart-after, AppendsPart-more}
+use Rattle.calc_session.proofs.Shared.{IsExpression, plain, bytes_in, tree_at, Stands, forest, tree_of_root, root_held, Content, extended, IsDrawn, IsDrawnInPart, first_rows, row_text, told_at}
+use Rattle.calc_session.proofs.Shared.{AppendsPart, AppendsPart-after, AppendsPart-more, laying, Layout, row_room, all-root_tree}
+use Rattle.std.proofs.Common.{ℕ, ◌+◌, ◌≤◌, List, length, Option, Result, Ok, Err, append_assoc}
 use Rattle.node_pool.specs.State.{State as PoolState}
-use Rattle.pool_layouts.specs.{Building.{laying}, Layouts.{Layout, layout}}
-use Rattle.pool_layouts.proofs.RowLines.{row_room}
-use Rattle.tree_handles.proofs.Counted.{all-root_tree}
+use Rattle.pool_layouts.specs.Layouts.{layout}
 
 -- ---- the last answer
 

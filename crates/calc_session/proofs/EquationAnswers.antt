@@ -1,13 +1,12 @@
 -- Lemmas on the answers to equations.
-use Rattle.std.proofs.Common.{◌≡◌, ◌∙◌, ℕ, suc, ◌<◌, ◌≤◌, List, length, map, None, Ok, refl, sym, ap, subst, arith}
-use Rattle.calc_session.proofs.Shared.{AllZip, Equation, Form, HoldLaterFreeNames, solved, Solution, IfNever, IfSolved, answer_told, form_told, entries_of, forms_are_later, forms_are_many}
-use Rattle.calc_session.proofs.Shared.{multipliers_are_many, solving, NamedTree, values, Table, Full, free_of, forest, Refusal, EquationRange, reply_of, form_room, names_listed, AreSplit, pieces_at}
-use Rattle.calc_session.proofs.Shared.{Reply, report, AreNamesOf, solution_text, AreSolved, Become, equation, nothing, IsReplyToEquations, IsReplyToRead, ReadsEquation, are_linear, are_made, are_read}
-use Rattle.calc_session.proofs.{Shared.{first_not_linear, is_told, state_of}, SolutionMeanings.{linear_in}}
+use Rattle.calc_session.proofs.Shared.{◌≡◌, ◌∙◌, suc, map, refl, sym, ap, subst, arith, AllZip, Equation, Form, HoldLaterFreeNames, solved, Solution, IfNever, IfSolved, answer_told, form_told}
+use Rattle.calc_session.proofs.Shared.{entries_of, forms_are_later, forms_are_many, multipliers_are_many, solving, NamedTree, values, Table, Full, free_of, forest, Refusal, EquationRange, reply_of}
+use Rattle.calc_session.proofs.Shared.{form_room, names_listed, AreSplit, pieces_at, Reply, report, AreNamesOf, solution_text, AreSolved, Become, equation, nothing, IsReplyToEquations, IsReplyToRead}
+use Rattle.calc_session.proofs.{Shared.{ReadsEquation, are_linear, are_made, are_read, first_not_linear, is_told, state_of, Solved, rises_distinct}, SolutionMeanings.{linear_in}}
+use Rattle.std.proofs.Common.{ℕ, ◌<◌, ◌≤◌, List, length, None, Ok}
 use Rattle.breakers.specs.State.{State as Breaker}
 use Rattle.node_pool.specs.State.{State as PoolState}
-use Rattle.calc_session.specs.{declared.solving.Solved.{Solved}, Solving.{lacks_bytes}}
-use Rattle.linear_solve.proofs.RisingLemmas.{rises_distinct}
+use Rattle.calc_session.specs.Solving.{lacks_bytes}
 use Rattle.linear_solve.specs.declared.solution.Solution.TheVariants as solution
 use Rattle.calc_session.specs.declared.answers.Refusal.TheVariants as refusal
 

@@ -1,22 +1,19 @@
 -- Lemmas on what the tree of a line comes to.
-use Rattle.std.proofs.Common.{◌≡◌, ◌∙◌, ◌↔◌, ℕ, zero, suc, ◌+◌, ◌*◌, ◌≤◌, ◌<◌, List, [], ◌∷◌, true, false, Option, Some, None, Result, Ok, Err, ◌⊎◌, inl, inr, refl, sym, ap, subst, arith}
-use Rattle.std.specs.Prelude.{Contains}
-use Rattle.calc_session.proofs.Shared.{HasNoNewName, Contains-append_cases, CalmChecks, TripsRose, IsEasy, Reduces, face, HasNames, Token, building, IsTreeOf, one_line, Tree, undef, is_undef}
-use Rattle.calc_session.proofs.Shared.{names, nodes, root_kind, size, NamedTree, values, LacksNames, lacks, fills, filling, refused_filling, FaultsFilling, IsKeepable, names_with, Table, table_names}
-use Rattle.calc_session.proofs.Shared.{Full, AreNodes, used, free_of, AreNodes-right, MayExceed, Covers, CalmUpTo, TripsWithin, Evaluates, HasEasyBadPart, CountsRefusals, IfFull, IfInterrupted}
-use Rattle.calc_session.proofs.Shared.{IfOverflow, ReduceFault, Overflows, plain, Forest, flatten, bytes_in, tree_of, Gives, KeepsFront, Starts, root_tree, without_root, LacksBytes, Stands, forest}
-use Rattle.calc_session.proofs.Shared.{KeepsRefusals, bytes_in-join, flatten-join, behind_first, behind_new, front_after_one, front_at, front_end, front_same, front_without, given_rest, given_told}
-use Rattle.calc_session.proofs.Shared.{gives_as, last_tree, size-plain, Refusal, Evaluation, Face, Undefined, Refused, ComesTo, CountsRefusal, IsDisplayOf, LacksName, refusal_of, refusal_to_fill}
-use Rattle.calc_session.proofs.Shared.{reason_of, reply_of, HasFittingRationals, IsAnswerTo, IsReplyWith, has_no_value, holds_its_name, is_shown, is_stored, OverflowsAt, IsReduction, lacks_bytes}
-use Rattle.calc_session.proofs.{Shared.{is_answered, made, Unmade, IsReplyToTree, is_made, Reply, displayed, circular, refused, refusal_in, state_of}, StoredTrees.{fitting_tree, named_tree}}
+use Rattle.calc_session.proofs.Shared.{◌≡◌, ◌∙◌, ◌↔◌, zero, suc, ◌*◌, [], ◌∷◌, true, false, ◌⊎◌, inl, inr, refl, sym, ap, subst, arith, Contains, HasNoNewName, Contains-append_cases, CalmChecks}
+use Rattle.calc_session.proofs.Shared.{TripsRose, IsEasy, Reduces, face, HasNames, Token, building, IsTreeOf, one_line, Tree, undef, is_undef, names, nodes, root_kind, size, NamedTree, values}
+use Rattle.calc_session.proofs.Shared.{LacksNames, lacks, fills, filling, refused_filling, FaultsFilling, IsKeepable, names_with, Table, table_names, Full, AreNodes, used, free_of, AreNodes-right}
+use Rattle.calc_session.proofs.Shared.{MayExceed, Covers, CalmUpTo, TripsWithin, Evaluates, HasEasyBadPart, CountsRefusals, IfFull, IfInterrupted, IfOverflow, ReduceFault, Overflows, plain, Forest}
+use Rattle.calc_session.proofs.Shared.{flatten, bytes_in, tree_of, Gives, KeepsFront, Starts, root_tree, without_root, LacksBytes, Stands, forest, KeepsRefusals, bytes_in-join, flatten-join}
+use Rattle.calc_session.proofs.Shared.{behind_first, behind_new, front_after_one, front_at, front_end, front_same, front_without, given_rest, given_told, gives_as, last_tree, size-plain, Refusal}
+use Rattle.calc_session.proofs.Shared.{Evaluation, Face, Undefined, Refused, ComesTo, CountsRefusal, IsDisplayOf, LacksName, refusal_of, refusal_to_fill, reason_of, reply_of, HasFittingRationals}
+use Rattle.calc_session.proofs.Shared.{IsAnswerTo, IsReplyWith, has_no_value, holds_its_name, is_shown, is_stored, OverflowsAt, IsReduction, lacks_bytes, is_answered, made, Unmade, IsReplyToTree}
+use Rattle.calc_session.proofs.Shared.{is_made, Reply, displayed, circular, refused, refusal_in, state_of, is_overflow, nodes_to_overflow, IsPlainAnswer, IsPlainOverflow, plain_value, one_node}
+use Rattle.calc_session.proofs.{Shared.{FillFault, used_forest, Shows, face_names, face_written}, StoredTrees.{fitting_tree, named_tree}}
+use Rattle.calc_terms.proofs.SmallLaws.{only_one as only}
+use Rattle.std.proofs.Common.{ℕ, ◌+◌, ◌≤◌, ◌<◌, List, Option, Some, None, Result, Ok, Err}
 use Rattle.breakers.specs.State.{State as Breaker}
-use Rattle.calc_measures.specs.{PlainOverflows.{is_overflow, nodes_to_overflow}, PlainTrees.{IsPlainAnswer, IsPlainOverflow}, PlainValues.{plain_value}}
-use Rattle.reduce_port.proofs.Leaves.{one_node}
-use Rattle.name_table.specs.declared.fault.FillFault.{FillFault}
 use Rattle.node_pool.specs.State.{State}
-use Rattle.tree_handles.proofs.Places.{used_forest}
-use Rattle.calc_session.specs.{Evaluations.{is_interrupted, does_not_fit}, Faces.{Shows}}
-use Rattle.beautify.proofs.FaceTexts.{face_names, face_written}
+use Rattle.calc_session.specs.Evaluations.{is_interrupted, does_not_fit}
 use Rattle.calc_terms.specs.declared.kind.Kind.TheVariants as kind
 use Rattle.reduce_port.specs.declared.fault.ReduceFault.TheVariants as fault
 use Rattle.calc_session.specs.declared.answers.Refusal.TheVariants as refusal
@@ -175,9 +172,6 @@ made_on free values t left e = rw (e, made) refl
 
 pub made_none : (free : ℕ) (values : List NamedTree) (t : Tree) (full : Full) → building free t ≡ Err full → made free values t ≡ lacks full
 made_none free values t full e = rw (e, made) refl
-
-only : (x y : List ℕ) → Contains (x ∷ []) y → x ≡ y
-only x y h = grind arith
 
 -- what is displayed holds no name of the table
 pub keepable : (store : Option (List ℕ)) (table : Table) (t shown : Tree) → LacksNames (table_names table) t → IsDisplayOf store t shown → IsKeepable store table shown

@@ -1,16 +1,13 @@
 -- Lemmas on what the expansion of a tree comes to.
-use Rattle.std.proofs.Common.{◌≡◌, ◌∙◌, ℕ, ◌+◌, ◌*◌, ◌≤◌, ◌<◌, List, [], ◌∷◌, true, false, None, Err, sym, ap, subst, arith}
-use Rattle.calc_session.proofs.Shared.{CalmChecks, is_reduced, face, HasNames, IsWritable, Tree, is_undef, nodes, size, expanded, expansion_room, is_polynomial, polynomial_of, tree_expanded_reduced}
-use Rattle.calc_session.proofs.Shared.{Full, free_of, CalmUpTo, TripsWithin, CountsRefusals, IfFull, IfInterrupted, IfOverflow, ReduceFault, Overflows, plain, Forest, tree_of, Gives, KeepsFront}
-use Rattle.calc_session.proofs.Shared.{LacksBytes, Stands, forest, without_root, given_rest, given_told, gives_as, last_tree, Face, ComesTo, refusal_of, reply_of, IsReplyToExpansion}
-use Rattle.calc_session.proofs.{Shared.{LacksExpansionRoom, is_expanded, reported}, EvaluationLemmas.{first_still, free_same, free_there, last_nodes}, StoredTrees.{named_tree}}
+use Rattle.calc_session.proofs.Shared.{◌≡◌, ◌∙◌, ◌*◌, [], ◌∷◌, true, false, sym, ap, subst, arith, CalmChecks, is_reduced, face, HasNames, IsWritable, Tree, is_undef, nodes, size, expanded}
+use Rattle.calc_session.proofs.Shared.{expansion_room, is_polynomial, polynomial_of, tree_expanded_reduced, Full, free_of, CalmUpTo, TripsWithin, CountsRefusals, IfFull, IfInterrupted, IfOverflow}
+use Rattle.calc_session.proofs.Shared.{ReduceFault, Overflows, plain, Forest, tree_of, Gives, KeepsFront, LacksBytes, Stands, forest, without_root, given_rest, given_told, gives_as, last_tree, Face}
+use Rattle.calc_session.proofs.Shared.{ComesTo, refusal_of, reply_of, IsReplyToExpansion, LacksExpansionRoom, is_expanded, reported, bits, expanded_defined, one_node, face_written}
+use Rattle.calc_session.proofs.{EvaluationLemmas.{first_still, free_same, free_there, last_nodes}, StoredTrees.{named_tree}}
+use Rattle.std.proofs.Common.{ℕ, ◌+◌, ◌≤◌, ◌<◌, List, None, Err}
 use Rattle.breakers.specs.State.{State as Breaker}
-use Rattle.calc_measures.specs.Measures.{bits}
-use Rattle.expansions.proofs.Defined.{expanded_defined}
 use Rattle.node_pool.specs.State.{State}
 use Rattle.calc_session.specs.Expanding.{is_interrupted, does_not_fit, lacks_bytes}
-use Rattle.reduce_port.proofs.Leaves.{one_node}
-use Rattle.beautify.proofs.FaceTexts.{face_written}
 use Rattle.reduce_port.specs.declared.fault.ReduceFault.TheVariants as fault
 
 module _ (s mid : State) {others : Forest} {i j : ℕ} {P : Tree → Type 0} (g : Gives others (forest s) i P) (k : Gives others (forest mid) j (λ t. t ≡ expanded (polynomial_of (tree_of i s)))) where

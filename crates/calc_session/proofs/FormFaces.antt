@@ -3,7 +3,7 @@ use Rattle.std.proofs.Common.{◌≡◌, ℕ, ◌+◌, ◌*◌, ◌≤◌, List,
 use Rattle.std.specs.Prelude.{⊤}
 use Rattle.calc_session.proofs.Shared.{face, has_minus, next_term, next_terms, unsigned_face, with_minus, SoFar, as_tree, Fraction, is_zero_fraction, zero_fraction, Tree, num}
 use Rattle.calc_session.proofs.{Shared.{Trees, none, more, count, is_undef, size, sizes, IsSmall, form_tree, multiple_of, multiples, sum_of_trees, summands}, FormLemmas.{sizes_of_multiples}}
-use Rattle.beautify.proofs.Sizes.{sizes-append}
+use Rattle.calc_terms.proofs.SmallLaws.{sizes_append as sizes-append}
 
 size_num : (q : Fraction) → size (num q) ≤ 40
 size_num q = grind arith

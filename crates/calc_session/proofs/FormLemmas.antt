@@ -1,14 +1,11 @@
 -- Lemmas on the tree of a constant and multiples of names: it is reduced, what it means, and its bytes.
-use Rattle.std.proofs.Common.{◌≡◌, ◌∙◌, inl, inr, ℕ, suc, ◌*◌, ◌≤◌, List, [], ◌∷◌, length, Bool, true, false, if◌then◌else◌, not, refl, sym, ap, subst, arith}
-use Rattle.std.specs.Prelude.{All, ◌&&◌}
-use Rattle.calc_session.proofs.Shared.{Assignment, Means, is_number, terms_of, HasForm, IsProductForm, NoneIs, RisesBy, is_reduced, number_terms, other_terms, part_of, surd_of, tree_cmp, Same-sym}
-use Rattle.calc_session.proofs.Shared.{reduced_test, Same-trans, Same-eq, Same-refl, joined_radicand, surd_times-terms, zero_term, no_one, no_zero, one_is, zero_is, Fraction, plus, times}
-use Rattle.calc_session.proofs.Shared.{is_one_fraction, is_zero_fraction, zero_fraction, AllParts, AllPartsOf, Tree, num, symbol, add, mult, Trees, none, more, count, is_add, size, sizes, Assigns}
-use Rattle.calc_session.proofs.Shared.{worth, Rises, is_before, form_tree, multiple_of, multiples, sum_of_trees, summands}
+use Rattle.calc_session.proofs.Shared.{◌≡◌, ◌∙◌, inl, inr, suc, ◌*◌, [], ◌∷◌, Bool, true, false, refl, sym, ap, subst, arith, All, ◌&&◌, Assignment, Means, is_number, terms_of, HasForm, IsProductForm}
+use Rattle.calc_session.proofs.Shared.{NoneIs, RisesBy, is_reduced, number_terms, other_terms, part_of, surd_of, tree_cmp, Same-sym, reduced_test, Same-trans, Same-eq, Same-refl, joined_radicand}
+use Rattle.calc_session.proofs.Shared.{surd_times-terms, zero_term, no_one, no_zero, one_is, zero_is, Fraction, plus, times, is_one_fraction, is_zero_fraction, zero_fraction, AllParts, AllPartsOf}
+use Rattle.calc_session.proofs.Shared.{Tree, num, symbol, add, mult, Trees, none, more, count, is_add, size, sizes, Assigns, worth, Rises, is_before, form_tree, multiple_of, multiples, sum_of_trees}
+use Rattle.calc_session.proofs.Shared.{summands, none_sum, one_sum, product_more, product_one, sum_more, sum_none, one_times, zero_times, zero_plus, before_is}
+use Rattle.std.proofs.Common.{ℕ, ◌≤◌, List, length, if◌then◌else◌, not}
 use Rattle.calc_algebra.specs.{Meanings.{Gives}, Numbers.{Rises as TermsRise}}
-use Rattle.calc_algebra.proofs.MeaningRewrites.{none_sum, one_sum, product_more, product_one, sum_more, sum_none}
-use Rattle.calc_terms.specs.FractionLaws.{one_times, zero_times, zero_plus}
-use Rattle.linear_solve.proofs.RisingLemmas.{before_is}
 
 -- ---- a multiple of a name
 

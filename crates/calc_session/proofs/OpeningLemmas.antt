@@ -1,9 +1,8 @@
 -- Lemmas on a new session.
-use Rattle.std.proofs.Common.{◌≡◌, ◌∙◌, ℕ, List, [], ◌∷◌, Result, Ok, IfOk, OnOk, None, refl, ap, subst, arith}
-use Rattle.std.specs.Prelude.{pos}
-use Rattle.calc_session.proofs.Shared.{Node, fresh, rational, Ratio, whole, whole_num, IsHeld, IsKeepable, Table, first_table, Full, IsLeastFree, empty, flatten, forest_of, one_tree, Ends, Stands}
-use Rattle.calc_session.proofs.Shared.{forest, KeepsRefusals, forest_of_whole, gives, represents_node, represents_none, ends_as, Seen, State, first_state, state_of}
-use Rattle.name_table.proofs.Ready.{first_held}
+use Rattle.calc_session.proofs.Shared.{◌≡◌, ◌∙◌, [], ◌∷◌, refl, ap, subst, arith, pos, Node, fresh, rational, Ratio, whole, whole_num, IsHeld, IsKeepable, Table, first_table, Full, IsLeastFree, empty}
+use Rattle.calc_session.proofs.Shared.{flatten, forest_of, one_tree, Ends, Stands, forest, KeepsRefusals, forest_of_whole, gives, represents_node, represents_none, ends_as, Seen, State, first_state}
+use Rattle.calc_session.proofs.Shared.{state_of, first_held}
+use Rattle.std.proofs.Common.{ℕ, List, Result, Ok, IfOk, OnOk, None}
 use Rattle.node_pool.specs.State.{State as PoolState}
 
 keepable_zero : (i : ℕ) → IsKeepable None (first_table i) (whole_num 0)

@@ -1,24 +1,19 @@
 -- Lemmas on the trees of a form that are placed one after another.
-use Rattle.std.proofs.Common.{◌≡◌, ◌≢◌, ◌∙◌, ℕ, zero, suc, ◌+◌, ◌<◌, ◌≤◌, List, [], ◌∷◌, length, take, map, get_or, Bool, true, false, if◌then◌else◌, of_z, to_z, refl, sym, ap, subst, arith}
-use Rattle.std.proofs.lemmas.List.{take_all}
-use Rattle.std.specs.{Prelude.{ℤ, pos, IfErr, IfOk, OnOk, Result, Ok, Err, Some, None, ◌==◌, ◌&&◌}, Int.{w128}}
-use Rattle.calc_session.proofs.Shared.{get_or-map, Kind, Rat, Fraction, is_one_fraction, is_zero_fraction, lowest, one_fraction, zero_fraction, rational, size_of_payload, ratio_of, value_of, Ratio}
-use Rattle.calc_session.proofs.Shared.{whole, Tree, Trees, num, symbol, add, mult, none, more, append, count, size, sizes, Name, name_of, one_test, whole_denominator, whole_numerator, zero_test}
-use Rattle.calc_session.proofs.Shared.{ratio_parts, Adds, AddsAll, adds_as, adds_first, adds_free, adds_more, adds_none, adds_one, adds_over, adds_tree, Full, free_of, compound, nth, takes_kind}
-use Rattle.calc_session.proofs.Shared.{Forest, join, before_last, last_trees, one_tree, Ends, Gives, KeepsFront, IsRefused, KeepsRefusals, Stands, forest, join_assoc, front_at, front_end, front_same}
-use Rattle.calc_session.proofs.Shared.{append-none, IsLast, IsPlaced, multiple_of, multiples, sum_of_trees, summands}
-use Rattle.beautify.proofs.{Sizes.{sizes-append}, Trees.{append_assoc, count-append}}
-use Rattle.calc_terms.specs.{Integers.{int_is_one, int_is_zero}, Payload.{bare}}
-use Rattle.calc_terms.proofs.ShortForm.{whole_short}
-use Rattle.rational128.proofs.Signed.{told}
+use Rattle.calc_session.proofs.Shared.{◌≡◌, ◌≢◌, ◌∙◌, zero, suc, [], ◌∷◌, take, map, get_or, Bool, true, false, of_z, to_z, refl, sym, ap, subst, arith, take_all, ℤ, pos, IfErr, ◌==◌, ◌&&◌, w128}
+use Rattle.calc_session.proofs.Shared.{get_or-map, Kind, Rat, Fraction, is_one_fraction, is_zero_fraction, one_fraction, zero_fraction, rational, size_of_payload, ratio_of, value_of, Ratio, whole}
+use Rattle.calc_session.proofs.Shared.{Tree, Trees, num, symbol, add, mult, none, more, append, count, size, sizes, Name, name_of, one_test, whole_denominator, whole_numerator, zero_test, ratio_parts}
+use Rattle.calc_session.proofs.Shared.{Adds, AddsAll, adds_as, adds_first, adds_free, adds_more, adds_none, adds_one, adds_over, adds_tree, Full, free_of, compound, nth, takes_kind, Forest, join}
+use Rattle.calc_session.proofs.Shared.{before_last, last_trees, one_tree, Ends, Gives, KeepsFront, IsRefused, KeepsRefusals, Stands, forest, join_assoc, front_at, front_end, front_same, append-none}
+use Rattle.calc_session.proofs.Shared.{IsLast, IsPlaced, multiple_of, multiples, sum_of_trees, summands, int_is_one, int_is_zero, whole_short, told}
+use Rattle.calc_terms.proofs.{SmallFractions.{zero_value as whole_zero}, SmallLaws.{sizes_append as sizes-append, count_append as count-append, append_assoc}}
+use Rattle.std.proofs.Common.{ℕ, ◌+◌, ◌<◌, ◌≤◌, List, length, if◌then◌else◌}
+use Rattle.std.specs.Prelude.{IfOk, OnOk, Result, Ok, Err, Some, None}
+use Rattle.calc_terms.specs.Payload.{bare}
 use Rattle.node_pool.specs.State.{State}
 use Rattle.calc_session.specs.declared.forms.Placed.{Placed}
 use Rattle.calc_terms.specs.declared.kind.Kind.TheVariants as kind
 
 -- ---- rationals of the code
-
-pub zero_value : (r : Rat) → (ratio_of r).num ≡ pos 0 → is_zero_fraction (value_of r) ≡ true
-zero_value r e = ap int_is_zero ((ratio_parts r).num ∙ e)
 
 pub nonzero_value : (r : Rat) → (ratio_of r).num ≢ pos 0 → is_zero_fraction (value_of r) ≡ false
 unfolding zero_fraction
@@ -36,9 +31,6 @@ unfolding one_fraction
 not_one_den r h = one_test (value_of r) (λ e. h (sym (ratio_parts r).den ∙ ap (λ (q : Fraction). q.den) e ∙ whole_denominator (pos 1)))
 
 -- ---- as the code tests them
-
-pub tests_zero : (r : Rat) (n : ℤ) → n ≡ (ratio_of r).num → of_z w128 n ≡ 0 → is_zero_fraction (value_of r) ≡ true
-tests_zero r n e b = zero_value r (sym (told r.num r.fits) ∙ ap (to_z w128) (ap (of_z w128) (sym e) ∙ b))
 
 pub tests_nonzero : (r : Rat) (n : ℤ) → n ≡ (ratio_of r).num → of_z w128 n ≢ 0 → is_zero_fraction (value_of r) ≡ false
 tests_nonzero r n e h = nonzero_value r (λ z. h (ap (of_z w128) (e ∙ z)))
@@ -157,10 +149,6 @@ pub placed_as : {s t : State} {ts us : Trees} {p : Placed} → IsPlaced s t ts p
 placed_as {s} {t} {p = p} h e = subst (λ (x : Trees). IsPlaced s t x p) e h
 
 -- ---- the tree of a form
-
-whole_zero : (r : Rat) → ratio_of r ≡ whole (pos 0) → value_of r ≡ zero_fraction
-unfolding zero_fraction
-whole_zero r e = ap (λ (x : Ratio). lowest x.num x.den) e
 
 pub nothing_is : (ts : Trees) (p : Placed) (s t : State) → IsPlaced s t ts p → p.last ≡ None → ts ≡ none
 nothing_is ts p s t h e = subst (IsLast s t ts) e h.last

@@ -1,10 +1,8 @@
 -- Lemmas on pools that are rolled back.
-use Rattle.std.proofs.Common.{arith, ◌≡◌, ◌≤◌, ℕ, [], Option, sym, subst}
-use Rattle.calc_session.proofs.Shared.{IsHeld, Table, Full, Forest, bytes_in, forest_of, KeepsFront, Stands, forest, KeepsRefusals, CountsRefusal, IsKept, IsReady, after}
-use Rattle.calc_session.specs.{Pools.{IsRolledBack}, declared.parts.Parts.{Parts}}
+use Rattle.calc_session.proofs.Shared.{arith, ◌≡◌, [], sym, subst, IsHeld, Table, Full, Forest, bytes_in, forest_of, KeepsFront, Stands, forest, KeepsRefusals, CountsRefusal, IsKept, IsReady, after}
+use Rattle.calc_session.proofs.Shared.{IsRolledBack, Parts, IsBelow, all_below, still_below}
+use Rattle.std.proofs.Common.{◌≤◌, ℕ, Option}
 use Rattle.node_pool.specs.State.{State}
-use Rattle.pool_checkpoints.specs.Marks.{IsBelow}
-use Rattle.pool_checkpoints.proofs.RollingBack.{all_below, still_below}
 
 -- a refusal that was counted is still the last one where only nodes change
 pub still_counted : (refusal : Option Full) (s t u : State) → CountsRefusal refusal s t → KeepsRefusals t u → CountsRefusal refusal s u

@@ -1,8 +1,6 @@
 -- Texts, from what the parser answered.
-use Rattle.std.specs.Prelude.{◌≤◌, ◌+◌, ◌<◌, ◌^◌, ℕ, List, Option, length}
-use Rattle.std.proofs.Common.{arith}
-use Rattle.calc_session.proofs.Shared.{bare, Placed, AreTokensOf, IsShallow, name_in, IsFirstCharacter, IsFirstWide, ReadsText}
-use Rattle.calc_terms.specs.declared.name.Name.{Name}
+use Rattle.calc_session.proofs.Shared.{◌^◌, arith, bare, Placed, AreTokensOf, IsShallow, name_in, IsFirstCharacter, IsFirstWide, ReadsText, Name}
+use Rattle.std.specs.Prelude.{◌≤◌, ◌+◌, ◌<◌, ℕ, List, Option, length}
 
 -- places are within a line, or next to its end
 pub character_within : (before at : ℕ) (text : List ℕ) → before + length text ≤ 1024 → IsFirstCharacter text at → before + at < 2 ^ 16

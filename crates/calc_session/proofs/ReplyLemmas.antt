@@ -6,7 +6,3 @@ use Rattle.calc_session.proofs.Shared.{signed_decimal, ratio_of, value_of, Rat, 
 
 pub text_of_operand : (a : Rat) → operand_text (value_of a) ≡ signed_decimal (ratio_of a).num ++ denominator_text (ratio_of a).den
 text_of_operand a = grind (arith, parts_themselves)
-
--- one piece and then another
-pub extended_twice : (c : Content) (a b : List ℕ) → extended (extended c a) b ≡ extended c (a ++ b)
-extended_twice c a b = ap (λ (bytes : List ℕ). record c { bytes = bytes }) (append_assoc c.bytes a b)

@@ -1,14 +1,13 @@
 -- Lemmas on the state of a session, and on what a line leaves of it.
-use Rattle.std.proofs.{Common.{◌≡◌, ◌∙◌, ◌↔◌, ℕ, ◌+◌, ◌*◌, ◌≤◌, List, [], ◌∷◌, ◌++◌, length, codes, true, false, Option, Some, None, refl, sym, ap}}
-use Rattle.std.proofs.Common.{subst, arith}
-use Rattle.calc_session.proofs.Shared.{TripsRose, Asked, IsCommandLine, text, Node, Tree, none, more, size, Placed, held_by, Table, with_answer, Full, has, IsExpression, plain, Forest}
-use Rattle.calc_session.proofs.Shared.{flatten, Gives, tree_at, Stands, forest, flatten-join, has-flatten, given_handed, given_root, given_told, expression_root, plain_root, alone, LineAnswer}
-use Rattle.calc_session.proofs.Shared.{Refusal, answer_to, Answers, AnswersBy, AnswersUntold, IsAnswer, IsTextOf, printed, reason_of, reply_of, IsReplyToCommand, IsUnstorable, ReadsAs, ReadsTree}
-use Rattle.calc_session.proofs.Shared.{Reply, blank, displayed, refusal_in, text_of, undefined, are_blanks, State, state_of, AsksInVain, is_nothing, is_text, is_asked, IsReply, IsReplyToTree}
-use Rattle.calc_session.proofs.{Shared.{asks_in_vain, is_replied, is_evaluated, cannot_be_stored, Leaves, LeavesAnswer}, CommandLemmas.{calm_told, refusal_uninterrupted}, EvaluationLemmas.{last_bytes, none_rose}}
+use Rattle.calc_session.proofs.Shared.{◌≡◌, ◌∙◌, ◌↔◌, ◌*◌, [], ◌∷◌, ◌++◌, codes, true, false, refl, sym, ap, subst, arith, TripsRose, Asked, IsCommandLine, text, Node, Tree, none, more, size, Placed}
+use Rattle.calc_session.proofs.Shared.{held_by, Table, with_answer, Full, has, IsExpression, plain, Forest, flatten, Gives, tree_at, Stands, forest, flatten-join, has-flatten, given_handed}
+use Rattle.calc_session.proofs.Shared.{given_root, given_told, expression_root, plain_root, alone, LineAnswer, Refusal, answer_to, Answers, AnswersBy, AnswersUntold, IsAnswer, IsTextOf, printed}
+use Rattle.calc_session.proofs.Shared.{reason_of, reply_of, IsReplyToCommand, IsUnstorable, ReadsAs, ReadsTree, Reply, blank, displayed, refusal_in, text_of, undefined, are_blanks, State, state_of}
+use Rattle.calc_session.proofs.Shared.{AsksInVain, is_nothing, is_text, is_asked, IsReply, IsReplyToTree, asks_in_vain, is_replied, is_evaluated, cannot_be_stored, Leaves, LeavesAnswer, AreApart}
+use Rattle.calc_session.proofs.{Shared.{AreDistinct-parts}, CommandLemmas.{calm_told, refusal_uninterrupted}, EvaluationLemmas.{last_bytes, none_rose}}
+use Rattle.std.proofs.Common.{ℕ, ◌+◌, ◌≤◌, List, length, Option, Some, None}
 use Rattle.breakers.specs.State.{State as Breaker}
 use Rattle.node_pool.specs.{Nodes.{AreDistinct}, State.{State as PoolState}}
-use Rattle.node_pool.proofs.Ids.{AreApart, AreDistinct-parts}
 use Rattle.calc_session.specs.Pools.{after as undone}
 use Rattle.calc_session.specs.declared.answers.LineAnswer.TheVariants as answer
 use Rattle.calc_session.specs.declared.answers.Refusal.TheVariants as refusal

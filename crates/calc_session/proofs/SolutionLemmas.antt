@@ -1,17 +1,14 @@
 -- Lemmas on the texts of solutions.
-use Rattle.std.proofs.Common.{◌≡◌, ◌≢◌, ◌⊎◌, ◌∙◌, ℕ, zero, suc, ◌+◌, ◌*◌, ◌<◌, ◌≤◌, List, [], ◌∷◌, ◌++◌, append_assoc, length, length-append, take, map, get_or, codes, inl, inr, Bool, true, false}
-use Rattle.std.proofs.{Common.{refl, sym, ap, subst, arith}, lemmas.List.{take_all}}
-use Rattle.std.specs.Prelude.{if◌then◌else◌, not, Result, OnErr, zip}
-use Rattle.calc_session.proofs.Shared.{cases_lt, get_or-map, length-map, is_reduced, face, HasNames, IsWritable, text, Fraction, is_zero_fraction, zero_fraction, no_zero, zero_is, Name, name_of, Tree}
-use Rattle.calc_session.proofs.Shared.{more, count, is_undef, size, Adds, adds_free, adds_one, Content, extended, Line, form_told, Form, free, bound, HoldLaterFreeNames, multiple_in, free_of}
+use Rattle.calc_session.proofs.Shared.{◌≡◌, ◌≢◌, ◌⊎◌, ◌∙◌, zero, suc, ◌*◌, [], ◌∷◌, ◌++◌, length-append, take, map, get_or, codes, inl, inr, Bool, true, false, refl, sym, ap, subst, arith, take_all}
+use Rattle.calc_session.proofs.Shared.{zip, cases_lt, get_or-map, length-map, is_reduced, face, HasNames, IsWritable, text, Fraction, is_zero_fraction, zero_fraction, no_zero, zero_is, Name, name_of}
+use Rattle.calc_session.proofs.Shared.{Tree, more, count, is_undef, size, Adds, adds_free, adds_one, Content, extended, Line, form_told, Form, free, bound, HoldLaterFreeNames, multiple_in, free_of}
 use Rattle.calc_session.proofs.Shared.{IsExpression, plain, Gives, tree_of, tree_at, without_root, Stands, forest, given_rest, given_told, gives_as, IsSmall, IsSmallForm, form_room, operand_text}
-use Rattle.calc_session.proofs.{Shared.{Rises, comma_before, form_tree, line_text, line_texts, lines_text, multiple_of, multiples, with_commas}, EvaluationLemmas.{last_nodes}}
-use Rattle.calc_session.proofs.{FormFaces.{face_of_form, form_defined, size_of_form}, FormLemmas.{form_reduced}, PlacingLemmas.{multiples_few, name_there}, SessionLemmas.{face_expression, face_tree}}
-use Rattle.calc_session.proofs.StoredTrees.{named_tree}
-use Rattle.line_text.specs.Lengths.{HasFittingNumbers}
-use Rattle.line_text.proofs.{Fitting.{fitting}, Lengths.{short}}
+use Rattle.calc_session.proofs.Shared.{Rises, comma_before, form_tree, line_text, line_texts, lines_text, multiple_of, multiples, with_commas, HasFittingNumbers, fitting, short, face_written}
+use Rattle.calc_session.proofs.{EvaluationLemmas.{last_nodes}, FormFaces.{face_of_form, form_defined, size_of_form}, FormLemmas.{form_reduced}, PlacingLemmas.{multiples_few, name_there}}
+use Rattle.calc_session.proofs.{SessionLemmas.{face_expression, face_tree}, StoredTrees.{named_tree}}
+use Rattle.std.proofs.Common.{ℕ, ◌+◌, ◌<◌, ◌≤◌, List, append_assoc, length}
+use Rattle.std.specs.Prelude.{if◌then◌else◌, not, Result, OnErr}
 use Rattle.node_pool.specs.State.{State}
-use Rattle.beautify.proofs.FaceTexts.{face_written}
 
 -- ---- a form that was placed
 

@@ -1,16 +1,13 @@
 -- What the texts of solutions say is so.
-use Rattle.std.proofs.Common.{◌≡◌, ◌∙◌, ◌↔◌, ◌<◌, ◌≤◌, inl, inr, ℕ, zero, suc, List, [], ◌∷◌, length, get_or, map, true, Option, Some, None, Ok, sym, subst, arith}
-use Rattle.std.proofs.lemmas.List.FromFn.{length-map-range_with_len}
-use Rattle.std.specs.Prelude.{All, ⊤}
-use Rattle.calc_session.proofs.Shared.{AllZip, enumerate_from, and_parts, not-false, fails_before_first, reduced_face_means, Assignment, IsAssignment, Means, surd_of, Same-refl, face, Fraction, plus}
-use Rattle.calc_session.proofs.Shared.{symbol, names, Assigns, Equation, IsLinearIn, SolvesAll, and_then, Answer, never, solved, Form, free, bound, HasItsValue, HaveTheirValues, answer_of}
-use Rattle.calc_session.proofs.Shared.{answer_with, form_of, forms_of, multipliers, Row, worth, solving, forms_are_later, forms_are_many, multipliers_are_many, never_solved, one_from, solved_where}
-use Rattle.calc_session.proofs.Shared.{Reply, report, AreNamesOf, IsNameIn, Rises, form_tree, solution_text, HasPrintedValue, TellsSolutions, tells_forms, tells_none, IsSolution, first_not_linear}
-use Rattle.calc_session.proofs.{Shared.{is_linear_equation}, FormLemmas.{form_means, form_reduced}}
+use Rattle.calc_session.proofs.Shared.{◌≡◌, ◌∙◌, ◌↔◌, inl, inr, zero, suc, [], ◌∷◌, get_or, map, true, sym, subst, arith, length-map-range_with_len, All, ⊤, AllZip, enumerate_from, and_parts}
+use Rattle.calc_session.proofs.Shared.{not-false, fails_before_first, reduced_face_means, Assignment, IsAssignment, Means, surd_of, Same-refl, face, Fraction, plus, symbol, names, Assigns, Equation}
+use Rattle.calc_session.proofs.Shared.{IsLinearIn, SolvesAll, and_then, Answer, never, solved, Form, free, bound, HasItsValue, HaveTheirValues, answer_of, answer_with, form_of, forms_of, multipliers}
+use Rattle.calc_session.proofs.Shared.{Row, worth, solving, forms_are_later, forms_are_many, multipliers_are_many, never_solved, one_from, solved_where, Reply, report, AreNamesOf, IsNameIn, Rises}
+use Rattle.calc_session.proofs.Shared.{form_tree, solution_text, HasPrintedValue, TellsSolutions, tells_forms, tells_none, IsSolution, first_not_linear, is_linear_equation, Rows, equation_rows}
+use Rattle.calc_session.proofs.{Shared.{first_with, row_at, settled_up_to, both, ok_is, one_rational_meaning, rises_distinct}, FormLemmas.{form_means, form_reduced}}
+use Rattle.std.proofs.Common.{◌<◌, ◌≤◌, ℕ, List, length, Option, Some, None, Ok}
 use Rattle.breakers.specs.State.{State as Breaker}
 use Rattle.calc_algebra.specs.Meanings.{Gives}
-use Rattle.linear_solve.specs.Elimination.{Rows, equation_rows, first_with, row_at, settled_up_to}
-use Rattle.linear_solve.proofs.{Calculations.{both, ok_is}, Meanings.{one_rational_meaning}, RisingLemmas.{rises_distinct}}
 
 -- ---- the equations are linear in their names
 

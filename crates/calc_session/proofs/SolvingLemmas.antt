@@ -1,22 +1,16 @@
 -- Lemmas on equations that are solved.
-use Rattle.std.proofs.Common.{◌≡◌, ◌∙◌, ◌↔◌, ℕ, zero, suc, ◌+◌, ◌<◌, ◌≤◌, List, [], ◌∷◌, length, get_or, map, take, Bool, true, false, not, cond, Option, Some, None, Result, Ok, Err, below_more, refl}
-use Rattle.std.proofs.{Common.{sym, ap, subst, arith}, lemmas.List.Quantifiers.{position-Some}}
-use Rattle.std.specs.Prelude.{All, nat_lt, IfOk, IfErr, OnOk}
-use Rattle.linear_solve.specs.{Checks.{solving_checks}, declared.fault.SolveFault.{SolveFault}}
-use Rattle.calc_session.proofs.Shared.{position_or_len, le-ltb, lt-ltb, position_or_len_is, TripsRose, Name, name_of, Equation, equation_at, equations_in, OfOverflow, StopsAfter, solving, misfit_of}
-use Rattle.calc_session.proofs.Shared.{IsExpression, Forest, Refusal, Listed, reply_of, names_listed, AreNamesOf, refusal_to_solve, IsReplyToSolve, are_linear, does_not_fit, first_not_linear}
-use Rattle.calc_session.proofs.{Shared.{is_interrupted, is_linear_equation}, EvaluationLemmas.{none_rose}}
+use Rattle.calc_session.proofs.Shared.{◌≡◌, ◌∙◌, ◌↔◌, zero, suc, [], ◌∷◌, get_or, map, take, Bool, true, false, cond, below_more, refl, sym, ap, subst, arith, position-Some, All, nat_lt, IfErr}
+use Rattle.calc_session.proofs.Shared.{solving_checks, SolveFault, position_or_len, le-ltb, lt-ltb, position_or_len_is, TripsRose, Name, name_of, Equation, equation_at, equations_in, OfOverflow}
+use Rattle.calc_session.proofs.Shared.{StopsAfter, solving, misfit_of, IsExpression, Forest, Refusal, Listed, reply_of, names_listed, AreNamesOf, refusal_to_solve, IsReplyToSolve, are_linear}
+use Rattle.calc_session.proofs.{Shared.{does_not_fit, first_not_linear, is_interrupted, is_linear_equation}, EvaluationLemmas.{none_rose}}
+use Rattle.linear_solve.proofs.EquationRows.{equations_long as equations_many}
+use Rattle.std.proofs.Common.{ℕ, ◌+◌, ◌<◌, ◌≤◌, List, length, not, Option, Some, None, Result, Ok, Err}
+use Rattle.std.specs.Prelude.{IfOk, OnOk}
 use Rattle.breakers.specs.State.{State as Breaker}
 use Rattle.linear_solve.specs.declared.fault.SolveFault.TheVariants as fault
 use Rattle.calc_session.specs.declared.answers.Refusal.TheVariants as refusal
 
 -- ---- the first equation that is not linear
-
-equations_many : (f : Forest) (ls rs : List ℕ) → length rs ≡ length ls → length (equations_in f ls rs) ≡ length ls
-equations_many f [] [] e = refl
-equations_many f [] (r ∷ rs) e = refl
-equations_many f (l ∷ ls) [] e = absurd (omega (arith, e))
-equations_many f (l ∷ ls) (r ∷ rs) e = ap suc (equations_many f ls rs (omega (arith, e)))
 
 equation_there : (f : Forest) (ls rs : List ℕ) (k : ℕ) → length rs ≡ length ls → k < length ls → get_or (equations_in f ls rs) k (equation_at f 0 0) ≡ equation_at f (get_or ls k 0) (get_or rs k 0)
 equation_there f [] rs k e l = absurd (omega (arith, l))
@@ -77,9 +71,6 @@ pub expression_at : (f : Forest) (is : List ℕ) (k i : ℕ) → k < length is �
 expression_at f is k i l h e = subst (λ j. IsExpression j f) (sym e) (h k i l)
 
 -- ---- results that are handed on
-
-pub ok_as : {A E : Type 0} {P Q : A → Type 0} (r : Result A E) → IfOk r P → ((x : A) → P x → Q x) → IfOk r Q
-ok_as r p h = grind arith
 
 pub err_as : {A E : Type 0} {P Q : E → Type 0} (r : Result A E) → IfErr r P → ((e : E) → P e → Q e) → IfErr r Q
 err_as r p h = grind arith

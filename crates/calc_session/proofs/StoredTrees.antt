@@ -1,9 +1,8 @@
 -- The rationals in a pool fit, and its symbols are names.
-use Rattle.std.proofs.Common.{arith, ◌≡◌, ℕ, zero, suc, true}
-use Rattle.std.specs.Prelude.{⊤}
-use Rattle.calc_session.proofs.Shared.{Kind, lowest, is_name, Payload, IsPayload, Ratio, IsRat, IsNamed, HasNames, Tree, num, symbol, Trees, none, more, AllParts, AllPartsOf, AllParts-zip, AreNodes}
-use Rattle.calc_session.proofs.Shared.{AreNodes-left, AreNodes-right, parts_themselves, nth, grown, compound, plains, plain, Forest, empty, tree, flatten, IsFitting, HasFittingRationals}
-use Rattle.calc_terms.specs.Fits.{fraction_fits}
+use Rattle.calc_session.proofs.Shared.{arith, ◌≡◌, zero, suc, true, ⊤, Kind, lowest, is_name, Payload, IsPayload, Ratio, IsRat, IsNamed, HasNames, Tree, num, symbol, Trees, none, more, AllParts}
+use Rattle.calc_session.proofs.Shared.{AllPartsOf, AllParts-zip, AreNodes, AreNodes-left, AreNodes-right, parts_themselves, nth, grown, compound, plains, plain, Forest, empty, tree, flatten}
+use Rattle.calc_session.proofs.Shared.{IsFitting, HasFittingRationals, fraction_fits}
+use Rattle.std.proofs.Common.{ℕ}
 
 -- what a node can hold
 abbrev IsStored : Tree → Type 0

@@ -2,7 +2,7 @@
 use Rattle.calc_terms.proofs.Shared.{ℤ, pos, ◌≤◌, arith, nat_abs, ◌<ℤ◌, ints, Leaf, IsPayload, payload_of, IsUsable}
 use Rattle.calc_terms.specs.declared.leaf.Leaf.TheVariants as leaf
 
-at_least_one : (z : ℤ) → pos 0 <ℤ z → 1 ≤ nat_abs z
+pub at_least_one : (z : ℤ) → pos 0 <ℤ z → 1 ≤ nat_abs z
 at_least_one z h = omega (arith, ints)
 
 pub usable : (x : Leaf) → IsUsable x → IsPayload (payload_of x)

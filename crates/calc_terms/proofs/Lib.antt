@@ -9,5 +9,5 @@ pub mod ShortForm
 pub mod Codec
 pub mod Leaves
 mod Shared
-pub mod TreeLists
 pub mod SmallFractions
+pub mod SmallLaws

@@ -3,11 +3,11 @@ use Rattle.calc_terms.proofs.Shared.{◌≡◌, ℕ, zero, suc, ◌-◌, ◌≤�
 use Rattle.calc_terms.proofs.Shared.{nat_le, nat_eq, codes, list_all, pointwise, ne_eqb, leb-true, le-leb, length-append, take_at, drop-replicate, length-replicate, append-nil, AllPass-from_list_all}
 use Rattle.calc_terms.proofs.Shared.{list_all-from_AllPass, bytes_eq-Decides, is_name_byte, is_reserved, begins_with_letter, is_name, IsName, before_zero, padded, HoldsName}
 
-both : (a b : Bool) → (a && b) ≡ true → (a ≡ true) × (b ≡ true)
+pub both : (a b : Bool) → (a && b) ≡ true → (a ≡ true) × (b ≡ true)
 both true b h = (refl, h)
 both false b h = absurd cc
 
-and : (a b : Bool) → a ≡ true → b ≡ true → (a && b) ≡ true
+pub and : (a b : Bool) → a ≡ true → b ≡ true → (a && b) ≡ true
 and a b h k = rw (h, k) refl
 
 -- no byte of a name is zero
@@ -29,7 +29,7 @@ pub record IsSpelled (x : List ℕ) : Type 0 where
   pub short : length x ≤ 7
   pub free : is_reserved x ≡ false
 
-not_true : (b : Bool) → not b ≡ true → b ≡ false
+pub not_true : (b : Bool) → not b ≡ true → b ≡ false
 not_true true h = absurd cc
 not_true false h = refl
 
@@ -41,7 +41,7 @@ spelled x h =
     record { begins = c.0; spelled = c.1; short = leb-true (length x) 7 b.1; free = not_true (is_reserved x) a.1 }
 
 -- a name in words
-clash : (b : Bool) → b ≡ false → b ≡ true → ⊥
+pub clash : (b : Bool) → b ≡ false → b ≡ true → ⊥
 clash b h k = cc
 
 reserved_not : (x y : List ℕ) → pointwise nat_eq x y ≡ false → x ≢ y
@@ -54,7 +54,7 @@ differs x y ne = by_test (pointwise nat_eq x y) refl
     by_test true e = absurd (ne ((bytes_eq-Decides x y).0 e))
     by_test false e = refl
 
-neither : (a b : Bool) → (a || b) ≡ false → (a ≡ false) × (b ≡ false)
+pub neither : (a b : Bool) → (a || b) ≡ false → (a ≡ false) × (b ≡ false)
 neither true b h = absurd cc
 neither false b h = (refl, h)
 

@@ -3,7 +3,7 @@ use Rattle.calc_terms.proofs.Shared.{◌≡◌, ℕ, ℤ, pos, neg_ℤ, nat_abs,
 use Rattle.calc_terms.proofs.Shared.{and_from, and_parts, eqb-true, ne_eqb, Fraction, Holds, is_lowest, is_one_fraction, lowest, lowest_parts, int_is_one, Ratio, IsRat, is_short, is_short_int}
 use Rattle.calc_terms.proofs.FractionFacts.{whole_numerator, whole_denominator}
 
-holds : (b : Bool) → b ≡ true → Holds b
+pub holds : (b : Bool) → b ≡ true → Holds b
 holds b e = rw e tt
 
 -- what is in lowest terms stays as it is

@@ -1,6 +1,5 @@
 -- The fractions 0 and 1, as values and in sums and products.
-use Rattle.calc_terms.proofs.Shared.{◌≡◌, ◌∙◌, ap, pos, Fraction, lowest, one_fraction, zero_fraction, Rat, ratio_of, value_of, Ratio, one_times, plus_comm, times_comm, zero_plus}
-use Rattle.calc_terms.specs.{Fractions.{plus, times}, Ratio.{whole}}
+use Rattle.calc_terms.proofs.Shared.{◌≡◌, ◌∙◌, ap, pos, Fraction, lowest, one_fraction, zero_fraction, Rat, ratio_of, value_of, Ratio, plus_comm, zero_plus, plus, whole}
 
 pub zero_value : (r : Rat) → ratio_of r ≡ whole (pos 0) → value_of r ≡ zero_fraction
 unfolding zero_fraction
@@ -12,6 +11,3 @@ one_value r e = ap (λ (x : Ratio). lowest x.num x.den) e
 
 pub plus_zero : (q : Fraction) → plus q zero_fraction ≡ q
 plus_zero q = plus_comm q zero_fraction ∙ zero_plus q
-
-pub times_one : (q : Fraction) → times q one_fraction ≡ q
-times_one q = times_comm q one_fraction ∙ one_times q

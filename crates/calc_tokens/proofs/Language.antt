@@ -1,9 +1,6 @@
 -- Tokens with their places, and the tokens of the language.
-use Rattle.calc_tokens.proofs.Shared.{ℕ, ◌≡◌, List, [], ◌∷◌, Bool, true, false, refl, ap, Token, Placed, Leads, nothing, blank, token, begins_wide, AreTokensOf, IsFirstWide, place}
-use Rattle.std.specs.Prelude.{◌⊎◌}
-use Rattle.std.proofs.Common.{inl, inr}
-use Rattle.calc_language.specs.Tokens.{Scans, at_end, at_blank, at_token}
-use Rattle.calc_tokens.specs.Placed.{bare}
+use Rattle.calc_tokens.proofs.Shared.{ℕ, ◌≡◌, List, [], ◌∷◌, Bool, true, false, refl, ap, Token, Placed, Leads, nothing, blank, token, begins_wide, AreTokensOf, IsFirstWide, place, ◌⊎◌, inl, inr}
+use Rattle.calc_tokens.proofs.Shared.{Scans, at_end, at_blank, at_token, bare}
 
 scans : {line bytes rest : List ℕ} {ts : List Placed} → rest ≡ [] → Leads line bytes ts rest → Scans bytes (bare ts)
 scans {rest} e nothing = by rest e

@@ -1,12 +1,6 @@
 -- A line has one list of tokens, or one first fault.
-use Rattle.calc_tokens.proofs.Shared.{ℕ, ◌≡◌, List, [], ◌∷◌, Bool, true, false, ◌==◌, Some, None, refl, sym, ap, ◌∙◌, subst, arith, Token, is_blank, token_at, Placed}
-use Rattle.calc_tokens.proofs.Shared.{Leads, nothing, blank, token, begins_wide, BeginsToken, IsFirstCharacter, IsFirstWide, AreTokensOf, place}
-use Rattle.std.specs.Prelude.{◌||◌}
-use Rattle.calc_language.proofs.ReadLaws.{blank_no_token}
-use Rattle.calc_tokens.specs.Scanned.{begins_blank, BeginsNoToken}
-
-some_is : {A : Type 0} (p q : A) → Some p ≡ Some q → p ≡ q
-some_is p q e = cc
+use Rattle.calc_tokens.proofs.Shared.{some_is, ℕ, ◌≡◌, List, [], ◌∷◌, Bool, true, false, ◌==◌, Some, None, refl, sym, ap, ◌∙◌, subst, arith, Token, is_blank, token_at, Placed, Leads, nothing, blank}
+use Rattle.calc_tokens.proofs.Shared.{token, begins_wide, BeginsToken, IsFirstCharacter, IsFirstWide, AreTokensOf, place, ◌||◌, blank_no_token, begins_blank, BeginsNoToken}
 
 -- where the tokens end: at the end of the line, or at a fault
 pub record Stops (rest : List ℕ) : Type 0 where

@@ -1,8 +1,6 @@
 -- What is answered, from what was found.
-use Rattle.calc_tokens.proofs.Shared.{ℕ, ◌≡◌, List, Ok, Err, arith, ap, subst, Placed, AreTokensOf, IsFirstCharacter, IsFirstWide}
-use Rattle.calc_tokens.proofs.OneScan.{character_or_all, wide_or_all, character_or_wide, one_character, one_wide, one_list}
-use Rattle.std.specs.Prelude.{Result, MatchResult, IsOkAnd, ◌↔◌}
-use Rattle.calc_tokens.specs.{declared.tokens.TokenFault.TokenFault, declared.tokens.TokenFault.TheVariants.{Character, Number}, Faults.IsFaultOf}
+use Rattle.calc_tokens.proofs.Shared.{ℕ, ◌≡◌, List, Ok, Err, arith, ap, subst, Placed, AreTokensOf, IsFirstCharacter, IsFirstWide, Result, MatchResult, IsOkAnd, ◌↔◌, TokenFault, Character, Number}
+use Rattle.calc_tokens.proofs.{Shared.{IsFaultOf}, OneScan.{character_or_all, wide_or_all, character_or_wide, one_character, one_wide, one_list}}
 
 -- the tokens of a line behind Ok, or its fault
 abbrev pub Found : {T : Type 0} → (T → List Placed) → List ℕ → Result T TokenFault → Type 0

@@ -1,11 +1,9 @@
 -- The parts of a literal: whether they fit, and its value.
-use Rattle.calc_tokens.proofs.Shared.{ℕ, suc, ◌+◌, ◌-◌, ◌*◌, ◌≡◌, ◌<◌, List, [], ◌∷◌, ◌++◌, Bool, true, false, ◌==◌, ◌&&◌, length, nat_lt}
-use Rattle.calc_tokens.proofs.Shared.{if◌then◌else◌, pos, AllPass, refl, sym, ap, ◌∙◌, arith, eqb-true, lowest, is_digit, digits_value, decimals, trimmed, kept_before, unscaled}
-use Rattle.calc_tokens.proofs.{Shared.{scale, has_point, All-nil, All-cons}, Runs.{run_passes, chosen}, Digits.{digits_value-append, digits_value_grows}}
+use Rattle.calc_tokens.proofs.Shared.{ℕ, suc, ◌+◌, ◌-◌, ◌*◌, ◌≡◌, ◌<◌, List, [], ◌∷◌, ◌++◌, Bool, true, false, ◌==◌, ◌&&◌, length, nat_lt, if◌then◌else◌, pos, AllPass, refl, sym, ap, ◌∙◌, arith}
+use Rattle.calc_tokens.proofs.Shared.{eqb-true, lowest, is_digit, digits_value, decimals, trimmed, kept_before, unscaled, scale, has_point, All-nil, All-cons, one-le-pow, pow-add, lt-ltb, All-head}
+use Rattle.calc_tokens.proofs.{Shared.{All-tail, same_lowest, parts_fit}, Runs.{run_passes, chosen}, Digits.{digits_value-append, digits_value_grows}}
 use Rattle.std.specs.Prelude.{◌^◌}
-use Rattle.std.proofs.{Math.Nat.{one-le-pow, pow-suc}, lemmas.Nat.pow-add, lemmas.Bool.lt-ltb, lemmas.List.Elements.{All-head, All-tail}}
-use Rattle.calc_terms.specs.Fractions.{same_lowest}
-use Rattle.calc_tokens.specs.Literals.{parts_fit}
+use Rattle.std.proofs.Math.Nat.{pow-suc}
 
 test_fails : (n : ℕ) (b : Bool) → (n < 2 ^ 127 → ⊥) → (nat_lt n (2 ^ 127) && b) ≡ false
 test_fails n b h = grind arith

@@ -1,9 +1,7 @@
 -- What follows a prefix.
-use Rattle.calc_tokens.proofs.Shared.{ℕ, ◌≡◌, List, [], ◌∷◌, Bool, true, false, ◌&&◌, ◌==◌, nat_eq, length, Option, Some, None, pointwise, option_map, refl, arith, Token}
-use Rattle.calc_tokens.proofs.Shared.{if_so, rest_after, or_else, front_of}
-use Rattle.std.specs.{Prelude.{take, drop}, Borrow.Bor, Option.option_or}
-use Rattle.std.proofs.lemmas.Bool.Decides.{nat_tests}
-use Rattle.calc_tokens.specs.declared.tokens.What.{What}
+use Rattle.calc_tokens.proofs.Shared.{ℕ, ◌≡◌, List, [], ◌∷◌, Bool, true, false, ◌&&◌, ◌==◌, nat_eq, length, Option, Some, None, pointwise, option_map, refl, arith, Token, if_so, rest_after, or_else}
+use Rattle.calc_tokens.proofs.Shared.{front_of, take, Bor, option_or, nat_tests, What}
+use Rattle.std.specs.Prelude.{drop}
 
 turned : (a b : ℕ) → (a == b) ≡ (b == a)
 turned a b = grind (arith, nat_tests)

@@ -1,7 +1,5 @@
 -- A run of bytes at the front, by its length.
-use Rattle.calc_tokens.proofs.Shared.{ℕ, suc, ◌+◌, ◌≡◌, ◌≤◌, ◌<◌, List, [], ◌∷◌, Bool, true, false, length, AllPass, refl, arith, All-nil, All-cons, is_digit, leading_run, decimals}
-use Rattle.calc_language.proofs.LeadingRuns.{run_back_le}
-use Rattle.calc_language.specs.Tokens.{keep}
+use Rattle.calc_tokens.proofs.Shared.{ℕ, suc, ◌+◌, ◌≡◌, ◌≤◌, ◌<◌, List, [], ◌∷◌, Bool, true, false, length, AllPass, refl, arith, All-nil, All-cons, is_digit, leading_run, decimals, run_back_le, keep}
 
 pub run_passes : (p : ℕ → Bool) (bytes : List ℕ) → AllPass p ((leading_run p bytes).0)
 run_passes p [] = All-nil (λ x. p x ≡ true)

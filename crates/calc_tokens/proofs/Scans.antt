@@ -1,7 +1,6 @@
 -- A line's tokens up to a rest, one token further at a time.
-use Rattle.calc_tokens.proofs.Shared.{ℕ, suc, ◌+◌, ◌≡◌, ◌≤◌, ◌<◌, List, [], ◌∷◌, ◌++◌, length, true, sym, ap, subst, arith, Token, is_blank, Placed, Leads}
-use Rattle.calc_tokens.proofs.{Shared.{nothing, blank, token, BeginsToken, place}, Shorter.token_shorter}
-use Rattle.std.proofs.Common.{length-append}
+use Rattle.calc_tokens.proofs.Shared.{ℕ, suc, ◌+◌, ◌≡◌, ◌≤◌, ◌<◌, List, [], ◌∷◌, ◌++◌, length, true, sym, ap, subst, arith, Token, is_blank, Placed, Leads, nothing, blank, token, BeginsToken, place}
+use Rattle.calc_tokens.proofs.{Shared.{length-append}, Shorter.{token_shorter}}
 
 -- the loop came to this rest, and has no more tokens than bytes
 pub record Reached (line : List ℕ) (tokens : List Placed) (rest : List ℕ) : Type 0 where

@@ -1,9 +1,9 @@
 -- Behind a token fewer bytes are left.
 use Rattle.calc_tokens.proofs.Shared.{ℕ, ◌+◌, ◌≡◌, ◌≤◌, ◌<◌, List, [], ◌∷◌, length, Bool, true, false, ◌&&◌, ◌==◌, nat_le, nat_lt, if◌then◌else◌, Option, Some, None, refl, subst, arith, is_digit}
-use Rattle.calc_tokens.proofs.{Shared.{is_name_byte, Token, leading_run, decimals, token_of_word, if_so, rest_after, or_else, token_at}, Runs.{run_back_lt, decimals_le}}
-use Rattle.std.proofs.lemmas.Bool.{ltb-true}
-use Rattle.calc_terms.specs.Name.{is_letter}
-use Rattle.calc_language.specs.Tokens.{Mark, marks, literal_at, word_at, first_mark}
+use Rattle.calc_tokens.proofs.Shared.{is_name_byte, Token, leading_run, decimals, token_of_word, if_so, rest_after, or_else, token_at, ltb-true, is_letter, Mark, marks, first_mark}
+use Rattle.calc_tokens.proofs.Runs.{run_back_lt, decimals_le}
+use Rattle.calc_terms.proofs.Names.{both as first_holds}
+use Rattle.calc_language.specs.Tokens.{literal_at, word_at}
 
 -- what stands behind, where there is a token
 abbrev pub Leaves : List ℕ → Option (Token × List ℕ) → Type 0
@@ -45,9 +45,6 @@ prefix_leaves (p ∷ prefix) (b ∷ bytes) = by (p == b) (rest_after prefix byte
 abbrev have_bytes : List Mark → Bool
 have_bytes [] = true
 have_bytes (m ∷ ms) = nat_lt 0 (length m.bytes) && have_bytes ms
-
-first_holds : (a b : Bool) → (a && b) ≡ true → (a ≡ true) × (b ≡ true)
-first_holds a b h = grind arith
 
 mark_leaves : (ms : List Mark) (bytes : List ℕ) → have_bytes ms ≡ true → Leaves bytes (first_mark ms bytes)
 mark_leaves [] bytes h = tt

@@ -1,11 +1,7 @@
 -- Words: a run of letters and digits is a reserved word, a name, or too long.
-use Rattle.calc_tokens.proofs.Shared.{ℕ, ◌≡◌, List, [], ◌∷◌, true, false, ◌&&◌, nat_le, nat_eq, ◌==◌, length, if◌then◌else◌, Some, None, pointwise, arith, refl, sym}
-use Rattle.calc_tokens.proofs.Shared.{ap, ◌∙◌, name, root_mark, leading_run, token_of_word, is_name_byte}
-use Rattle.std.specs.Prelude.{codes}
-use Rattle.std.proofs.lemmas.Slice.Eq.{bytes_eq-Decides}
-use Rattle.calc_language.proofs.LeadingRuns.{run_all, same_bytes-pointwise}
-use Rattle.calc_language.specs.Tokens.{undef_mark, same_bytes, word_at}
-use Rattle.calc_terms.specs.Name.{begins_with_letter, is_name}
+use Rattle.calc_tokens.proofs.Shared.{ℕ, ◌≡◌, List, [], ◌∷◌, true, false, ◌&&◌, nat_le, nat_eq, ◌==◌, length, if◌then◌else◌, Some, None, pointwise, arith, refl, sym, ap, ◌∙◌, name, root_mark}
+use Rattle.calc_tokens.proofs.Shared.{leading_run, token_of_word, is_name_byte, codes, bytes_eq-Decides, run_all, same_bytes-pointwise, undef_mark, same_bytes, begins_with_letter, is_name}
+use Rattle.calc_language.specs.Tokens.{word_at}
 
 -- a run that begins with a letter
 run_begins : (bytes : List ℕ) → begins_with_letter bytes ≡ true → begins_with_letter ((leading_run is_name_byte bytes).0) ≡ true

@@ -6,6 +6,7 @@ use Rattle.child_lists.proofs.Shared.{kids_of, last_put, last_rest, last_root, l
 use Rattle.child_lists.proofs.Shared.{represents_as, represents_handed, represents_with, rest_trees, root_id, root_tree, set_nth, size, sizes, subst, suc, sym, takes, tree, tree_nth, tree_of, true}
 use Rattle.child_lists.proofs.Shared.{whole_kids, with_nth, with_nth-without_nth, with_root_kids, without_nth, without_root, zero, ℕ, ◌<◌, ◌∙◌, ◌≡◌, ◌≤◌, IsNextAt, Lists, List, root_ids}
 use Rattle.child_lists.proofs.{ListedChildren.{children_number, lists_with}, PutBefore.{kept_kids}}
+use Rattle.tree_handles.proofs.Lasts.{with_kids_alone as arity-with_root_kids, with_kids_root as root_id-with_root_kids}
 use Rattle.calc_terms.specs.declared.kind.Kind.TheVariants as kind
 
 -- ---- a node with other children
@@ -29,12 +30,6 @@ resummed (tree l k empty) n us ts a o w p r =
       whole = (with_many l.payload (arity n) is, r.whole, tt);
       plain_trees = ap (λ (x : Tree). more x none) (with_these l.payload (plains n) is ∙ ap add r.plain_trees);
     }
-
-arity-with_root_kids : (n t : Forest) → arity (with_root_kids n t) ≡ arity t
-arity-with_root_kids n t = grind arith
-
-root_id-with_root_kids : (n t : Forest) → root_id (with_root_kids n t) ≡ root_id t
-root_id-with_root_kids n t = grind arith
 
 pub last_with : {i : ℕ} {t g f : Forest} (n : Forest) → Ends i t g f → Ends i (with_root_kids n t) g (put i n f)
 last_with n e = grind (arith, last_put, arity-with_root_kids, root_id-with_root_kids)

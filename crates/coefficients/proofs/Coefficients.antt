@@ -3,12 +3,14 @@ use Rattle.coefficients.proofs.Shared.{names_of-append, true≢false, ◌≡◌,
 use Rattle.coefficients.proofs.Shared.{[], not_from_false, Fraction, zero_fraction, is_zero_fraction, is_one_fraction, has_coefficient, is_number, IsNumber, Split, split, split_product, num_one}
 use Rattle.coefficients.proofs.Shared.{product_tree, part_of, is_reduced, is_one_add, IsProductForm, IsSumForm, HasForm, Tree, num, add, mult, Trees, none, more, append, names, names_of, AllParts}
 use Rattle.coefficients.proofs.Shared.{is_add, is_undef, zero_is, zero_test, one_test, no_zero, number_test, keeps, coefficient_of, factors_of, spliced, rational_before, with_coefficient, IsMonic}
-use Rattle.coefficients.proofs.{Shared.{rational_times_sum, Contains-append_right, one_not_zero, HasNoNewName, Reduces}, Factors.{no_split, AreFactors, factors_monic, factors_of_tree, monic_factors}}
-use Rattle.coefficients.proofs.{Factors.{monic_parts, monic_part, monic_no_number, tree_of_factors}, Forms.{one_is_one, reduced_parts, parts_reduced, parts_defined, own_form, number_parts}}
+use Rattle.coefficients.proofs.{Shared.{rational_times_sum, Contains-append_right, one_not_zero, HasNoNewName, Reduces, own_form}, Factors.{no_split, AreFactors, factors_monic, factors_of_tree}}
+use Rattle.coefficients.proofs.{Factors.{monic_factors, monic_parts, monic_part, monic_no_number, tree_of_factors}, Forms.{reduced_parts, parts_reduced, parts_defined, number_parts}}
 use Rattle.coefficients.proofs.{Keeps.{coefficient_keeps, sum_names}, NumberMultiples.{IsFactor, not_one_is}, Splits.{IsCoefficient, Leads, in_front, IsSpread, put_together}}
 use Rattle.coefficients.proofs.{SumMultiples.{sum_form_multiple, parts_multiple, no_number_multiple}, TermMultiples.{factors_behind, spread_behind, irrational, rational}}
-use Rattle.calc_algebra.proofs.NumberRewrites as lower
+use Rattle.calc_terms.proofs.SmallLaws.{nobody as no_name}
+use Rattle.number_forms.proofs.Placings.{one_test as one_is_one}
 pub use Rattle.coefficients.proofs.TermMultiples.{product_form_of}
+use Rattle.calc_algebra.proofs.NumberRewrites as lower
 
 -- the same coefficient as in the laws of meanings
 pub coefficient_same : (t : Tree) → coefficient_of t ≡ lower.coefficient_of t
@@ -149,9 +151,6 @@ names_put (num q) p = by (is_zero_fraction q) (is_one_fraction q)
     by false true = inr (inl refl)
     by false false = inr (inl (names_before q p))
 names_put c p = inr (inr (names_spliced c p))
-
-no_name : (x : List ℕ) → Contains [] x → ⊥
-no_name x (k, l, e) = absurd (omega arith)
 
 no_new_names : (c p t : Tree) → NamesOf c p t → HasNoNewName (mult (more c (more p none))) t
 unfolding NamesOf

@@ -1,8 +1,9 @@
 -- The factors behind a coefficient, and trees without one.
-use Rattle.coefficients.proofs.Shared.{true≢false, ◌≡◌, ◌≤◌, inl, inr, Bool, true, false, if◌then◌else◌, refl, sym, ap, ◌∙◌, subst, arith, Fraction, has_coefficient, is_number, IsNumber, Split, split}
-use Rattle.coefficients.proofs.Shared.{split_product, num_one, product_tree, part_of, base_of, is_undistributed, NoneIs, RisesBy, IsFrontForm, IsProductForm, HasForm, Tree, num, add, mult, root}
-use Rattle.coefficients.proofs.Shared.{Trees, none, more, append, count, HasTwo, AllParts, AllPartsOf, is_mult, number_words, number_test, coefficient_of, factors_of, IsMonic, symbol, List, ℕ}
-use Rattle.coefficients.proofs.Forms.{reduced_parts, parts_reduced, own_form, parts_defined, one_is_one}
+use Rattle.coefficients.proofs.Shared.{two_count, true≢false, ◌≡◌, ◌≤◌, inl, inr, Bool, true, false, if◌then◌else◌, refl, sym, ap, ◌∙◌, subst, arith, Fraction, has_coefficient, is_number, IsNumber}
+use Rattle.coefficients.proofs.Shared.{Split, split, split_product, num_one, product_tree, part_of, base_of, is_undistributed, NoneIs, RisesBy, IsFrontForm, IsProductForm, HasForm, Tree, num, add}
+use Rattle.coefficients.proofs.Shared.{mult, root, Trees, none, more, append, count, HasTwo, AllParts, AllPartsOf, is_mult, number_words, number_test, coefficient_of, factors_of, IsMonic, symbol}
+use Rattle.coefficients.proofs.{Shared.{List, ℕ, own_form}, Forms.{reduced_parts, parts_reduced, parts_defined}}
+use Rattle.number_forms.proofs.Placings.{one_test as one_is_one}
 
 -- ---- what stands in front
 
@@ -50,9 +51,6 @@ pub record AreFactors (ts : Trees) : Type 0 where
   pub no_number : NoneIs is_number ts
   pub rising : RisesBy base_of ts
   pub formed : AllPartsOf HasForm ts
-
-pub two_count : (ts : Trees) → HasTwo ts → 2 ≤ count ts
-two_count ts h = grind arith
 
 pub undistributed_one : (ts : Trees) → is_undistributed (split num_one ts) ≡ false
 undistributed_one ts = rw one_is_one refl

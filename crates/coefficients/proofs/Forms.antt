@@ -1,7 +1,7 @@
 -- Parts that have their form, and the parts of Numbers.
 use Rattle.coefficients.proofs.Shared.{arith, ◌≡◌, inr, true, false, refl, not_from_false, one_fraction, is_one_fraction, is_number, is_term, IsNumber, IsTerm, AreTerms, is_reduced, HasForm, Tree}
 use Rattle.coefficients.proofs.Shared.{num, mult, root, Trees, none, more, append, AllParts, AllPartsOf, is_undef, zero_test, whole_numerator, whole_denominator, number_test, reduced_words}
-use Rattle.coefficients.proofs.Shared.{reduced_test, number_words}
+use Rattle.coefficients.proofs.Shared.{reduced_test}
 
 -- ---- reduced trees
 
@@ -10,9 +10,6 @@ reduced_parts t h d = grind (arith, reduced_words)
 
 pub parts_reduced : (t : Tree) → AllParts HasForm t → is_reduced t ≡ true
 parts_reduced t h = reduced_test t (inr h)
-
-pub own_form : (t : Tree) → AllParts HasForm t → HasForm t
-own_form t h = grind arith
 
 -- Undef has no form
 pub parts_defined : (t : Tree) → AllParts HasForm t → is_undef t ≡ false
@@ -35,24 +32,6 @@ terms_parts (more t ts) h = (term_parts t h.0, terms_parts ts h.1)
 pub number_parts : (t : Tree) → IsNumber t → AllParts HasForm t
 number_parts t h = grind (arith, terms_parts, term_parts)
 
-pub number_reduced : (t : Tree) → is_number t ≡ true → is_reduced t ≡ true
-number_reduced t h = parts_reduced t (number_parts t (number_words t h))
-
-pub term_test : (t : Tree) → IsTerm t → is_term t ≡ true
-unfolding is_number
-term_test (num q) h = not_from_false _ (zero_test q h)
-term_test (root (num r)) h = number_test (root (num r)) h
-term_test (mult (more (num q) (more (root (num r)) none))) h = number_test (mult (more (num q) (more (root (num r)) none))) h
-term_test t h = absurd h
-
--- a term other than 0 is a Number
-pub number_of_term : (t : Tree) → IsTerm t → IsNumber t
-number_of_term t h = grind arith
-
 pub no_term : (t : Tree) → is_number t ≡ false → is_term t ≡ false
 unfolding is_number
 no_term t h = grind arith
-
-pub one_is_one : is_one_fraction one_fraction ≡ true
-unfolding one_fraction
-one_is_one = rw (whole_numerator, whole_denominator) refl

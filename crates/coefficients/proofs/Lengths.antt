@@ -1,8 +1,8 @@
 -- How many leading factors of a reduced product are Numbers.
 use Rattle.coefficients.proofs.Shared.{true≢false, ◌≡◌, ℕ, zero, suc, ◌-◌, ◌<◌, ◌≤◌, ◌⊎◌, inl, inr, Bool, true, false, if◌then◌else◌, refl, sym, ap, ◌∙◌, subst, arith, has_coefficient, Fraction}
 use Rattle.coefficients.proofs.Shared.{is_number, IsNumber, Split, split, split_product, num_one, product_tree, part_of, is_reduced, IsProductForm, HasForm, Tree, num, add, mult, root, Trees, none}
-use Rattle.coefficients.proofs.Shared.{more, append, count, AllParts, AllPartsOf, is_mult, number_test, number_words, nth, children_of, coefficient_length, coefficient_of, factors_of}
-use Rattle.coefficients.proofs.{Coefficients.{leading_factors, product_form_of}, Factors.{no_split, spliced_split, two_count, AreFactors}, Forms.{reduced_parts, parts_reduced}}
+use Rattle.coefficients.proofs.Shared.{more, append, count, AllParts, AllPartsOf, is_mult, number_test, number_words, nth, children_of, coefficient_length, coefficient_of, factors_of, two_count}
+use Rattle.coefficients.proofs.{Coefficients.{leading_factors, product_form_of}, Factors.{no_split, spliced_split, AreFactors}, Forms.{reduced_parts, parts_reduced}}
 use Rattle.coefficients.proofs.Splits.{Leads, in_front, number_has_no_factors}
 
 -- 0, 1 or 2, as the first and the second are Numbers

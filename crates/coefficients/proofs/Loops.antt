@@ -5,14 +5,6 @@ use Rattle.coefficients.proofs.{Shared.{more, mult, none, nth, plain, root_tree,
 
 -- ---- lists
 
-pub append_assoc : (ts us vs : Trees) → append (append ts us) vs ≡ append ts (append us vs)
-append_assoc none us vs = refl
-append_assoc (more t ts) us vs = ap (more t) (append_assoc ts us vs)
-
-pub count_append : (ts us : Trees) → count (append ts us) ≡ count ts + count us
-count_append none us = omega arith
-count_append (more t ts) us = omega (arith, count_append ts us)
-
 -- the first trees in another form
 abbrev pub mapped_first : (Tree → Tree) → ℕ → Trees → Trees
 mapped_first f zero ts = ts

@@ -1,15 +1,13 @@
 -- A rational times the terms of a Number.
-use Rattle.coefficients.proofs.Shared.{arith, ◌≡◌, ◌≢◌, ℕ, suc, ◌≤◌, [], ◌∷◌, length, Bool, true, false, if◌then◌else◌, refl, sym, ap, ◌∙◌, subst, Fraction, times, zero_fraction, one_fraction}
-use Rattle.coefficients.proofs.Shared.{is_one_fraction, IsNumber, IsTerm, AreTerms, IsBelowAll, Rises, term_of, terms_of, natural_of, product_tree, Term, Surd, term, term_scale, surd_scale, Tree, num}
-use Rattle.coefficients.proofs.{Shared.{add, mult, root, Trees, none, more, one_is, product_not_zero, mapped, rational_times, rational_times_number, times_comm, one_times}, Forms.{one_is_one}}
+use Rattle.coefficients.proofs.Shared.{times_one, arith, ◌≡◌, ◌≢◌, ℕ, suc, ◌≤◌, [], ◌∷◌, length, Bool, true, false, if◌then◌else◌, refl, sym, ap, ◌∙◌, subst, Fraction, times, zero_fraction}
+use Rattle.coefficients.proofs.Shared.{one_fraction, is_one_fraction, IsNumber, IsTerm, AreTerms, IsBelowAll, Rises, term_of, terms_of, natural_of, product_tree, Term, Surd, term, term_scale}
+use Rattle.coefficients.proofs.Shared.{surd_scale, Tree, num, add, mult, root, Trees, none, more, one_is, product_not_zero, mapped, rational_times, rational_times_number, times_comm, one_times}
+use Rattle.number_forms.proofs.Placings.{one_test as one_is_one}
 
 -- a rational other than 0 and 1
 pub record IsFactor (q : Fraction) : Type 0 where
   pub not_zero : q ≢ zero_fraction
   pub not_one : q ≢ one_fraction
-
-pub times_one : (q : Fraction) → times q one_fraction ≡ q
-times_one q = times_comm q one_fraction ∙ one_times q
 
 pub not_one_is : (q : Fraction) → is_one_fraction q ≡ false → q ≢ one_fraction
 not_one_is q h e = grind (arith, one_is_one)

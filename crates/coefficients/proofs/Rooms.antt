@@ -1,19 +1,16 @@
 -- Bytes while a rational is multiplied into the terms of a sum: at any time the terms have no more than the reduced terms with their parts may have.
-use Rattle.coefficients.proofs.Shared.{◌≡◌, ℕ, ◌+◌, ◌*◌, ◌^◌, ◌≤◌, ◌<◌, ◌⊎◌, inl, inr, List, length, Bool, true, false, if◌then◌else◌, max, refl, sym, ap, ◌∙◌, subst, arith, is_number, is_term}
-use Rattle.coefficients.proofs.Shared.{IsNumber, IsTerm, AreTerms, Rises, terms_of, HasForm, IsProductForm, NoneIs, number_terms, other_terms, product_tree, split_product, split, num_one, is_reduced}
-use Rattle.coefficients.proofs.Shared.{number_test, number_words, term_words, reduced_words, counted, counted_among, SpansTree, SpansTrees, Fraction, Tree, num, add, mult, Trees, none, more, append}
-use Rattle.coefficients.proofs.Shared.{count, size, sizes, is_add, AllParts, AllPartsOf, mapped, rational_times, rational_times_factors, rational_times_number, rational_times_term, leads_sum}
-use Rattle.coefficients.proofs.Shared.{put_room, LacksRoom, OfFull, number_size, NumberFault, pow_pos, mul-le, term_bytes, roots_bytes, count_terms, few_terms, terms_spanned, counted_number}
-use Rattle.coefficients.proofs.{Shared.{counted_other, tree_bytes, factor_bytes, numbers_among, part_counts}, Factors.{AreFactors}, Forms.{reduced_parts, number_of_term}}
+use Rattle.coefficients.proofs.Shared.{sizes_append, ◌≡◌, ℕ, ◌+◌, ◌*◌, ◌^◌, ◌≤◌, ◌<◌, ◌⊎◌, inl, inr, List, length, Bool, true, false, if◌then◌else◌, max, refl, sym, ap, ◌∙◌, subst, arith, is_number}
+use Rattle.coefficients.proofs.Shared.{is_term, IsNumber, IsTerm, AreTerms, Rises, terms_of, HasForm, IsProductForm, NoneIs, number_terms, other_terms, product_tree, split_product, split, num_one}
+use Rattle.coefficients.proofs.Shared.{is_reduced, number_test, number_words, term_words, reduced_words, counted, counted_among, SpansTree, SpansTrees, Fraction, Tree, num, add, mult, Trees, none}
+use Rattle.coefficients.proofs.Shared.{more, append, count, size, sizes, is_add, AllParts, AllPartsOf, mapped, rational_times, rational_times_factors, rational_times_number, rational_times_term}
+use Rattle.coefficients.proofs.Shared.{leads_sum, put_room, LacksRoom, OfFull, number_size, NumberFault, pow_pos, mul-le, term_bytes, roots_bytes, count_terms, few_terms, terms_spanned}
+use Rattle.coefficients.proofs.{Shared.{counted_number, counted_other, tree_bytes, factor_bytes, numbers_among, part_counts}, Factors.{AreFactors}, Forms.{reduced_parts}}
 use Rattle.coefficients.proofs.{NumberMultiples.{IsFactor, scaled}, SumMultiples.{EachTerm, each_term, number_term, terms_no_sum}, TermMultiples.{factors_behind, multiple}}
+use Rattle.number_forms.proofs.Shaped.{term_number as number_of_term}
 use Rattle.tree_handles.specs.declared.fault.NumberFault.TheVariants as fault
 use Rattle.tree_room.specs.Needs as need
 
 -- ---- lists
-
-pub sizes_append : (ts us : Trees) → sizes (append ts us) ≡ sizes ts + sizes us
-sizes_append none us = omega arith
-sizes_append (more t ts) us = omega (arith, sizes_append ts us)
 
 count_mapped : (f : Tree → Tree) (ts us : Trees) → count (append (mapped f ts) us) ≡ count (append ts us)
 count_mapped f none us = refl

@@ -1,8 +1,9 @@
 -- A rational times a reduced sum: a reduced sum of as many terms with the same parts, in the same order.
-use Rattle.coefficients.proofs.Shared.{true≢false, ◌≡◌, ◌≤◌, length, arith, ◌⊎◌, ◌∷◌, inl, inr, Bool, true, false, if◌then◌else◌, refl, sym, ap, ◌∙◌, subst, Fraction, is_number, is_term, IsNumber}
-use Rattle.coefficients.proofs.Shared.{IsTerm, AreTerms, Rises, terms_of, part_of, number_terms, other_terms, NoneIs, RisesBy, IsSumForm, HasForm, surd_scale, Tree, num, add, mult, root, Trees, none}
-use Rattle.coefficients.proofs.Shared.{more, HasTwo, AllPartsOf, is_add, term_words, number_test, number_words, mapped, rational_times_term, rational_times_sum, tree_cmp}
-use Rattle.coefficients.proofs.{Forms.{term_parts, term_test, no_term, number_of_term}, NumberMultiples.{IsFactor, IsScaled, scaled, rises-scaled}, TermMultiples.{multiple}}
+use Rattle.coefficients.proofs.Shared.{term_no_sum, true≢false, ◌≡◌, ◌≤◌, length, arith, ◌⊎◌, ◌∷◌, inl, inr, Bool, true, false, if◌then◌else◌, refl, sym, ap, ◌∙◌, subst, Fraction, is_number, is_term}
+use Rattle.coefficients.proofs.Shared.{IsNumber, IsTerm, AreTerms, Rises, terms_of, part_of, number_terms, other_terms, NoneIs, RisesBy, IsSumForm, HasForm, surd_scale, Tree, num, add, mult, root}
+use Rattle.coefficients.proofs.Shared.{Trees, none, more, HasTwo, AllPartsOf, is_add, term_words, number_test, number_words, mapped, rational_times_term, rational_times_sum, tree_cmp, term_test}
+use Rattle.coefficients.proofs.{Forms.{term_parts, no_term}, NumberMultiples.{IsFactor, IsScaled, scaled, rises-scaled}, TermMultiples.{multiple}}
+use Rattle.number_forms.proofs.Shaped.{term_number as number_of_term}
 
 -- each is a term of the Number, or a term behind it
 abbrev pub EachTerm : Trees → Type 0
@@ -28,9 +29,6 @@ number_term q (root (num r)) f h = scaled q (root (num r)) f h
 number_term q (mult (more (num c) (more (root (num r)) none))) f h = scaled q (mult (more (num c) (more (root (num r)) none))) f h
 number_term q t f h = absurd h
 
-term_no_sum : (t : Tree) → IsTerm t → is_add t ≡ false
-term_no_sum t h = grind arith
-
 pub terms_no_sum : (ts : Trees) → AreTerms ts → NoneIs is_add ts
 terms_no_sum none h = tt
 terms_no_sum (more t ts) h = (term_no_sum t h.0, terms_no_sum ts h.1)
@@ -39,7 +37,7 @@ all_of : (ts : Trees) → AreTerms ts → number_terms ts ≡ ts
 all_of none h = refl
 all_of (more t ts) h = rw (term_test t h.0) (ap (more t) (all_of ts h.1))
 
-two_terms : (ts : Trees) → HasTwo ts → 2 ≤ length (terms_of ts)
+pub two_terms : (ts : Trees) → HasTwo ts → 2 ≤ length (terms_of ts)
 two_terms ts h = grind arith
 
 module _ (q : Fraction) (f : IsFactor q) where

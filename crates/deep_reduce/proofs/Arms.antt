@@ -1,13 +1,11 @@
 -- What a step is known to have made, in the arm for it.
-use Rattle.std.proofs.Common.{◌≡◌, ◌<◌, ◌+◌, ◌^◌, ℕ, ℤ, subst, Some, None, true, false, ◌∙◌, ap, arith, Result, refl, IfErr}
-use Rattle.deep_reduce.proofs.Shared.{Tree, State, base_in, exponent_in, IsPowerAnswer, IsStep, rewritten, IfFinished, IfJoined, IsFinished, IsGathered, IsPairAt, Joining, Rewrites, tree_of, Gives}
-use Rattle.deep_reduce.proofs.Shared.{IsHeldAsPowerOf, IfDone, Step, children_of, without_root, forest, is_undef, has_undef, HandsOn, given_told, and_parts, is_half_num, power, none, more}
-use Rattle.deep_reduce.proofs.{Shared.{IsPowerMisfit, has_no_power, has_number_power, is_rewritable, OfOverflow, NumberFault, KeepsFactorBounds, KeepsProductBounds}, Settled.{gathered_product}}
-use Rattle.deep_reduce.proofs.EasyNodes.{number_defined}
-use Rattle.node_bounds.proofs.JointRooms.{gathered_hands_on}
+use Rattle.deep_reduce.proofs.Shared.{◌≡◌, ◌<◌, ◌+◌, ◌^◌, ℕ, ℤ, subst, Some, None, true, false, ◌∙◌, ap, arith, Result, refl, IfErr, Tree, State, base_in, exponent_in, IsPowerAnswer, IsStep}
+use Rattle.deep_reduce.proofs.Shared.{rewritten, IfFinished, IfJoined, IsFinished, IsGathered, IsPairAt, Joining, Rewrites, tree_of, Gives, IsHeldAsPowerOf, IfDone, Step, children_of, without_root}
+use Rattle.deep_reduce.proofs.Shared.{forest, is_undef, has_undef, HandsOn, given_told, and_parts, is_half_num, power, none, more, IsPowerMisfit, has_no_power, has_number_power, is_rewritable}
+use Rattle.deep_reduce.proofs.{Shared.{OfOverflow, NumberFault, KeepsFactorBounds, KeepsProductBounds, gathered_hands_on}, Settled.{gathered_product}, EasyNodes.{number_defined}}
+use Rattle.tree_handles.proofs.SmallLaws.{mult_is as product_words}
 use Rattle.product_reduce.specs.declared.gathering.Joining.TheVariants as joining
 use Rattle.reduce_port.specs.declared.step.Step.TheVariants as step
-use Rattle.product_reduce.proofs.Stepped.{mult_words as product_words}
 
 -- a product's step, from the state before to that after
 module _ (i : ℕ) (old new : State) where

@@ -1,10 +1,9 @@
 -- While a child is reduced in its own room, the other children and the node stand within the tree's room.
-use Rattle.std.proofs.Common.{◌≡◌, ℕ, ◌+◌, ◌*◌, ◌^◌, ◌≤◌, ◌<◌, List, length, Bool, true, false, if◌then◌else◌, inl, inr, refl, sym, ap, ◌∙◌, arith}
-use Rattle.deep_reduce.proofs.Shared.{and_parts, all_simple, are_all_simple, room, roots, roots_of, unbounded_room, Tree, add, Trees, none, more, append, names, nodes, size, sizes, HasNodesFor}
-use Rattle.deep_reduce.proofs.Shared.{SpansNode, IsReducedFrom, MayLack, IsCalmAtZero, SpansRootOf, is_half_num, nodes_by_children, State, free_of, LacksBelow, base_in, exponent_in, handed_bytes}
-use Rattle.deep_reduce.proofs.Shared.{children_of, tree_of, IsHanded, Stands, forest, NumberFault, used_forest, answer_bytes, answers_bytes, simple_room, more_rooms, reduced_bytes, room_is}
-use Rattle.deep_reduce.proofs.{Shared.{five_times, spanned_room, term_room, two_simple, power_simple, each_once, cases_Bool}, NodeRewrites.{AreReducedFrom, IsOver}, TreeRooms.{ready}}
-use Rattle.deep_reduce.proofs.Lacking.{lacks_as}
+use Rattle.deep_reduce.proofs.Shared.{◌≡◌, ℕ, ◌+◌, ◌*◌, ◌^◌, ◌≤◌, ◌<◌, List, length, Bool, true, false, if◌then◌else◌, inl, inr, refl, sym, ap, ◌∙◌, arith, and_parts, all_simple, are_all_simple, room}
+use Rattle.deep_reduce.proofs.Shared.{roots, roots_of, unbounded_room, Tree, add, Trees, none, more, append, names, nodes, size, sizes, HasNodesFor, SpansNode, IsReducedFrom, MayLack, IsCalmAtZero}
+use Rattle.deep_reduce.proofs.Shared.{SpansRootOf, is_half_num, nodes_by_children, State, free_of, LacksBelow, base_in, exponent_in, handed_bytes, children_of, tree_of, IsHanded, Stands, forest}
+use Rattle.deep_reduce.proofs.Shared.{NumberFault, used_forest, answer_bytes, answers_bytes, simple_room, more_rooms, reduced_bytes, room_is, five_times, spanned_room, term_room, two_simple}
+use Rattle.deep_reduce.proofs.{Shared.{power_simple, each_once, cases_Bool}, NodeRewrites.{AreReducedFrom, IsOver}, TreeRooms.{ready}, Lacking.{lacks_as}}
 use Rattle.tree_room.proofs.Rooms.{simple_among as simple_child}
 
 -- ---- a child's room in its parent's

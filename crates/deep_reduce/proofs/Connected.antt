@@ -1,14 +1,12 @@
 -- What holds of sums and products alike, and of differences and quotients.
-use Rattle.std.proofs.Common.{◌≡◌, ◌||◌, ◌+◌, ◌*◌, ◌^◌, ◌<◌, ◌≤◌, ℕ, List, length, negsuc, true, false, refl, sym, ap, arith, ℤ, to_z, of_z}
-use Rattle.std.specs.{Int.{w128}, Prelude.{nat_abs}}
-use Rattle.deep_reduce.proofs.Shared.{Connective, kind_of, neutral_of, joined_by, of_sides, turned, joined_room, turned_room, number_limit, Trees, Tree, num, none, more, children_of, count}
-use Rattle.deep_reduce.proofs.Shared.{whole_fraction, IsNodeAnswer, IsNodeOverflow, takes_kind, is_reduced, SpansTree, size_of_payload, bare, size, sizes, nth, counted, Fraction, fraction_fits}
-use Rattle.deep_reduce.proofs.Shared.{has_undef, HasNodesFor, IsCalmAtZero, is_sub, is_div, simple_room, KeepsNodeRoom, node_count, HoldsNode, AreFewBits, IsFactorHeld, holds_whole, Overflow, neg}
-use Rattle.deep_reduce.proofs.{Shared.{power, minus_one_fraction, tree_bytes, reduced_words, pow_pos, one_fraction, zero_fraction}, Steps.{two, empty_sum_answer, empty_product_answer, sub_answer}}
-use Rattle.deep_reduce.proofs.{Steps.{sub_overflow, opposite_overflow}, Quotients.{div_answer, div_overflow, inverse_overflow}, Told.{answer_at, two_reduced}}
-use Rattle.node_bounds.proofs.{NodeBits.{difference_right, two_factors, two_terms}, NodeBytes.{AreSides, no_factors, node_sides, inverse_calm, inverse_spans, difference_fits, quotient_fits}}
-use Rattle.node_bounds.proofs.{NodeBytes.{right_inverse_lacks, right_opposite_lacks}, NodeRooms.{inverse_count}}
-use Rattle.tree_room.proofs.Handed.{product_bytes, sum_bytes}
+use Rattle.deep_reduce.proofs.Shared.{◌≡◌, ◌||◌, ◌+◌, ◌*◌, ◌^◌, ◌<◌, ◌≤◌, ℕ, List, length, negsuc, true, false, refl, sym, ap, arith, ℤ, to_z, of_z, w128, nat_abs, Connective, kind_of, neutral_of}
+use Rattle.deep_reduce.proofs.Shared.{joined_by, of_sides, turned, joined_room, turned_room, number_limit, Trees, Tree, num, none, more, children_of, count, whole_fraction, IsNodeAnswer}
+use Rattle.deep_reduce.proofs.Shared.{IsNodeOverflow, takes_kind, is_reduced, SpansTree, size_of_payload, bare, size, sizes, nth, counted, Fraction, fraction_fits, has_undef, HasNodesFor}
+use Rattle.deep_reduce.proofs.Shared.{IsCalmAtZero, is_sub, is_div, simple_room, KeepsNodeRoom, node_count, HoldsNode, AreFewBits, IsFactorHeld, holds_whole, Overflow, neg, power, minus_one_fraction}
+use Rattle.deep_reduce.proofs.Shared.{tree_bytes, reduced_words, pow_pos, one_fraction, zero_fraction, difference_right, two_factors, AreSides, no_factors, node_sides, inverse_calm, inverse_spans}
+use Rattle.deep_reduce.proofs.{Shared.{difference_fits, quotient_fits, right_inverse_lacks, right_opposite_lacks, inverse_count, product_bytes, sum_bytes}, Steps.{two, empty_sum_answer}}
+use Rattle.deep_reduce.proofs.{Steps.{empty_product_answer, sub_answer, sub_overflow, opposite_overflow}, Quotients.{div_answer, div_overflow, inverse_overflow}, Told.{answer_at, two_reduced}}
+use Rattle.node_bounds.proofs.NodeBits.{two_terms}
 use Rattle.deep_reduce.specs.declared.connective.Connective.TheVariants as connective
 
 -- ---- sums and products

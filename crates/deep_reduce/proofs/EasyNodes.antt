@@ -1,18 +1,15 @@
 -- The answer of an Easy node, from its children's answers.
-use Rattle.std.proofs.Common.{◌≡◌, ◌≢◌, ℕ, ◌≤◌, ◌⊎◌, inl, inr, ℤ, pos, negsuc, Bool, true, false, ◌&&◌, refl, sym, ap, ◌∙◌, arith, ◌||◌, ◌==◌, ◌≤ℤ◌}
-use Rattle.deep_reduce.proofs.Shared.{le-leb, eq-eqb, eqb-true, ints, zero_is, whole_numerator, whole_denominator, number_words, numbers_defined, IsBad, IsBadNode, IsEasy, IsZero, IsHalf, IsNegative}
-use Rattle.deep_reduce.proofs.Shared.{GivesZeroNoPower, HasValue, Fraction, whole_fraction, minus_one_fraction, zero_fraction, is_zero_fraction, int_is_negative, int_is_zero, is_number, classes}
-use Rattle.deep_reduce.proofs.Shared.{are_numbers, Surd, surd_of, Tree, num, undef, add, mult, power, root, neg, sub, div, Trees, none, more, is_undef, is_num, IsPartOf, itself, in_add, in_mult}
-use Rattle.deep_reduce.proofs.Shared.{in_base, in_exponent, in_root, in_neg, in_left, in_right, in_dividend, in_divisor, first, later, has_undef, has_no_half_power, lacks_power, is_number_power}
-use Rattle.deep_reduce.proofs.Shared.{IsNodeAnswer, has_no_value, has_number, one_is_not_two, whole_no_half, whole_is, IsReducedFrom, is_zero, has_no_power, has_number_power, is_at_most_zero}
-use Rattle.deep_reduce.proofs.{Shared.{has_no_root, kept, KeepsMeanings, and_from, and_parts, or_from, or_left, or_right, false_from_ne_true, cases_Bool}, Opened.{lacks_whole, number_whole}}
-use Rattle.deep_reduce.proofs.NodeRewrites.{AreReducedFrom, IsOver, over_number, over_symbol, over_undef, over_sum, over_product, over_power, over_root, over_neg, over_sub, over_div}
-use Rattle.node_bounds.proofs.Clashes.{or_other, undef_words, undef_test, zero_words}
-use Rattle.calc_algebra.proofs.{BadLaws.{bad_has_no_value, easy_decided}, EasyLaws.{HasBad, easy_part, bad_part, bad_sum, bad_product, bad_neg, bad_sub, bad_div, bad_power, bad_root, undef_is_bad}}
-use Rattle.calc_algebra.proofs.EasyLaws.{num_is_not_bad, sum_of_bad, product_of_bad, reduced_value, zero_reduced, rational_reduced, negative_reduced, easy_divisor, EasyWholePower, EasyHalfPower}
-use Rattle.calc_algebra.proofs.EasyLaws.{easy_power, easy_root}
-use Rattle.reduce_port.specs.EasyTrees.{Evaluates}
-use Rattle.tree_bits.proofs.Numbers.{no_undef}
+use Rattle.deep_reduce.proofs.Shared.{◌≡◌, ◌≢◌, ℕ, ◌≤◌, ◌⊎◌, inl, inr, ℤ, pos, negsuc, Bool, true, false, ◌&&◌, refl, sym, ap, ◌∙◌, arith, ◌||◌, ◌==◌, ◌≤ℤ◌, le-leb, eq-eqb, eqb-true, ints, zero_is}
+use Rattle.deep_reduce.proofs.Shared.{whole_numerator, whole_denominator, number_words, numbers_defined, IsBad, IsBadNode, IsEasy, IsZero, IsHalf, IsNegative, GivesZeroNoPower, HasValue, Fraction}
+use Rattle.deep_reduce.proofs.Shared.{whole_fraction, minus_one_fraction, zero_fraction, is_zero_fraction, int_is_negative, int_is_zero, is_number, classes, are_numbers, Surd, surd_of, Tree, num}
+use Rattle.deep_reduce.proofs.Shared.{undef, add, mult, power, root, neg, sub, div, Trees, none, more, is_undef, is_num, IsPartOf, itself, in_add, in_mult, in_base, in_exponent, in_root, in_neg}
+use Rattle.deep_reduce.proofs.Shared.{in_left, in_right, in_dividend, in_divisor, first, later, has_undef, has_no_half_power, lacks_power, is_number_power, IsNodeAnswer, has_no_value, has_number}
+use Rattle.deep_reduce.proofs.Shared.{one_is_not_two, whole_no_half, whole_is, IsReducedFrom, is_zero, has_no_power, has_number_power, is_at_most_zero, has_no_root, kept, KeepsMeanings, and_from}
+use Rattle.deep_reduce.proofs.Shared.{and_parts, or_from, or_left, or_right, false_from_ne_true, cases_Bool, or_other, undef_words, undef_test, zero_words, bad_has_no_value, easy_decided, HasBad}
+use Rattle.deep_reduce.proofs.Shared.{easy_part, bad_part, bad_sum, bad_product, bad_neg, bad_sub, bad_div, bad_power, bad_root, undef_is_bad, num_is_not_bad, sum_of_bad, product_of_bad}
+use Rattle.deep_reduce.proofs.Shared.{reduced_value, zero_reduced, rational_reduced, negative_reduced, easy_divisor, EasyWholePower, EasyHalfPower, easy_power, easy_root, Evaluates, no_undef}
+use Rattle.deep_reduce.proofs.{Opened.{lacks_whole, number_whole}, NodeRewrites.{AreReducedFrom, IsOver, over_number, over_symbol, over_undef, over_sum, over_product, over_power, over_root, over_neg}}
+use Rattle.deep_reduce.proofs.NodeRewrites.{over_sub, over_div}
 pub use Rattle.power_reduce.proofs.HeldPowers.{number_defined}
 
 -- ---- tests

@@ -1,11 +1,8 @@
 -- A tree after a rewriting, whose powers or whose exponent were reduced.
-use Rattle.std.proofs.Common.{◌≡◌, suc, ◌≤◌, true, false, refl, sym, ap, subst, arith}
-use Rattle.deep_reduce.proofs.Shared.{nest, nest_of, weight, load_of_factors, is_reduced, are_reduced, Tree, mult, power, Trees, none, more, count, is_mult, IsReducedProduct, IsReducedPower}
-use Rattle.deep_reduce.proofs.Shared.{nest_of_rewritten, weight_of_bases, weight_below, IsTransparent, AreTransparent, IsUnfinished, Finishes, IsMultiplied, IsLifted, AreReducedPowers}
-use Rattle.deep_reduce.proofs.{Shared.{IsProductOfPowers, base_in, exponent_in, Rewrites, Rewrites-refl, rewrites_of, reduces_after, children_of, load_product}, Heavy.{factor_load, over_power}}
-use Rattle.deep_reduce.proofs.{Joined.{factors_rewritten}, Settled.{exponent_rewritten}}
-use Rattle.node_bounds.proofs.{HeldPowers.{product_holds, power_holds}, Rewritten.{product_keeps, power_keeps}}
-use Rattle.calc_measures.proofs.Weights.{heavy}
+use Rattle.deep_reduce.proofs.Shared.{◌≡◌, suc, ◌≤◌, true, false, refl, sym, ap, subst, arith, nest, nest_of, weight, load_of_factors, is_reduced, are_reduced, Tree, mult, power, Trees, none, more}
+use Rattle.deep_reduce.proofs.Shared.{count, is_mult, IsReducedProduct, IsReducedPower, nest_of_rewritten, weight_of_bases, weight_below, IsTransparent, AreTransparent, IsUnfinished, Finishes}
+use Rattle.deep_reduce.proofs.Shared.{IsMultiplied, IsLifted, AreReducedPowers, IsProductOfPowers, base_in, exponent_in, Rewrites, Rewrites-refl, rewrites_of, reduces_after, children_of, load_product}
+use Rattle.deep_reduce.proofs.{Shared.{product_holds, power_holds, product_keeps, power_keeps, heavy}, Heavy.{factor_load, over_power}, Joined.{factors_rewritten}, Settled.{exponent_rewritten}}
 
 -- ---- products of powers
 

@@ -1,26 +1,16 @@
 -- What nodes over rationals reduce to, where their values fit.
-use Rattle.std.proofs.{Common.{◌≡◌, ◌≢◌, ◌<◌, ◌↔◌, Bool, Option, Some, None, Result, ◌+◌, ◌≤◌, ◌++◌, ℕ, ℤ, negsuc, true, false, not, refl, sym, ap, ◌∙◌, subst, arith}, lemmas.Nat.{mul-le}}
-use Rattle.std.specs.{Prelude.{IfOk, IfSome, IsErr, Ok, Err}, Result.{result_ok}}
-use Rattle.rational128.proofs.{LowestTerms.{ratio_parts}, Products.{parts_fit}}
-use Rattle.calc_terms.specs.{declared.rat.Rat.{Rat}, Fits.{Operation, operation_fits, result_of, sum_fits}, FractionLaws.{one_times, times_comm}, Fractions.{plus, times}}
-use Rattle.deep_reduce.proofs.Shared.{Fraction, HasNodesFor, simple_room, Overflow, ratio_of, children_of, root_kind, count, nth, value_of, Tree, num, add, mult, power, neg, sub, div, Trees, none}
-use Rattle.deep_reduce.proofs.Shared.{more, value, Surd, negative, inverse, minus_one_fraction, one_fraction, zero_fraction, whole_fraction, is_zero_fraction, fraction_fits, add_op, mul_op}
-use Rattle.deep_reduce.proofs.Shared.{calculated, exactly, plain_value, powered, PlainValue, IsPlainAnswer, IsNodeAnswer, lacks_power, HoldsNode, HoldsPower, AreFactorsHeld, is_half_num}
-use Rattle.deep_reduce.proofs.Shared.{whole_no_half, whole_is, holds_whole, holds_half, holds_kept, IsFactorHeld, raised_high, raised_low, whole_numerator, whole_denominator, is_number}
-use Rattle.deep_reduce.proofs.{Shared.{false_from_ne_true}, Quotients.{div_answer}, Steps.{two, worth_answer, neg_answer, product_value, sub_answer}}
-use Rattle.calc_algebra.proofs.NumberRewrites.{sum_of_numbers, product_of_rationals, negative_power_of_rational}
-use Rattle.calc_algebra.specs.Surds.{surd_times}
-use Rattle.calc_terms.proofs.FractionFacts.{no_zero}
-use Rattle.calc_measures.proofs.Inverses.{inverse_value, times_minus_one}
-use Rattle.node_bounds.proofs.{Clashes.{contrary, rational_number}, HeldFactors.{factor_wider}}
-use Rattle.number_forms.proofs.{Shared.{IsHeld, held_times, no_larger}, RationalBits.{product_parts, sum_parts}, RationalCalls.{plain_answer, rational_over, rational_product, rational_sum, num_same}}
-use Rattle.number_forms.specs.Answers.{IsNumberOver}
-use Rattle.power_reduce.proofs.HeldPowers.{number_power_held, rational_power_held}
-use Rattle.product_reduce.proofs.HeldNumbers.{alone_held, number_as_factor, value_held}
-use Rattle.product_reduce.specs.Bits.{factor_held}
-use Rattle.sum_reduce.proofs.Held.{both_held}
-use Rattle.tree_bits.proofs.Numbers.{held_wider}
-pub use Rattle.calc_measures.proofs.Inverses.{zero_num as other_than_zero}
+use Rattle.deep_reduce.proofs.Shared.{◌≡◌, ◌≢◌, ◌<◌, ◌↔◌, Bool, Option, Some, None, Result, ◌+◌, ◌≤◌, ◌++◌, ℕ, ℤ, negsuc, true, false, not, refl, sym, ap, ◌∙◌, subst, arith, mul-le, result_ok}
+use Rattle.deep_reduce.proofs.Shared.{ratio_parts, parts_fit, Rat, Operation, operation_fits, result_of, one_times, times_comm, plus, times, Fraction, HasNodesFor, simple_room, Overflow, ratio_of}
+use Rattle.deep_reduce.proofs.Shared.{children_of, root_kind, count, nth, value_of, Tree, num, add, mult, power, neg, sub, div, Trees, none, more, value, Surd, negative, inverse, minus_one_fraction}
+use Rattle.deep_reduce.proofs.Shared.{one_fraction, zero_fraction, whole_fraction, is_zero_fraction, fraction_fits, add_op, mul_op, calculated, exactly, plain_value, powered, PlainValue}
+use Rattle.deep_reduce.proofs.Shared.{IsPlainAnswer, IsNodeAnswer, lacks_power, HoldsNode, HoldsPower, AreFactorsHeld, is_half_num, whole_no_half, whole_is, holds_whole, holds_half, holds_kept}
+use Rattle.deep_reduce.proofs.Shared.{IsFactorHeld, raised_high, raised_low, whole_numerator, whole_denominator, is_number, false_from_ne_true, sum_of_numbers, product_of_rationals}
+use Rattle.deep_reduce.proofs.Shared.{negative_power_of_rational, surd_times, no_zero, inverse_value, times_minus_one, contrary, rational_number, factor_wider, IsHeld, held_times, no_larger}
+use Rattle.deep_reduce.proofs.Shared.{sum_parts, plain_answer, rational_over, rational_product, rational_sum, num_same, IsNumberOver, number_power_held, rational_power_held, alone_held}
+use Rattle.deep_reduce.proofs.{Shared.{number_as_factor, value_held, factor_held, both_held, held_wider}, Quotients.{div_answer}, Steps.{two, worth_answer, neg_answer, product_value, sub_answer}}
+use Rattle.std.specs.Prelude.{IfOk, IfSome, IsErr, Ok, Err}
+use Rattle.calc_terms.specs.Fits.{sum_fits}
+use Rattle.number_forms.proofs.RationalBits.{product_parts}
 use Rattle.calc_terms.specs.declared.kind.Kind.TheVariants as kind
 use Rattle.calc_algebra.proofs.MeaningRewrites as rewrites
 
@@ -148,10 +138,6 @@ pub opposite_over : (t a : Tree) → root_kind t ≡ kind.Neg → children_of t 
 opposite_over t a e c = grind arith
 
 -- ---- calls on rationals
-
--- a rational of the program fits
-pub rational_fits : (r : Rat) → fraction_fits (value_of r) ≡ true
-rational_fits r = parts_fit (value_of r) (ratio_of r).num (ratio_of r).den (ratio_parts r) r.fits r.den_fits
 
 not_false : (b : Bool) → (b ≡ false → ⊥) → b ≡ true
 not_false b h = grind arith

@@ -1,19 +1,16 @@
 -- Powers whose exponent is half of an odd whole number, from the root of the base and a power of it.
-use Rattle.std.proofs.Common.{◌≡◌, ℕ, suc, List, ◌+◌, ◌≤◌, zero, ℤ, pos, negsuc, true, false, ◌&&◌, ◌||◌, ◌==◌, not, Some, None, refl, sym, ap, ◌∙◌, subst, arith, ◌≤ℤ◌, ◌*◌, ◌^◌, ◌<◌, length, Err}
-use Rattle.std.proofs.Common.{nat_le}
-use Rattle.deep_reduce.proofs.Shared.{and_parts, eqb-true, false_from_ne_true, ints, half_is_odd, number_words, number_test, keeps, kept, reduces_after, is_number, IsNumber, is_half_num, is_reduced}
-use Rattle.deep_reduce.proofs.Shared.{Rewrites, weight, Fraction, whole_fraction, is_zero_fraction, int_is_negative, int_is_even, Tree, num, undef, power, root, names, is_undef, is_num, is_root}
-use Rattle.deep_reduce.proofs.Shared.{IsHeldAsRootPower, IsFactorHeld, IsHeldAsPowerOf, lacks_power, is_number_power, IsReducedPower, parts_reduced, IsRooted, SpansTree, is_zero, numerator, base_in}
-use Rattle.deep_reduce.proofs.Shared.{exponent_in, has_no_power, has_number_power, IsPowerAnswer, power_of_root, rewritten, transparent_whole, root_once, undef_base_kept, by_half, one_is_not_two}
-use Rattle.deep_reduce.proofs.Shared.{whole_no_half, number_weight, whole_is, argument_of, has_no_root, IsRootAnswer, and_from, or_cases, or_left, or_right, or_parts, and_right, not_from_false}
-use Rattle.deep_reduce.proofs.Shared.{cases_Bool, pow_pos, is_whole_num, reduced_words, counted, num_bytes, tree_bytes, size, SpansRootOf, LacksBelow, full_as, LacksRoot, LacksStep, IsFull}
-use Rattle.deep_reduce.proofs.{Shared.{NumberFault, power_room, scaled, and_left, classes}, EasyNodes.{whole_power_number, whole_power_defined, zero_power}, NodeRewrites.{both}}
-use Rattle.deep_reduce.proofs.{Opened.{rewritten_written}, Lacking.{lacks_as}}
-use Rattle.node_bounds.proofs.{Clashes.{contrary, or_other, undef_words, and_other}, HeldRoots.{half_held, root_answer_held}, Calm.{calm_no_half}, PowerRooms.{half_room, root_room}}
-use Rattle.radical_forms.proofs.RootValues.{of_root}
-use Rattle.calc_measures.proofs.Weights.{some_weight}
+use Rattle.deep_reduce.proofs.Shared.{◌≡◌, ℕ, suc, List, ◌+◌, ◌≤◌, zero, ℤ, pos, negsuc, true, false, ◌&&◌, ◌||◌, ◌==◌, not, Some, None, refl, sym, ap, ◌∙◌, subst, arith, ◌≤ℤ◌, ◌*◌, ◌^◌, ◌<◌, length}
+use Rattle.deep_reduce.proofs.Shared.{nat_le, and_parts, eqb-true, false_from_ne_true, ints, half_is_odd, number_words, number_test, keeps, kept, reduces_after, is_number, IsNumber, is_half_num}
+use Rattle.deep_reduce.proofs.Shared.{is_reduced, Rewrites, weight, Fraction, whole_fraction, is_zero_fraction, int_is_negative, int_is_even, Tree, num, undef, power, root, names, is_undef, is_num}
+use Rattle.deep_reduce.proofs.Shared.{is_root, IsHeldAsRootPower, IsFactorHeld, IsHeldAsPowerOf, lacks_power, is_number_power, IsReducedPower, parts_reduced, IsRooted, SpansTree, is_zero, numerator}
+use Rattle.deep_reduce.proofs.Shared.{base_in, exponent_in, has_no_power, has_number_power, IsPowerAnswer, power_of_root, rewritten, transparent_whole, root_once, undef_base_kept, by_half}
+use Rattle.deep_reduce.proofs.Shared.{one_is_not_two, whole_no_half, number_weight, whole_is, argument_of, has_no_root, IsRootAnswer, and_from, or_cases, or_left, or_right, or_parts, and_right}
+use Rattle.deep_reduce.proofs.Shared.{not_from_false, cases_Bool, pow_pos, is_whole_num, reduced_words, counted, num_bytes, tree_bytes, size, SpansRootOf, LacksBelow, full_as, LacksRoot, LacksStep}
+use Rattle.deep_reduce.proofs.Shared.{IsFull, NumberFault, power_room, scaled, and_left, classes, contrary, or_other, undef_words, and_other, half_held, root_answer_held, calm_no_half, half_room}
+use Rattle.deep_reduce.proofs.{Shared.{root_room, of_root, some_weight, number_nest}, EasyNodes.{whole_power_number, whole_power_defined, zero_power}, NodeRewrites.{both}, Opened.{rewritten_written}}
+use Rattle.deep_reduce.proofs.Lacking.{lacks_as}
+use Rattle.std.proofs.Common.{Err}
 use Rattle.calc_algebra.proofs.MeaningRewrites as rewrites
-use Rattle.power_reduce.proofs.Answered.{number_nest}
 
 -- ---- the exponents
 

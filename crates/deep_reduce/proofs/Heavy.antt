@@ -1,8 +1,6 @@
 -- How much reduced trees weigh at least, and how Numbers and powers nest.
-use Rattle.std.proofs.Common.{◌≡◌, ◌≤◌, Bool, true, false, refl, arith, ◌<◌, ◌&&◌, max}
-use Rattle.deep_reduce.proofs.Shared.{weight, is_number, is_reduced, base_of, Tree, power, none, more, load_number, and_parts, nest, nest_of, load_of_factors, are_numbers, Trees, nest_over}
-use Rattle.calc_measures.proofs.{Nests.{nest_number}, Weights.{heavy, numbers_nest, to_number, to_other, exponent_nest}}
-use Rattle.node_bounds.proofs.Clashes.{base_reduced}
+use Rattle.deep_reduce.proofs.Shared.{◌≡◌, ◌≤◌, Bool, true, false, refl, arith, ◌<◌, ◌&&◌, max, weight, is_number, is_reduced, base_of, Tree, power, none, more, load_number, and_parts, nest, nest_of}
+use Rattle.deep_reduce.proofs.Shared.{load_of_factors, are_numbers, Trees, nest_over, nest_number, heavy, numbers_nest, to_number, to_other, exponent_nest, base_reduced}
 pub use Rattle.power_reduce.proofs.Weights.{factor_load}
 
 pub heavy_base : (t : Tree) → is_reduced t ≡ true → 2 ≤ weight (base_of t)

@@ -1,11 +1,9 @@
 -- Factors of reduced trees before and after a joining: their loads and nests.
-use Rattle.std.proofs.Common.{◌≡◌, ℕ, zero, suc, ◌+◌, ◌≤◌, true, refl, ◌∙◌, arith, inl, inr, subst}
-use Rattle.deep_reduce.proofs.Shared.{and_parts, nest_of, load_of_factors, is_number, are_numbers, are_reduced, Tree, mult, Trees, none, more, append, number_test, number_words, factors_of}
-use Rattle.deep_reduce.proofs.Shared.{nest_of_joint, opened, others_in, is_partner, IsPairAt, joined_pair, not-true, one_base, Contains-append_left, Contains-append_right, Contains-append_cases}
-use Rattle.deep_reduce.proofs.{Shared.{names, names_of, Rewrites, KeepsMeanings-product_more, keeps, kept, Rewrites-refl, joint, joined, partners_of_pair}, Heavy.{heavy_base}}
+use Rattle.deep_reduce.proofs.Shared.{◌≡◌, ℕ, zero, suc, ◌+◌, ◌≤◌, true, refl, ◌∙◌, arith, inl, inr, subst, and_parts, nest_of, load_of_factors, is_number, are_numbers, are_reduced, Tree, mult, Trees}
+use Rattle.deep_reduce.proofs.Shared.{none, more, append, number_test, number_words, factors_of, nest_of_joint, opened, others_in, is_partner, IsPairAt, joined_pair, not-true, one_base}
+use Rattle.deep_reduce.proofs.Shared.{Contains-append_left, Contains-append_right, Contains-append_cases, names, names_of, Rewrites, KeepsMeanings-product_more, keeps, kept, Rewrites-refl, joint}
+use Rattle.deep_reduce.proofs.{Shared.{joined, partners_of_pair, no_new_name, joined_keeps, names_joined, flat_load}, Heavy.{heavy_base}}
 use Rattle.deep_reduce.proofs.Joints.{transparent_exponent, joint_load, joint_nest, joint_below}
-use Rattle.calc_algebra.proofs.Names.{no_new_name}
-use Rattle.product_reduce.proofs.{Joined.{joined_keeps}, NoNewNames.{names_joined}, Joints.{flat_load}}
 
 -- ---- factors opened, without their Numbers
 

@@ -1,10 +1,9 @@
 -- The joint of two factors: how it nests, and that it is never opaque.
-use Rattle.std.proofs.Common.{◌≡◌, suc, ◌≤◌, inl, inr, Bool, true, false, if◌then◌else◌, refl, ap, ◌∙◌, subst, arith, max}
-use Rattle.deep_reduce.proofs.Shared.{and_parts, nest, nest_of, weight, load_of_factor, is_number, IsNumber, IsTerm, AreTerms, is_term, term_of, are_numbers, is_reduced, is_opaque_exponent, num_one}
-use Rattle.deep_reduce.proofs.Shared.{base_of, IsSumForm, NoneIs, number_terms, other_terms, Tree, add, power, Trees, none, more, is_add, number_test, number_words, term_words, reduced_parts}
-use Rattle.deep_reduce.proofs.{Shared.{number_of_term, nest_over, nest_of_joint, exponent_of, joint, cases_Bool}, Heavy.{over_base, over_exponents}}
-use Rattle.node_bounds.proofs.{Calm.{one_whole}, Clashes.{contrary, exponent_reduced, two_terms, power_no_number}}
-use Rattle.calc_measures.proofs.Weights.{to_number, to_other, base_nest}
+use Rattle.deep_reduce.proofs.Shared.{◌≡◌, suc, ◌≤◌, inl, inr, Bool, true, false, if◌then◌else◌, refl, ap, ◌∙◌, subst, arith, max, and_parts, nest, nest_of, weight, load_of_factor, is_number}
+use Rattle.deep_reduce.proofs.Shared.{IsNumber, IsTerm, AreTerms, is_term, term_of, are_numbers, is_reduced, is_opaque_exponent, num_one, base_of, IsSumForm, NoneIs, number_terms, other_terms, Tree}
+use Rattle.deep_reduce.proofs.Shared.{add, power, Trees, none, more, is_add, number_test, number_words, term_words, reduced_parts, number_of_term, nest_over, nest_of_joint, exponent_of, joint}
+use Rattle.deep_reduce.proofs.{Shared.{cases_Bool, one_whole, contrary, exponent_reduced, power_no_number, to_number, to_other, base_nest}, Heavy.{over_base, over_exponents}}
+use Rattle.coefficients.proofs.SumMultiples.{two_terms}
 
 -- ---- exponents
 

@@ -1,14 +1,13 @@
 -- Where a call inside of another one finds no bytes, the outer one has fewer than it needs.
-use Rattle.std.proofs.Common.{rules, ◌≡◌, ℕ, suc, ◌+◌, ◌^◌, ◌≤◌, ◌<◌, List, length, true, false, Result, refl, sym, ap, ◌∙◌, subst, arith, inl, inr, IfErr, IsOk}
-use Rattle.deep_reduce.proofs.Shared.{is_whole_num, is_half_num, base_of, SpansRoot, SpansTree, SpansTrees, whole_fraction, Tree, num, add, mult, power, root, Trees, none, more, append, is_mult, size}
-use Rattle.deep_reduce.proofs.Shared.{sizes, IsCalmAtZero, IsJoinedFrom, IsRewritten, whole_power_room, HandsOn, IsSummed, AreReducedPowers, IsLifted, IsProductOfPowers, LacksBelow, full_as}
-use Rattle.deep_reduce.proofs.Shared.{refusal_as, base_in, exponent_in, parts_of, LacksStep, parts_span, whole_is, exponent_of, joint, nth, children_of, Forest, NumberFault, HasCalmExponent, IsCalm}
-use Rattle.deep_reduce.proofs.{Shared.{AreCalm, zeros, product_count, sum_count, sum_room, product_room, whole_number, scaled, sizes_append, cases_Bool}, Rows.{IsNext}}
-use Rattle.node_bounds.proofs.{Clashes.{clash}, JointRooms.{joined_calm, joined_spans, summed_calm, summed_spans}, Calm.{all_nth, calm_exponent, calm_no_half, calm_product, calm_power}}
-use Rattle.node_bounds.proofs.{JointBytes.{IsJoining, joining, exponents_lack as sum_lacks, power_lacks as joint_power_lacks, split_bytes}, PowerBytes.{argument_needs, inner_needs, exponents_lack}}
-use Rattle.node_bounds.proofs.{PowerBytes.{part_lacks, product_lacks, split_at, last_parts}, Rewritten.{parts_calm, parts_single, powers_raised, exponents_calm, exponents_span, raised_calm}}
-use Rattle.node_bounds.proofs.Rewritten.{by_product, by_power}
-use Rattle.product_reduce.proofs.Stepped.{mult_words as product_words}
+use Rattle.deep_reduce.proofs.Shared.{rules, ◌≡◌, ℕ, suc, ◌+◌, ◌^◌, ◌≤◌, ◌<◌, List, length, true, false, Result, refl, sym, ap, ◌∙◌, subst, arith, inl, inr, IfErr, IsOk, is_whole_num, is_half_num}
+use Rattle.deep_reduce.proofs.Shared.{base_of, SpansRoot, SpansTree, SpansTrees, whole_fraction, Tree, num, add, mult, power, root, Trees, none, more, append, is_mult, size, sizes, IsCalmAtZero}
+use Rattle.deep_reduce.proofs.Shared.{IsJoinedFrom, IsRewritten, whole_power_room, HandsOn, IsSummed, AreReducedPowers, IsLifted, IsProductOfPowers, LacksBelow, full_as, refusal_as, base_in}
+use Rattle.deep_reduce.proofs.Shared.{exponent_in, parts_of, LacksStep, parts_span, whole_is, exponent_of, joint, nth, children_of, Forest, NumberFault, HasCalmExponent, IsCalm, AreCalm, zeros}
+use Rattle.deep_reduce.proofs.Shared.{product_count, sum_count, sum_room, product_room, whole_number, scaled, sizes_append, cases_Bool, clash, joined_calm, joined_spans, summed_calm, summed_spans}
+use Rattle.deep_reduce.proofs.Shared.{all_nth, calm_exponent, calm_no_half, calm_product, calm_power, IsJoining, joining, split_bytes, argument_needs, inner_needs, exponents_lack, part_lacks}
+use Rattle.deep_reduce.proofs.{Shared.{product_lacks, split_at, last_parts, parts_calm, parts_single, powers_raised, exponents_calm, exponents_span, raised_calm, by_product, by_power}, Rows.{IsNext}}
+use Rattle.node_bounds.proofs.JointBytes.{exponents_lack as sum_lacks, power_lacks as joint_power_lacks}
+use Rattle.tree_handles.proofs.SmallLaws.{mult_is as product_words}
 
 -- ---- refusals
 

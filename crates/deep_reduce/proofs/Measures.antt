@@ -1,9 +1,7 @@
 -- What falls from call to call.
-use Rattle.std.proofs.Common.{◌≡◌, ℕ, ◌+◌, ◌-◌, ◌*◌, ◌≤◌, ◌<◌, true, arith}
-use Rattle.deep_reduce.proofs.Shared.{nest, nest_of, weight, load_of_factors, Tree, Trees, nodes, is_mult, nest_over, nest_of_joint, nest_of_rewritten, weight_of_bases, weight_below, State, base_in}
-use Rattle.deep_reduce.proofs.{Shared.{tree_of, IsHanded, children_of, nth, Stands, forest, tree_of_root, nodes-plain, root_arity}, Heavy.{over_exponents, numbers_load}}
-use Rattle.calc_measures.proofs.Weights.{numbers_nest, loads_few}
-use Rattle.tree_handles.proofs.Measures.{few_in}
+use Rattle.deep_reduce.proofs.Shared.{◌≡◌, ℕ, ◌+◌, ◌-◌, ◌*◌, ◌≤◌, ◌<◌, true, arith, nest, nest_of, weight, load_of_factors, Tree, Trees, nodes, is_mult, nest_over, nest_of_joint, nest_of_rewritten}
+use Rattle.deep_reduce.proofs.Shared.{weight_of_bases, weight_below, State, base_in, tree_of, IsHanded, children_of, nth, Stands, forest, tree_of_root, nodes-plain, root_arity, numbers_nest}
+use Rattle.deep_reduce.proofs.{Shared.{loads_few, few_in}, Heavy.{over_exponents, numbers_load}}
 
 -- ---- ranks
 

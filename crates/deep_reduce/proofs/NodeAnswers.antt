@@ -1,10 +1,9 @@
 -- The answer of a node over answered children is the answer of the whole tree.
-use Rattle.std.proofs.Common.{◌≡◌, true, false, refl, sym, subst}
-use Rattle.deep_reduce.proofs.Shared.{IsBad, IsEasy, Tree, undef, Trees, none, more, is_undef, IsPart, IsPartOf, itself, in_add, in_mult, in_base, in_exponent, in_root, in_neg, in_left, in_right}
-use Rattle.deep_reduce.proofs.{Shared.{in_dividend, in_divisor, first, later, has_undef, IsNodeAnswer, IsReducedFrom, reduces_after, children_of, or_left, or_right}, EasyNodes.{answered_easy}}
-use Rattle.deep_reduce.proofs.NodeRewrites.{AreReducedFrom, IsOver, over_sum, over_product, over_power, over_root, over_neg, over_sub, over_div, over_rewrites}
-use Rattle.deep_reduce.proofs.{PlainNodes.{answered_plain, undef_has_no_value}, Steps.{left_undefined, right_undefined}, TreeBits.{node_held, node_leaf}, TreeRooms.{node_within}}
-use Rattle.node_bounds.proofs.Clashes.{undef_test}
+use Rattle.deep_reduce.proofs.Shared.{◌≡◌, true, false, refl, sym, subst, IsBad, IsEasy, Tree, undef, Trees, none, more, is_undef, IsPart, IsPartOf, itself, in_add, in_mult, in_base, in_exponent}
+use Rattle.deep_reduce.proofs.Shared.{in_root, in_neg, in_left, in_right, in_dividend, in_divisor, first, later, has_undef, IsNodeAnswer, IsReducedFrom, reduces_after, children_of, or_left, or_right}
+use Rattle.deep_reduce.proofs.{Shared.{undef_test}, EasyNodes.{answered_easy}, NodeRewrites.{AreReducedFrom, IsOver, over_sum, over_product, over_power, over_root, over_neg, over_sub, over_div}}
+use Rattle.deep_reduce.proofs.{NodeRewrites.{over_rewrites}, PlainNodes.{answered_plain, undef_has_no_value}, Steps.{left_undefined, right_undefined}, TreeBits.{node_held, node_leaf}}
+use Rattle.deep_reduce.proofs.TreeRooms.{node_within}
 
 -- ---- an Easy and Bad part in a child
 

@@ -1,7 +1,6 @@
 -- A node whose children are rewritten.
-use Rattle.std.proofs.Common.{ℕ, ◌⊎◌, inl, inr, List, ◌++◌, Contains}
-use Rattle.deep_reduce.proofs.Shared.{Contains-append_left, Contains-append_right, Contains-append_cases, Fraction, Tree, num, symbol, undef, add, mult, power, root, neg, sub, div, Trees, none, more}
-use Rattle.deep_reduce.proofs.Shared.{names, names_of, IsReducedFrom, AreAnswers, Rewrites, keeps, kept, Rewrites-refl}
+use Rattle.deep_reduce.proofs.Shared.{ℕ, ◌⊎◌, inl, inr, List, ◌++◌, Contains, Contains-append_left, Contains-append_right, Contains-append_cases, Fraction, Tree, num, symbol, undef, add, mult, power}
+use Rattle.deep_reduce.proofs.Shared.{root, neg, sub, div, Trees, none, more, names, names_of, IsReducedFrom, AreAnswers, Rewrites, keeps, kept, Rewrites-refl}
 use Rattle.calc_algebra.proofs.MeaningRewrites as rewrites
 
 -- each tree is reduced from the one at its place

@@ -1,9 +1,6 @@
 -- What the checker cites where a number is made beside a handed tree, and both are put under a new node.
-use Rattle.calc_room.proofs.NumberBytes.{num_bytes}
-use Rattle.coefficients.proofs.Free.{number_refused}
-use Rattle.deep_reduce.proofs.Sides.{apart_second}
-use Rattle.tree_handles.proofs.{FreeBytes.{refused_below}, Fronts.{behind_first, behind_new, front_after, front_after_two, front_end, front_same}, Given.{given_apart, given_handed, given_told}}
-use Rattle.tree_handles.proofs.{Outcomes.{passed_on}, Room.{given_free}}
+use Rattle.deep_reduce.proofs.Shared.{num_bytes, number_refused, refused_below, behind_first, behind_new, front_after, front_after_two, front_end, front_same, given_apart, given_handed, given_told}
+use Rattle.deep_reduce.proofs.{Shared.{given_free, passed_on}, Sides.{apart_second}}
 
 pub ruleset number_beside = (
   front_after,

@@ -1,13 +1,12 @@
 -- What a rewriting of a power leaves to be reduced: it nests no more, and weighs less.
-use Rattle.std.proofs.Common.{◌≡◌, ℤ, suc, ◌≤◌, ◌<◌, ◌⊎◌, inl, inr, Bool, true, false, ◌&&◌, ◌||◌, Some, None, refl, sym, ap, ◌∙◌, subst, arith}
-use Rattle.deep_reduce.proofs.Shared.{and_parts, whole_fraction, zero_fraction, one_fraction, nest, nest_of, weight, has_coefficient, is_number, is_reduced, is_half_num, is_opaque_exponent, HasForm}
-use Rattle.deep_reduce.proofs.Shared.{Tree, num, mult, power, root, Trees, none, more, count, is_num, is_undef, AllPartsOf, HasTwo, whole_denominator, number_test, product_form_of, no_split}
-use Rattle.deep_reduce.proofs.Shared.{reduced_parts, parts_reduced, one_is_one, Leads, in_front, has_no_half_power, lacks_power, is_number_power, IsReducedPower, nest_of_rewritten, weight_of_bases}
-use Rattle.deep_reduce.proofs.Shared.{weight_below, AreTransparent, IsUnfinished, Finishes, IsHeldAsPowerOf, has_no_power, has_number_power, IsWrittenPower, IsPowerAnswer, goes_inside, half, parts_of}
-use Rattle.deep_reduce.proofs.Shared.{raised, rewritten, rewritten_whole, is_rewritable, transparent_whole, as_whole, no_half, zero_kept, one_kept, chosen, weights, weights_none, weights_more}
-use Rattle.deep_reduce.proofs.Shared.{power_nest, product_parts, Rewrites, reduces_after, not-true, and_right, two_count, cases_Bool}
-use Rattle.node_bounds.proofs.{Clashes.{contrary, undef_words, base_reduced, exponent_reduced, undef_has_none}, PowerRooms.{finished_room, undef_root_room}, Rewritten.{is_rewritten}}
-use Rattle.calc_measures.proofs.Weights.{to_number, base_nest}
+use Rattle.deep_reduce.proofs.Shared.{or_false, ◌≡◌, ℤ, suc, ◌≤◌, ◌<◌, ◌⊎◌, inl, inr, Bool, true, false, ◌&&◌, ◌||◌, Some, None, refl, sym, ap, ◌∙◌, subst, arith, and_parts, whole_fraction}
+use Rattle.deep_reduce.proofs.Shared.{zero_fraction, one_fraction, nest, nest_of, weight, has_coefficient, is_number, is_reduced, is_half_num, is_opaque_exponent, HasForm, Tree, num, mult, power}
+use Rattle.deep_reduce.proofs.Shared.{root, Trees, none, more, count, is_num, is_undef, AllPartsOf, HasTwo, whole_denominator, number_test, product_form_of, no_split, reduced_parts, parts_reduced}
+use Rattle.deep_reduce.proofs.Shared.{one_is_one, Leads, in_front, has_no_half_power, lacks_power, is_number_power, IsReducedPower, nest_of_rewritten, weight_of_bases, weight_below, AreTransparent}
+use Rattle.deep_reduce.proofs.Shared.{IsUnfinished, Finishes, IsHeldAsPowerOf, has_no_power, has_number_power, IsWrittenPower, IsPowerAnswer, goes_inside, half, parts_of, raised, rewritten}
+use Rattle.deep_reduce.proofs.Shared.{rewritten_whole, is_rewritable, transparent_whole, as_whole, no_half, zero_kept, one_kept, chosen, weights, weights_none, weights_more, power_nest, product_parts}
+use Rattle.deep_reduce.proofs.Shared.{Rewrites, reduces_after, not-true, and_right, two_count, cases_Bool, contrary, undef_words, base_reduced, exponent_reduced, undef_has_none, finished_room}
+use Rattle.deep_reduce.proofs.Shared.{undef_root_room, is_rewritten, to_number, base_nest}
 use Rattle.power_reduce.proofs.Rules.{nothing}
 
 -- ---- products to a power
@@ -86,9 +85,6 @@ pub opened : (b e t : Tree) → is_half_num e ≡ false → is_reduced b ≡ tru
 opened b e t n r s h = opened_whole b e t r s (sym (as_whole b e n) ∙ h)
 
 -- ---- the answers
-
-or_false : (x : Bool) → (x || false) ≡ x
-or_false x = grind arith
 
 -- an exponent that is no half asks for no root
 no_half_power : (b e : Tree) → is_half_num e ≡ false → has_no_half_power b e ≡ false

@@ -1,10 +1,9 @@
 -- The nodes up to the first overflow of plain trees, where the children before are answered.
-use Rattle.std.proofs.Common.{◌≡◌, ℕ, ◌+◌, Bool, true, false, ◌&&◌, refl, sym, ap, ◌∙◌, subst, if◌then◌else◌, arith}
-use Rattle.deep_reduce.proofs.Shared.{IsPlainAnswer, IsPlainOverflow, PlainValue, exactly, nothing, Gathered, decided, values, gather, folded, on_one, on_two, divided, calculated, powered, plain_of}
-use Rattle.deep_reduce.proofs.Shared.{plain_of_children, is_plain, are_plain, plain_value, add_op, mul_op, negative, Tree, add, mult, power, root, neg, sub, div, Trees, none, more, append, nodes}
-use Rattle.deep_reduce.proofs.{Shared.{nodes_of, IsReducedFrom, Overflow, children_of, and_parts}, NodeRewrites.{AreReducedFrom, IsOver, over_sum, over_product, over_power, over_neg, over_sub}}
-use Rattle.deep_reduce.proofs.{NodeRewrites.{over_div}, PlainNodes.{is_plain_value, Decides, child_decides, pair_plain, no_child}}
-use Rattle.calc_measures.specs.PlainOverflows.{is_overflow, with_child, nodes_to_overflow, nodes_among}
+use Rattle.deep_reduce.proofs.Shared.{◌≡◌, ℕ, ◌+◌, Bool, true, false, ◌&&◌, refl, sym, ap, ◌∙◌, subst, if◌then◌else◌, arith, IsPlainAnswer, IsPlainOverflow, PlainValue, exactly, nothing, Gathered}
+use Rattle.deep_reduce.proofs.Shared.{decided, values, gather, folded, on_one, on_two, divided, calculated, powered, plain_of, plain_of_children, is_plain, are_plain, plain_value, add_op, mul_op}
+use Rattle.deep_reduce.proofs.Shared.{negative, Tree, add, mult, power, root, neg, sub, div, Trees, none, more, append, nodes, nodes_of, IsReducedFrom, Overflow, children_of, and_parts, is_overflow}
+use Rattle.deep_reduce.proofs.{Shared.{with_child, nodes_to_overflow, nodes_among}, NodeRewrites.{AreReducedFrom, IsOver, over_sum, over_product, over_power, over_neg, over_sub, over_div}}
+use Rattle.deep_reduce.proofs.PlainNodes.{is_plain_value, Decides, child_decides, pair_plain, no_child}
 
 -- ---- one child
 

@@ -1,9 +1,7 @@
 -- A root with its children, whatever it holds: a child is taken out.
-use Rattle.std.proofs.Common.{◌≡◌, ℕ, [], ◌∷◌, refl, ap, ◌∙◌, subst, arith}
-use Rattle.deep_reduce.proofs.Shared.{gives_without, Payload, Tree, Trees, none, more, count, represents_count, without_put, GivesSides, State, IsParent, held_at, parent_handed, behind_first}
-use Rattle.deep_reduce.proofs.Shared.{front_same, front_put, front_end, gives_as, ends_at, kids_of_root, nth, plain, children_of, Forest, arity, kids, tree_nth, without_nth, IsOwned, IsHanded, Ends}
-use Rattle.deep_reduce.proofs.Shared.{Gives, KeepsFront, kids_of, root_tree, without_root, put, Stands, forest}
-use Rattle.reduce_walk.proofs.TakenOut.{parent_end, IsTakenOut, taken_out, parent_owned}
+use Rattle.deep_reduce.proofs.Shared.{◌≡◌, ℕ, [], ◌∷◌, refl, ap, ◌∙◌, subst, arith, gives_without, Payload, Tree, Trees, none, more, count, represents_count, without_put, GivesSides, State, IsParent}
+use Rattle.deep_reduce.proofs.Shared.{held_at, parent_handed, behind_first, front_same, front_put, front_end, gives_as, ends_at, kids_of_root, nth, plain, children_of, Forest, arity, kids, tree_nth}
+use Rattle.deep_reduce.proofs.Shared.{without_nth, IsOwned, IsHanded, Ends, Gives, KeepsFront, kids_of, root_tree, without_root, put, Stands, forest, parent_end, IsTakenOut, taken_out, parent_owned}
 
 -- how many children a reader finds
 pub parent_children : {s : State} {x : Payload} {i : ℕ} {ts : Trees} → Stands s → IsParent x i ts (forest s) → arity (kids_of i (forest s)) ≡ count ts

@@ -1,10 +1,9 @@
 -- The plain value of a node, from its children's answers.
-use Rattle.std.proofs.Common.{arith, ◌≡◌, Bool, true, false, ◌&&◌, List, [], ◌∷◌, refl, ap, ◌∙◌, subst, if◌then◌else◌}
-use Rattle.deep_reduce.proofs.Shared.{add_op, mul_op, Fraction, negative, PlainValue, exactly, undefined, overflow, nothing, Gathered, decided, values, gather, folded, on_one, on_two, divided}
-use Rattle.deep_reduce.proofs.Shared.{calculated, powered, plain_of, plain_of_children, is_plain, are_plain, plain_value, Tree, num, add, mult, power, root, neg, sub, div, Trees, none, more, append}
-use Rattle.deep_reduce.proofs.Shared.{is_num, has_undef, are_rationals, IsNodeAnswer, IsNodeOverflow, has_no_value, IsReducedFrom, Overflow, IsPlainAnswer, IsPlainOverflow, children_of, and_parts}
-use Rattle.deep_reduce.proofs.{Shared.{or_right, and_from}, NodeRewrites.{AreReducedFrom, IsOver, over_number, over_symbol, over_undef, over_sum, over_product, over_power, over_root, over_neg}}
-use Rattle.deep_reduce.proofs.NodeRewrites.{over_sub, over_div}
+use Rattle.deep_reduce.proofs.Shared.{arith, ◌≡◌, Bool, true, false, ◌&&◌, List, [], ◌∷◌, refl, ap, ◌∙◌, subst, if◌then◌else◌, add_op, mul_op, Fraction, negative, PlainValue, exactly, undefined}
+use Rattle.deep_reduce.proofs.Shared.{overflow, nothing, Gathered, decided, values, gather, folded, on_one, on_two, divided, calculated, powered, plain_of, plain_of_children, is_plain, are_plain}
+use Rattle.deep_reduce.proofs.Shared.{plain_value, Tree, num, add, mult, power, root, neg, sub, div, Trees, none, more, append, is_num, has_undef, are_rationals, IsNodeAnswer, IsNodeOverflow}
+use Rattle.deep_reduce.proofs.{Shared.{has_no_value, IsReducedFrom, Overflow, IsPlainAnswer, IsPlainOverflow, children_of, and_parts, or_right, and_from}, NodeRewrites.{AreReducedFrom, IsOver}}
+use Rattle.deep_reduce.proofs.NodeRewrites.{over_number, over_symbol, over_undef, over_sum, over_product, over_power, over_root, over_neg, over_sub, over_div}
 
 -- a fact of a plain value holds where there is none, and where it is computed
 pub as_plain : (P : PlainValue → Type 0) (t : Tree) → P nothing → (is_plain t ≡ true → P (plain_of t)) → P (plain_value t)

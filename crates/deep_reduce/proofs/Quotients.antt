@@ -1,12 +1,10 @@
 -- What a quotient answers, from the answers for the inverse and for the product.
-use Rattle.std.proofs.Common.{◌≡◌, ◌+◌, ◌*◌, negsuc, arith, ◌⊎◌, inl, inr, Bool, true, false, ◌&&◌, refl, sym, ap, ◌∙◌, subst, append-nil, ◌||◌, Contains, if◌then◌else◌, [], ◌++◌}
+use Rattle.deep_reduce.proofs.Shared.{◌≡◌, ◌+◌, ◌*◌, negsuc, arith, ◌⊎◌, inl, inr, Bool, true, false, ◌&&◌, refl, sym, ap, ◌∙◌, subst, append-nil, ◌||◌, Contains, if◌then◌else◌, [], ◌++◌}
 use Rattle.deep_reduce.proofs.Shared.{fraction_fits, mul_op, Fraction, minus_one_fraction, inverse, is_zero_fraction, is_number, PlainValue, undefined, calculated, plain_value, Tree, num, undef, mult}
 use Rattle.deep_reduce.proofs.Shared.{power, div, none, names, is_undef, is_num, has_undef, are_rationals, IsNodeAnswer, IsNodeOverflow, holds_whole, lacks_power, is_number_power, Overflow, keeps}
-use Rattle.deep_reduce.proofs.Shared.{kept, reduces_after, IsPlainAnswer, IsPlainOverflow, Rewrites, Reduces, and_from, and_parts, or_cases, or_from, or_parts, cases_Bool}
-use Rattle.deep_reduce.proofs.{EasyNodes.{number_defined}, NodeRewrites.{both}, Steps.{two, left_undefined, right_undefined, two_rationals, product_value, AreTwo, are_two}}
-use Rattle.node_bounds.proofs.{Clashes.{undef_words, undef_test}, NodeBits.{two_factors, second_side, answer_defined}, NodeRooms.{quotient_room}}
-use Rattle.calc_algebra.proofs.PowerRewrites.{div_as_product}
-use Rattle.calc_measures.proofs.Inverses.{inverse_value, zero_inverse}
+use Rattle.deep_reduce.proofs.Shared.{kept, reduces_after, IsPlainAnswer, IsPlainOverflow, Rewrites, Reduces, and_from, and_parts, or_cases, or_from, or_parts, cases_Bool, undef_words, undef_test}
+use Rattle.deep_reduce.proofs.{Shared.{two_factors, second_side, answer_defined, quotient_room, div_as_product, inverse_value, zero_inverse}, EasyNodes.{number_defined}, NodeRewrites.{both}}
+use Rattle.deep_reduce.proofs.Steps.{two, left_undefined, right_undefined, two_rationals, product_value, AreTwo, are_two}
 use Rattle.calc_algebra.proofs.MeaningRewrites as rewrites
 
 abbrev inverse_tree : Tree → Tree

@@ -1,8 +1,7 @@
 -- What calls on numbers return, in other words.
-use Rattle.std.proofs.Common.{arith, ◌≡◌, ℕ, List, Result, Ok, Err, refl, sym, subst, IfOk, IfErr, IsErr, IsErrAnd}
-use Rattle.deep_reduce.proofs.Shared.{PlainValue, SpansTree, Tree, gives_itself, State, IfOverflow, OfOverflow, Overflow, IsPlainAnswer, IsPlainOverflow, gives_as, last_tree, Forest, tree_of, Gives}
-use Rattle.deep_reduce.proofs.Shared.{forest, NumberFault}
-use Rattle.number_forms.specs.Answers.{AnswersRationals}
+use Rattle.deep_reduce.proofs.Shared.{arith, ◌≡◌, ℕ, List, Result, refl, sym, subst, IfErr, IsErrAnd, PlainValue, SpansTree, Tree, gives_itself, State, IfOverflow, OfOverflow, Overflow, IsPlainAnswer}
+use Rattle.deep_reduce.proofs.Shared.{IsPlainOverflow, gives_as, last_tree, Forest, tree_of, Gives, forest, NumberFault, AnswersRationals}
+use Rattle.std.proofs.Common.{Ok, Err, IfOk, IsErr}
 
 -- an answer, with what is said of it where the operands are rationals
 pub answered : {C : Type 0} (others : Forest) (v : PlainValue) (s : State) (r : Result ℕ NumberFault) (P Q : Tree → Type 0) → IfOk r (λ h. Gives others (forest s) h P) → (C → AnswersRationals v s r)

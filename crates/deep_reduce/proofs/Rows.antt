@@ -1,9 +1,7 @@
 -- The loop over the powers of a product, each of which is reduced in its place.
-use Rattle.std.proofs.Common.{◌≡◌, ℕ, suc, ◌+◌, ◌≤◌, ◌<◌, refl, sym, ap, ◌∙◌, subst, arith}
-use Rattle.deep_reduce.proofs.Shared.{nest, nest_of, weight, Tree, Trees, none, more, append, count, IsReducedPower, weight_of_bases, IsTransparent, AreTransparent, AreReducedPowers, base_in}
-use Rattle.deep_reduce.proofs.Shared.{exponent_in, Forest, Gives, root_tree, append-none, count_append, mult, nth, plain, children_of, set_child, set_tree, ChangesTree, changes_after, changes_as}
-use Rattle.deep_reduce.proofs.Shared.{changes_none, IsHanded, given_told}
-use Rattle.reduce_walk.proofs.Walks.{append_assoc, none_left}
+use Rattle.deep_reduce.proofs.Shared.{◌≡◌, ℕ, suc, ◌+◌, ◌≤◌, ◌<◌, refl, sym, ap, ◌∙◌, subst, arith, nest, nest_of, weight, Tree, Trees, none, more, append, count, IsReducedPower, weight_of_bases}
+use Rattle.deep_reduce.proofs.Shared.{IsTransparent, AreTransparent, AreReducedPowers, base_in, exponent_in, Forest, Gives, root_tree, append-none, count_append, mult, nth, plain, children_of}
+use Rattle.deep_reduce.proofs.Shared.{set_child, set_tree, ChangesTree, changes_after, changes_as, changes_none, IsHanded, given_told, none_left, append_assoc}
 
 -- ---- lists
 

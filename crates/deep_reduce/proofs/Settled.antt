@@ -1,15 +1,14 @@
 -- A product whose joint is reduced in its place.
-use Rattle.std.proofs.Common.{◌≡◌, ℕ, zero, suc, ◌+◌, ◌≤◌, ◌<◌, inl, inr, true, false, refl, sym, ap, ◌∙◌, subst, arith, add-one, Option, MatchOption, IfSome}
-use Rattle.deep_reduce.proofs.Shared.{and_parts, Contains-append_left, Contains-append_right, Contains-append_cases, nest, nest_of, weight, load_of_factor, load_of_factors, is_reduced}
-use Rattle.deep_reduce.proofs.Shared.{is_opaque_exponent, base_of, are_reduced, Tree, add, mult, power, Trees, none, more, count, is_mult, names, KeepsMeanings-refl, KeepsMeanings-power}
-use Rattle.deep_reduce.proofs.Shared.{IsReducedProduct, IsReducedPower, nest_of_joint, set_tree, Joins, joins_gathered, joins_pair, joins_then, HandsOn, IsLess, IsSummed, IsSettled, removed, base_in}
-use Rattle.deep_reduce.proofs.Shared.{exponent_in, AreJoinable, IsFinished, IsGathered, exponent_of, have_partners, IsJointAt, IsNextPair, IsPairAt, NoPairBetween, joined_pair, joint_there}
-use Rattle.deep_reduce.proofs.Shared.{neighbours_joint, Rewrites, keeps, kept, Rewrites-refl, Rewrites-trans, rewrites_of, reduces_after, IsSumAnswer, nth, children_of, load_product, base_is_reduced}
-use Rattle.deep_reduce.proofs.{Shared.{exponent_is_reduced, KeepsSumBounds, KeepsProductBounds}, Heavy.{factor_load, over_power}, Joined.{JointsBelow, IsLessLoaded, pair_loaded, numbers_opened}}
+use Rattle.deep_reduce.proofs.Shared.{replaced_count, ◌≡◌, ℕ, zero, suc, ◌+◌, ◌≤◌, ◌<◌, inl, inr, true, false, refl, sym, ap, ◌∙◌, subst, arith, add-one, Option, MatchOption, and_parts}
+use Rattle.deep_reduce.proofs.Shared.{Contains-append_left, Contains-append_right, Contains-append_cases, nest, nest_of, weight, load_of_factor, load_of_factors, is_reduced, is_opaque_exponent}
+use Rattle.deep_reduce.proofs.Shared.{base_of, are_reduced, Tree, add, mult, power, Trees, none, more, count, is_mult, names, KeepsMeanings-refl, KeepsMeanings-power, IsReducedProduct, IsReducedPower}
+use Rattle.deep_reduce.proofs.Shared.{nest_of_joint, set_tree, Joins, joins_gathered, joins_pair, joins_then, HandsOn, IsLess, IsSummed, IsSettled, removed, base_in, exponent_in, AreJoinable}
+use Rattle.deep_reduce.proofs.Shared.{IsFinished, IsGathered, exponent_of, have_partners, IsJointAt, IsNextPair, IsPairAt, NoPairBetween, joined_pair, joint_there, neighbours_joint, Rewrites, keeps}
+use Rattle.deep_reduce.proofs.Shared.{kept, Rewrites-refl, Rewrites-trans, rewrites_of, reduces_after, IsSumAnswer, nth, children_of, load_product, base_is_reduced, exponent_is_reduced}
+use Rattle.deep_reduce.proofs.Shared.{KeepsSumBounds, KeepsProductBounds, contrary, undef_words, settled_hands_on, hands_on_next, keeps_next, finished_keeps, first_reduced, settled_held}
+use Rattle.deep_reduce.proofs.{Shared.{product_counts, product_joins_none, some_weight}, Heavy.{factor_load, over_power}, Joined.{JointsBelow, IsLessLoaded, pair_loaded, numbers_opened}}
 use Rattle.deep_reduce.proofs.{Joined.{factors_rewritten, pair_rewritten}, Joints.{transparent_exponent, joint_load, reduced_joint}}
-use Rattle.node_bounds.proofs.{Clashes.{contrary, undef_words}, JointRooms.{settled_hands_on, hands_on_next, keeps_next, finished_keeps}, HeldJoints.{first_reduced, settled_held}}
-use Rattle.node_bounds.proofs.ProductCounts.{product_counts, product_joins_none}
-use Rattle.calc_measures.proofs.Weights.{some_weight}
+use Rattle.std.proofs.Common.{IfSome}
 use Rattle.product_reduce.specs.Joining.{joint as joint_of}
 
 -- ---- rewritings inside a tree
@@ -26,11 +25,6 @@ replaced_rewritten zero u (more t ts) h = factors_rewritten h (Rewrites-refl (mu
 replaced_rewritten (suc n) u (more t ts) h = factors_rewritten (Rewrites-refl t) (replaced_rewritten n u ts h)
 
 -- ---- another tree at a place
-
-replaced_count : (n : ℕ) (u : Tree) (ts : Trees) → count (set_tree n u ts) ≡ count ts
-replaced_count n u none = refl
-replaced_count zero u (more t ts) = refl
-replaced_count (suc n) u (more t ts) = ap suc (replaced_count n u ts)
 
 replaced_reduced : (n : ℕ) (u : Tree) (ts : Trees) → is_reduced u ≡ true → are_reduced (removed n ts) ≡ true → are_reduced (set_tree n u ts) ≡ true
 replaced_reduced n u none h k = refl

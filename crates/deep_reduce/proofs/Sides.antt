@@ -1,9 +1,9 @@
 -- Two trees taken from a node, or made, and put under a new one.
-use Rattle.std.proofs.Common.{rules, ◌≡◌, ℕ, eqb, false, [], ◌∷◌, ap, ◌∙◌, ◌+◌, arith}
-use Rattle.deep_reduce.proofs.Shared.{Tree, Trees, Kind, GivesSides, behind_first, behind_later, behind_new, front_same, front_at, front_end, front_without, front_after_one, front_after_two}
-use Rattle.deep_reduce.proofs.Shared.{given_handed, given_told, given_rest, given_same, given_apart, given_without, handed_at, eqb-sym, nth, plain, compound, Forest, IsHanded, Gives, KeepsFront}
-use Rattle.deep_reduce.proofs.Shared.{root_tree, without_root, size, bytes_in, bytes_in-join, size-plain, last_tree, State, Stands, forest, KeepsRefusals, free_of, tree_of, used_forest, handed_bytes}
-use Rattle.deep_reduce.proofs.Steps.{two}
+use Rattle.deep_reduce.proofs.Shared.{rules, ◌≡◌, ℕ, eqb, false, [], ◌∷◌, ap, ◌∙◌, ◌+◌, arith, Tree, Trees, Kind, GivesSides, behind_first, behind_later, behind_new, front_same, front_at, front_end}
+use Rattle.deep_reduce.proofs.Shared.{front_without, front_after_one, front_after_two, given_handed, given_told, given_rest, given_same, given_apart, given_without, handed_at, eqb-sym, nth, plain}
+use Rattle.deep_reduce.proofs.Shared.{compound, Forest, IsHanded, Gives, KeepsFront, root_tree, without_root, size, bytes_in, bytes_in-join, size-plain, last_tree, State, Stands, forest}
+use Rattle.deep_reduce.proofs.{Shared.{KeepsRefusals, free_of, tree_of, used_forest, handed_bytes}, Steps.{two}}
+use Rattle.tree_handles.proofs.FreeBytes.{last_bytes as given_bytes}
 
 -- ---- a new tree and one that was handed
 
@@ -86,9 +86,6 @@ pub joined_front : {f h end : Forest} {left made p : ℕ} {Told : Tree → Type 
 joined_front k g l = front_after_one (behind_new g.ends without_both) k l
 
 -- ---- bytes
-
-given_bytes : {g f : Forest} {i : ℕ} {Told : Tree → Type 0} → Gives g f i Told → bytes_in f ≡ bytes_in g + size (plain (root_tree i f))
-given_bytes {g = g} e = omega (arith, ap bytes_in e.ends.whole, bytes_in-join g e.tree, size-plain e.tree e.ends.alone e.whole, ap (λ (x : Forest). size (plain x)) (last_tree e.ends))
 
 -- both sides stand by themselves
 pub sides_free : {s t : State} {i h j : ℕ} {ts : Trees} → Stands s → Stands t → KeepsRefusals s t → IsHanded i (forest s) → GivesSides ts (without_root i (forest s)) (forest t) h j

@@ -1,19 +1,16 @@
 -- What the calls on sums, products, powers and roots answer, as answers of a node.
-use Rattle.std.proofs.Common.{◌≡◌, ℕ, ◌⊎◌, inl, inr, true, false, ◌&&◌, List, refl, sym, ◌∙◌, subst, arith, append-nil, ◌||◌, Contains, [], ◌++◌}
-use Rattle.deep_reduce.proofs.Shared.{fraction_fits, mul_op, Fraction, minus_one_fraction, negative, zero_fraction, one_fraction, is_number, value, PlainValue, exactly, undefined, overflow, nothing}
-use Rattle.deep_reduce.proofs.Shared.{calculated, plain_value, is_reduced, int_is_negative, Tree, num, symbol, undef, add, mult, power, root, neg, sub, div, Trees, none, more, names, is_undef, is_num}
-use Rattle.deep_reduce.proofs.Shared.{IsPart, IsPartOf, itself, in_add, in_mult, in_base, in_exponent, in_root, in_neg, in_left, in_right, in_dividend, in_divisor, first, later, has_undef}
-use Rattle.deep_reduce.proofs.Shared.{are_rationals, IsReducedProduct, IsReducedPower, IsNodeAnswer, IsNodeOverflow, has_no_value, SpansTree, base_in, IfRational, IsRootAnswer, Overflow, keeps, kept}
-use Rattle.deep_reduce.proofs.Shared.{Rewrites-refl, reduces, reduces_after, IsPlainAnswer, Rewrites, Reduces, IsNoLargerThanRoot, IsSumAnswer, children_of, and_from, and_parts, or_cases, or_from}
-use Rattle.deep_reduce.proofs.Shared.{or_left, or_right, or_parts, number_reduced, symbol_reduced, undef_reduced, as_num, undef_inside, rationals_defined, KeepsNodeRoom, node_count, KeepsRootRoom}
-use Rattle.deep_reduce.proofs.{Shared.{HoldsNode, has_number, is_half_num, exponent_in, IsFactorHeld, is_leaf, KeepsSumBounds}, EasyNodes.{number_defined}, NodeRewrites.{both}}
-use Rattle.deep_reduce.proofs.PlainNodes.{undef_has_no_value}
-use Rattle.node_bounds.proofs.{Clashes.{contrary, undef_words, undef_test, rational_number}, HeldFactors.{tree_factor}, HeldRoots.{root_answer_held}, NodeBits.{zero_held, one_held, opposite_factors}}
-use Rattle.node_bounds.proofs.{NodeBits.{two_terms, second_side, answer_defined, power_answer_held}, NodeRooms.{node_room, undef_room, same_room, number_room, sum_room, root_node_room, opposite_room}}
-use Rattle.node_bounds.proofs.{NodeRooms.{difference_room}, PowerRooms.{undef_root_room}}
-use Rattle.calc_algebra.proofs.UndefRewrites.{undef_part}
-use Rattle.calc_measures.proofs.Inverses.{opposite_value}
-pub use Rattle.power_reduce.proofs.Answered.{no_names}
+use Rattle.deep_reduce.proofs.Shared.{◌≡◌, ℕ, ◌⊎◌, inl, inr, true, false, ◌&&◌, List, refl, sym, ◌∙◌, subst, arith, append-nil, ◌||◌, Contains, [], ◌++◌, fraction_fits, mul_op, Fraction}
+use Rattle.deep_reduce.proofs.Shared.{minus_one_fraction, negative, zero_fraction, one_fraction, is_number, value, PlainValue, exactly, undefined, overflow, nothing, calculated, plain_value}
+use Rattle.deep_reduce.proofs.Shared.{is_reduced, int_is_negative, Tree, num, symbol, undef, add, mult, power, root, neg, sub, div, Trees, none, more, names, is_undef, is_num, IsPart, IsPartOf}
+use Rattle.deep_reduce.proofs.Shared.{itself, in_add, in_mult, in_base, in_exponent, in_root, in_neg, in_left, in_right, in_dividend, in_divisor, first, later, has_undef, are_rationals}
+use Rattle.deep_reduce.proofs.Shared.{IsReducedProduct, IsReducedPower, IsNodeAnswer, IsNodeOverflow, has_no_value, SpansTree, base_in, IfRational, IsRootAnswer, Overflow, keeps, kept, Rewrites-refl}
+use Rattle.deep_reduce.proofs.Shared.{reduces, reduces_after, IsPlainAnswer, Rewrites, Reduces, IsNoLargerThanRoot, IsSumAnswer, children_of, and_from, and_parts, or_cases, or_from, or_left, or_right}
+use Rattle.deep_reduce.proofs.Shared.{or_parts, number_reduced, symbol_reduced, undef_reduced, as_num, undef_inside, rationals_defined, KeepsNodeRoom, node_count, KeepsRootRoom, HoldsNode, has_number}
+use Rattle.deep_reduce.proofs.Shared.{is_half_num, exponent_in, IsFactorHeld, is_leaf, KeepsSumBounds, contrary, undef_words, undef_test, rational_number, tree_factor, root_answer_held, zero_held}
+use Rattle.deep_reduce.proofs.Shared.{one_held, opposite_factors, second_side, answer_defined, power_answer_held, node_room, undef_room, same_room, number_room, root_node_room, opposite_room}
+use Rattle.deep_reduce.proofs.{Shared.{difference_room, undef_root_room, undef_part, opposite_value}, EasyNodes.{number_defined}, NodeRewrites.{both}, PlainNodes.{undef_has_no_value}}
+use Rattle.node_bounds.proofs.{NodeBits.{two_terms}, NodeRooms.{sum_room}}
+pub use Rattle.calc_algebra.proofs.SmallLaws.{no_names}
 use Rattle.calc_algebra.proofs.MeaningRewrites as rewrites
 
 abbrev pub two : Tree → Tree → Trees

@@ -1,13 +1,10 @@
 -- What calls on a node of a kind tell, in the words of any node.
-use Rattle.std.proofs.Common.{◌≡◌, ◌≢◌, ℕ, List, negsuc, true, false, ◌&&◌, refl, sym, ap, ◌∙◌, subst, arith, inl, inr, Result}
-use Rattle.deep_reduce.proofs.Shared.{false_from_ne_true, lowest, minus_one_fraction, ratio_of, value_of, PlainValue, nothing, plain_value, is_half_num, is_reduced, is_whole_num, are_reduced, Tree}
-use Rattle.deep_reduce.proofs.Shared.{num, symbol, undef, add, mult, power, root, neg, sub, div, Trees, none, more, is_add, is_mult, is_root, is_num, root_kind, are_rationals, has_undef, value}
-use Rattle.deep_reduce.proofs.Shared.{int_is_negative, IsNoLargerThanRoot, IsReducedProduct, IsReducedPower, SpansTree, IsNodeAnswer, IsNodeOverflow, is_neg, base_in, exponent_in, no_plain_value}
-use Rattle.deep_reduce.proofs.Shared.{whole_no_half, whole_is, NamesProduct, argument_of, IfRational, IsRootAnswer, Overflow, IsPlainAnswer, IsPlainOverflow, IsSumAnswer, nth, children_of, and_from}
-use Rattle.deep_reduce.proofs.{Shared.{and_parts, cases_Bool, NumberFault, IfOverflow, KeepsSumBounds}, Steps.{two, sum_answer, product_answer, power_answer, root_answer, number_answer}}
-use Rattle.deep_reduce.proofs.Steps.{symbol_answer, undef_answer}
-use Rattle.node_bounds.proofs.Clashes.{contrary}
-use Rattle.calc_terms.specs.{declared.rat.Rat.{Rat}, Ratio.{Ratio, whole}}
+use Rattle.deep_reduce.proofs.Shared.{◌≡◌, ◌≢◌, ℕ, List, negsuc, true, false, ◌&&◌, refl, sym, ap, ◌∙◌, subst, arith, inl, inr, Result, false_from_ne_true, lowest, minus_one_fraction, ratio_of}
+use Rattle.deep_reduce.proofs.Shared.{value_of, PlainValue, nothing, plain_value, is_half_num, is_reduced, is_whole_num, are_reduced, Tree, num, symbol, undef, add, mult, power, root, neg, sub, div}
+use Rattle.deep_reduce.proofs.Shared.{Trees, none, more, is_add, is_mult, is_root, is_num, root_kind, are_rationals, has_undef, value, int_is_negative, IsNoLargerThanRoot, IsReducedProduct}
+use Rattle.deep_reduce.proofs.Shared.{IsReducedPower, SpansTree, IsNodeAnswer, IsNodeOverflow, is_neg, base_in, exponent_in, no_plain_value, whole_no_half, whole_is, NamesProduct, argument_of}
+use Rattle.deep_reduce.proofs.Shared.{IfRational, IsRootAnswer, Overflow, IsPlainAnswer, IsPlainOverflow, IsSumAnswer, nth, children_of, and_from, and_parts, cases_Bool, NumberFault, IfOverflow}
+use Rattle.deep_reduce.proofs.{Shared.{KeepsSumBounds, contrary, Rat, Ratio, whole}, Steps.{two, sum_answer, product_answer, power_answer, root_answer, number_answer, symbol_answer, undef_answer}}
 use Rattle.calc_terms.specs.declared.kind.Kind.TheVariants as kind
 
 -- ---- kinds

@@ -1,15 +1,13 @@
 -- What holds the answers of children holds the node over them, by the bounds of the tree.
-use Rattle.std.proofs.Common.{◌≡◌, ◌≤◌, ℤ, true, false, ◌&&◌, ◌||◌, Option, Some, None, refl, sym, ap, ◌∙◌, subst, arith, inl, inr}
-use Rattle.deep_reduce.proofs.Shared.{numerator, is_half_num, and_parts, whole_literal, half_literal, or_literal, is_whole_literal, is_half_literal, all_simple, are_all_simple, is_simple_power}
-use Rattle.deep_reduce.proofs.Shared.{power_bounds, bounds, bounds_of_factors, high, low, Tree, num, symbol, power, Trees, none, more, is_num, is_symbol, is_undef, has_undef, is_leaf, HoldsPower}
-use Rattle.deep_reduce.proofs.Shared.{holds_whole, holds_half, holds_kept, HoldsNode, IsNodeAnswer, IsReducedFrom, IsFactorHeld, AreFactorsHeld, none_held, AreTreesHeld, raised_high, raised_low}
-use Rattle.deep_reduce.proofs.{Shared.{factor_is_held, symbol_is_held, children_of, or_parts, number_reduced, or_from, cases_Bool}, NodeRewrites.{AreReducedFrom, IsOver, over_number, over_symbol}}
-use Rattle.deep_reduce.proofs.{NodeRewrites.{over_undef, over_sum, over_product, over_power, over_root, over_neg, over_sub, over_div}, PlainNodes.{undef_has_no_value}}
-use Rattle.node_bounds.proofs.{Clashes.{clash, or_other}, HeldFactors.{factor_tree, tree_factor, undef_factor}, NodeBits.{first_side, second_side}}
-use Rattle.calc_measures.proofs.{LiteralValues.{whole_answer, half_literal_answer}, ZeroBounds.{zero_high}}
-use Rattle.product_reduce.specs.Bits.{factor_held}
-use Rattle.tree_bits.specs.Rows.{bounds_of_each}
-use Rattle.tree_bits.proofs.{Rows.{rational_row, sum_row, rational_to_symbol, symbol_to_symbol, two_powers_within as two_powers, raised_within as row_most}, RaisedBits.{base_most}}
+use Rattle.deep_reduce.proofs.Shared.{◌≡◌, ◌≤◌, ℤ, true, false, ◌&&◌, ◌||◌, Option, Some, None, refl, sym, ap, ◌∙◌, subst, arith, inl, inr, numerator, is_half_num, and_parts, whole_literal}
+use Rattle.deep_reduce.proofs.Shared.{half_literal, or_literal, is_whole_literal, is_half_literal, all_simple, are_all_simple, is_simple_power, power_bounds, bounds, bounds_of_factors, high, low}
+use Rattle.deep_reduce.proofs.Shared.{Tree, num, symbol, power, Trees, none, more, is_num, is_symbol, is_undef, has_undef, is_leaf, HoldsPower, holds_whole, holds_half, holds_kept, HoldsNode}
+use Rattle.deep_reduce.proofs.Shared.{IsNodeAnswer, IsReducedFrom, IsFactorHeld, AreFactorsHeld, none_held, AreTreesHeld, raised_high, raised_low, factor_is_held, symbol_is_held, children_of}
+use Rattle.deep_reduce.proofs.Shared.{or_parts, number_reduced, or_from, cases_Bool, clash, or_other, factor_tree, tree_factor, undef_factor, first_side, second_side, whole_answer}
+use Rattle.deep_reduce.proofs.Shared.{half_literal_answer, zero_high, factor_held, bounds_of_each, rational_row, sum_row, rational_to_symbol, symbol_to_symbol, base_most}
+use Rattle.deep_reduce.proofs.NodeRewrites.{AreReducedFrom, IsOver, over_number, over_symbol, over_undef, over_sum, over_product, over_power, over_root, over_neg, over_sub, over_div}
+use Rattle.deep_reduce.proofs.PlainNodes.{undef_has_no_value}
+use Rattle.tree_bits.proofs.Rows.{two_powers_within as two_powers, raised_within as row_most}
 
 -- ---- children
 

@@ -1,15 +1,11 @@
 -- A tree whose powers are simple, and the answers of its children: what they count, that they are calm, and what spans them.
-use Rattle.std.proofs.Common.{◌≡◌, ℕ, suc, ◌+◌, ◌*◌, ◌≤◌, ◌<◌, ◌⊎◌, inl, inr, ◌<ℤ◌, pos, negsuc, ℤ, List, [], ◌∷◌, ◌++◌, length, Bool, true, false, ◌&&◌, ◌||◌, if◌then◌else◌, refl, ap, ◌∙◌, arith}
-use Rattle.std.proofs.{Common.{Contains}, lemmas.List.{length-append}}
-use Rattle.deep_reduce.proofs.Shared.{and_parts, ints, Contains-append_left, Contains-append_right, IsAssignment, natural_of, is_half_num, is_whole_literal, is_half_literal, all_simple}
-use Rattle.deep_reduce.proofs.Shared.{are_all_simple, is_simple_power, roots, roots_of, counted, SpansTree, SpansTrees, Tree, num, symbol, add, mult, power, root, neg, sub, Trees, none, more, nodes}
-use Rattle.deep_reduce.proofs.Shared.{names, names_of, is_num, is_symbol, HasNodesFor, SpansNode, node_count, IsNodeAnswer, IsReducedFrom, IsWithinTree, IsCalmAtZero, SpansRootOf, power_count}
-use Rattle.deep_reduce.proofs.Shared.{base_in, exponent_in, CountWithin, IsCalm, AreCalm, MeansWhole, zeros, literal_whole, counts_one, numbers_and_others, symbol_zero, each_once}
+use Rattle.deep_reduce.proofs.Shared.{◌≡◌, ℕ, suc, ◌+◌, ◌*◌, ◌≤◌, ◌<◌, ◌⊎◌, inl, inr, ◌<ℤ◌, pos, negsuc, ℤ, List, [], ◌∷◌, ◌++◌, length, Bool, true, false, ◌&&◌, ◌||◌, if◌then◌else◌, refl, ap, ◌∙◌}
+use Rattle.deep_reduce.proofs.Shared.{arith, Contains, length-append, and_parts, ints, Contains-append_left, Contains-append_right, IsAssignment, natural_of, is_half_num, is_whole_literal}
+use Rattle.deep_reduce.proofs.Shared.{is_half_literal, all_simple, are_all_simple, is_simple_power, roots, roots_of, counted, SpansTree, SpansTrees, Tree, num, symbol, add, mult, power, root, neg}
+use Rattle.deep_reduce.proofs.Shared.{sub, Trees, none, more, nodes, names, names_of, is_num, is_symbol, HasNodesFor, SpansNode, node_count, IsNodeAnswer, IsReducedFrom, IsWithinTree, IsCalmAtZero}
+use Rattle.deep_reduce.proofs.Shared.{SpansRootOf, power_count, base_in, exponent_in, CountWithin, IsCalm, AreCalm, MeansWhole, zeros, literal_whole, counts_one, numbers_and_others, symbol_zero}
+use Rattle.deep_reduce.proofs.Shared.{each_once, some_counted, whole_kept, whole_count_most, kept_counts, half_answer, spans_root_of, tree_first, tree_second, trees_second, all_within}
 use Rattle.deep_reduce.proofs.NodeRewrites.{AreReducedFrom, IsOver, over_number, over_symbol, over_undef, over_sum, over_product, over_power, over_root, over_neg, over_sub, over_div}
-use Rattle.node_bounds.proofs.{Rewritten.{some_counted}, Calm.{whole_kept}, JointRooms.{whole_count_most}, PowerRooms.{kept_counts}}
-use Rattle.calc_measures.proofs.LiteralValues.{half_answer}
-use Rattle.radical_forms.proofs.Spanned.{spans_root_of}
-use Rattle.tree_room.proofs.{JoinedSpans.{tree_first, tree_second, trees_second}, NodeCounts.{all_within}}
 
 -- ---- the answers of children
 

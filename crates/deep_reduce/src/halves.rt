@@ -99,7 +99,7 @@ fn reduce_base(pool: &mut Pool, power: Handle) -> Result<Handle, NumberFault>
 }
 
 /// A step on a power that no rule rewrites.
-#[tactic(auto, using(crate::proofs::Arms::is_done, tree_handles::proofs::Given::given_told, crate::proofs::Arms::is_again, tree_handles::proofs::Outcomes::passed_on, node_bounds::proofs::HeldRoots::last_fits))]
+#[tactic(auto, using(crate::proofs::Arms::is_done, tree_handles::proofs::Given::given_told, crate::proofs::Arms::is_again, calc_terms::proofs::SmallLaws::passed_on, node_bounds::proofs::HeldRoots::last_fits))]
 fn last_step(pool: &mut Pool, power: Handle) -> Result<Handle, NumberFault>
     requires stands { Stands pool.old }
     requires handed { IsHanded power (forest pool.old) }

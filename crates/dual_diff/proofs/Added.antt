@@ -1,11 +1,7 @@
 -- Trees that are added behind all others, one after another.
-use Rattle.dual_diff.proofs.Shared.{◌≡◌, ℕ, ◌≤◌, refl, sym, ap, ◌∙◌, subst, arith, true, Option, Some, Kind, bare, is_bare, Tree, Trees, none, more, append, count, State, compound, plains}
-use Rattle.dual_diff.proofs.Shared.{takes_kind, Forest, empty, tree, arity, before_last, bytes_in, join, last_trees, one_tree, Stands, forest, KeepsRefusals, gives, represents_node, count-plains}
-use Rattle.dual_diff.proofs.Shared.{Adds, AddsAll, Places, one, ends_as}
-use Rattle.node_pool.specs.Nodes.{used}
-use Rattle.tree_handles.specs.Handed.{Ends}
-use Rattle.tree_handles.proofs.{Forests.{arity-join, join-empty, keeps_after}, Gathering.{before_last-join, last_trees-join}, Places.used_forest}
-use Rattle.dual_diff.specs.WritingLaws.{adds_given}
+use Rattle.dual_diff.proofs.Shared.{◌≡◌, ℕ, ◌≤◌, refl, sym, ap, ◌∙◌, subst, arith, true, Option, Some, Kind, bare, is_bare, Tree, Trees, none, more, append, count, State, compound, plains, takes_kind}
+use Rattle.dual_diff.proofs.Shared.{Forest, empty, tree, arity, before_last, bytes_in, join, last_trees, one_tree, Stands, forest, KeepsRefusals, gives, represents_node, count-plains, Adds, AddsAll}
+use Rattle.dual_diff.proofs.Shared.{Places, one, ends_as, used, Ends, arity-join, join-empty, keeps_after, before_last-join, last_trees-join, used_forest, adds_given}
 pub use Rattle.dual_diff.specs.WritingLaws.{adds_free, adds_join, adds_none, still_expression, still_plain}
 
 pub adds_more : {s t u : State} {ts : Trees} {a : Tree} {h : ℕ} → AddsAll s t ts → Adds t u a h → AddsAll s u (append ts (more a none))

@@ -1,14 +1,13 @@
 -- The derivative of a tree means the slope of each pair of it.
-use Rattle.dual_diff.proofs.Shared.{◌≡◌, ℕ, zero, suc, List, [], ◌++◌, Bool, true, false, refl, sym, ap, ◌∙◌, subst, inl, inr, append-nil, arith, pos, neg_ℤ, ◌==◌}
-use Rattle.dual_diff.proofs.Shared.{◌||◌, if◌then◌else◌, Option, Some, None, Fraction, times, minus_one_fraction, whole_fraction, quotient, Tree, num, symbol, undef, add, mult, power}
-use Rattle.dual_diff.proofs.Shared.{root, neg, sub, div, Trees, none, more, append, whole_num, Assignment, IsWholePower, Means, MeansSum, MeansProduct, Same, Inverts, Surd, surd_of, surd_one}
-use Rattle.dual_diff.proofs.Shared.{surd_scale, surd_times, surd_power, Inverts-surd_times, Means-Same, Same-sym, Same-trans, Same-Agree, Agree, Agree-refl, Agree-sym, Agree-trans, Agree-eq}
-use Rattle.dual_diff.proofs.Shared.{Agree-append, Agree-Same, surd_times-nil, surd_times-surd_one, surd_times-surd_of, Same-refl, Same-eq, whole_value, opposite, whole_literal, occurs}
-use Rattle.dual_diff.proofs.Shared.{occurs_in, Pair, SamePair, pair_over, HasPair, HasPairSum, HasPairProduct, IsPowerSlope, IsRootPair, two, where_occurs, quotient_rule, lowered, power_rule}
-use Rattle.dual_diff.proofs.{Shared.{literal_power_rule, root_rule, sum_of_products, derivative, derivatives, products, ints, bytes_eq, one_fraction}, Occurring.neither}
-use Rattle.dual_diff.proofs.{SlopeLaws.{zero_number, product_slope, product_still, quotient_slope, quotient_still, scale_right, half_inverts}, Still.still}
-use Rattle.std.specs.Prelude.{ℤ, negsuc, ◌*ℤ◌, ◌-ℤ◌}
-use Rattle.calc_algebra.proofs.{MeaningRewrites.{product_more, product_one, product_two, product_append}, ExponentLaws.whole_times, NumberRewrites.fraction_whole, PowerRewrites.power_whole}
+use Rattle.dual_diff.proofs.Shared.{whole_by, ◌≡◌, ℕ, zero, suc, List, [], ◌++◌, Bool, true, false, refl, sym, ap, ◌∙◌, subst, inl, inr, append-nil, arith, pos, neg_ℤ, ◌==◌, ◌||◌, if◌then◌else◌}
+use Rattle.dual_diff.proofs.Shared.{Option, Some, None, Fraction, times, minus_one_fraction, whole_fraction, quotient, Tree, num, symbol, undef, add, mult, power, root, neg, sub, div, Trees, none}
+use Rattle.dual_diff.proofs.Shared.{more, append, whole_num, Assignment, IsWholePower, Means, MeansSum, MeansProduct, Same, Inverts, Surd, surd_of, surd_one, surd_scale, surd_times, surd_power}
+use Rattle.dual_diff.proofs.Shared.{Inverts-surd_times, Means-Same, Same-sym, Same-trans, Same-Agree, Agree, Agree-refl, Agree-sym, Agree-trans, Agree-eq, Agree-append, Agree-Same, surd_times-nil}
+use Rattle.dual_diff.proofs.Shared.{surd_times-surd_one, surd_times-surd_of, Same-refl, Same-eq, whole_value, opposite, whole_literal, occurs, occurs_in, Pair, SamePair, pair_over, HasPair}
+use Rattle.dual_diff.proofs.Shared.{HasPairSum, HasPairProduct, IsPowerSlope, IsRootPair, two, where_occurs, quotient_rule, lowered, power_rule, literal_power_rule, root_rule, sum_of_products}
+use Rattle.dual_diff.proofs.Shared.{derivative, derivatives, products, ints, bytes_eq, one_fraction, negsuc, ◌*ℤ◌, product_more, product_one, product_two, product_append, whole_times, fraction_whole}
+use Rattle.dual_diff.proofs.{Shared.{power_whole}, Occurring.{neither}, SlopeLaws.{zero_number, product_slope, product_still, quotient_slope, quotient_still, scale_right, half_inverts}, Still.{still}}
+use Rattle.std.specs.Prelude.{ℤ, ◌-ℤ◌}
 
 -- ---- small cases
 
@@ -91,10 +90,6 @@ power_means f (negsuc n) b b' d q mb mb' (y, i, s) =
 
 literal_means : (f : Assignment) (l : Option ℤ) (n : ℤ) (b b' : Tree) (d : Surd) → l ≡ Some n → Means (power_rule n b b') f d → Means (literal_power_rule l b b') f d
 literal_means f l n b b' d e m = subst (λ (z : Option ℤ). Means (literal_power_rule z b b') f d) (sym e) m
-
--- a fraction that is a whole literal, and its opposite
-whole_by : (b : Bool) (q : Fraction) (n : ℤ) → (q.den == 1) ≡ b → (if b then Some q.num else None) ≡ Some n → q ≡ whole_fraction n
-whole_by b q n d h = grind (arith, fraction_whole)
 
 rational_literal : (q : Fraction) (n : ℤ) → whole_value q ≡ Some n → Same (surd_of (whole_fraction n)) (surd_of q)
 rational_literal q n h = Same-eq (ap (λ (z : Fraction). surd_of z) (sym (whole_by (q.den == 1) q n refl h)))

@@ -1,14 +1,10 @@
 -- Exponents that are whole literals, and the powers that are derivable.
-use Rattle.dual_diff.proofs.Shared.{arith, ◌≡◌, ℕ, List, ℤ, ◌≤◌, Bool, true, false, sym, ap, ◌∙◌, ◌==◌, ◌↔◌, Contains, IsTrue, Some, None, neg_ℤ, nat_abs}
-use Rattle.dual_diff.proofs.Shared.{if◌then◌else◌, whole_value, opposite, whole_literal, Rat, Fraction, negative, ratio_of, value_of, Tree, names, root_kind, ratio_parts, nth, children_of}
-use Rattle.dual_diff.proofs.{Shared.{IsDerivable, IsDerivableExponent, exponent_limit, occurs, eq-eqb}, Occurring.{told, names_occur}}
-use Rattle.rational128.proofs.Reciprocals.{negative_parts}
+use Rattle.dual_diff.proofs.Shared.{value_by, opposite_by, arith, ◌≡◌, ℕ, List, ℤ, ◌≤◌, Bool, true, false, sym, ap, ◌∙◌, ◌==◌, ◌↔◌, Contains, IsTrue, Some, None, neg_ℤ, nat_abs, if◌then◌else◌}
+use Rattle.dual_diff.proofs.Shared.{whole_value, opposite, whole_literal, Rat, Fraction, negative, ratio_of, value_of, Tree, names, root_kind, ratio_parts, nth, children_of, IsDerivable}
+use Rattle.dual_diff.proofs.{Shared.{IsDerivableExponent, exponent_limit, occurs, eq-eqb, negative_parts}, Occurring.{told, names_occur}}
 use Rattle.calc_terms.specs.declared.kind.Kind.TheVariants as kind
 
 -- ---- whole numbers
-
-value_by : (b : Bool) (q : Fraction) → (q.den == 1) ≡ b → whole_value q ≡ (if b then Some q.num else None)
-value_by b q e = ap (λ (k : Bool). if k then Some q.num else None) e
 
 pub whole_some : (q : Fraction) (z : ℤ) → z ≡ q.num → q.den ≡ 1 → Some z ≡ whole_value q
 whole_some q z e d = ap Some e ∙ sym (value_by true q (eq-eqb q.den 1 d))
@@ -18,9 +14,6 @@ whole_none q b h f = grind arith
 
 pub rat_whole : (r : Rat) (b : Bool) → (IsTrue b ↔ ((ratio_of r).den ≡ 1)) → (IsTrue b ↔ ((value_of r).den ≡ 1))
 rat_whole r b h = (λ t. (ratio_parts r).den ∙ h.0 t, λ d. h.1 (sym (ratio_parts r).den ∙ d))
-
-opposite_by : (b : Bool) (q : Fraction) → (if b then Some (neg_ℤ q.num) else None) ≡ opposite (if b then Some q.num else None)
-opposite_by b q = grind arith
 
 pub opposite_whole : (q : Fraction) → whole_value (negative q) ≡ opposite (whole_value q)
 opposite_whole q = grind (arith, negative_parts, opposite_by)

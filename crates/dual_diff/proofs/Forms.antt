@@ -1,8 +1,8 @@
 -- The form of a tree by the kind of its root, and its children.
-use Rattle.dual_diff.proofs.Shared.{◌≡◌, ℕ, zero, suc, ◌+◌, ◌<◌, ◌≤◌, refl, sym, ap, ◌∙◌, arith, Tree, root, div, Trees, none, more, append, count, root_kind, nodes, nodes_of, size, sizes, nth}
-use Rattle.dual_diff.proofs.Shared.{children_of, behind, first, ◌==◌, true, Kind, bare, compound, size_of_payload, takes_kind}
+use Rattle.dual_diff.proofs.Shared.{nodes_nth, ◌≡◌, ℕ, zero, suc, ◌+◌, ◌<◌, ◌≤◌, refl, sym, ap, ◌∙◌, arith, Tree, root, div, Trees, none, more, append, count, root_kind, nodes, nodes_of, size, sizes}
+use Rattle.dual_diff.proofs.Shared.{nth, children_of, behind, first, ◌==◌, true, Kind, bare, compound, size_of_payload, takes_kind, eqb-true}
+use Rattle.tree_handles.proofs.Plains.{nodes_grown as nodes_children}
 pub use Rattle.dual_diff.specs.WritingLaws.{sizes_append}
-use Rattle.std.proofs.lemmas.Bool.{eqb-true}
 use Rattle.calc_terms.specs.declared.kind.Kind.TheVariants as kind
 
 pub quotient_form : (t : Tree) → root_kind t ≡ kind.Div → t ≡ div (nth 0 (children_of t)) (nth 1 (children_of t))
@@ -27,14 +27,6 @@ pub one_argument : (t : Tree) → root_kind t ≡ kind.Root → count (children_
 one_argument t h = grind arith
 
 -- ---- children by their places
-
-pub nodes_children : (t : Tree) → nodes t ≡ suc (nodes_of (children_of t))
-nodes_children t = grind arith
-
-nodes_nth : (n : ℕ) (ts : Trees) → n < count ts → nodes (nth n ts) ≤ nodes_of ts
-nodes_nth n none h = absurd (omega arith)
-nodes_nth zero (more t ts) h = omega arith
-nodes_nth (suc n) (more t ts) h = omega (arith, nodes_nth n ts (omega arith))
 
 -- a child has fewer nodes
 pub fewer : (n : ℕ) (t : Tree) → n < count (children_of t) → nodes (nth n (children_of t)) < nodes t
@@ -85,17 +77,9 @@ nth_behind zero m ts = ap (λ (k : ℕ). nth k ts) (omega arith)
 nth_behind (suc n) m none = refl
 nth_behind (suc n) m (more t ts) = nth_behind n m ts ∙ ap (λ (k : ℕ). nth k (more t ts)) (let e : suc (n + m) ≡ suc n + m = omega arith in e)
 
-pub count_append : (ts us : Trees) → count (append ts us) ≡ count ts + count us
-count_append none us = omega arith
-count_append (more t ts) us = omega (arith, count_append ts us)
-
 pub append_one : (ts : Trees) (t : Tree) (us : Trees) → append (append ts (more t none)) us ≡ append ts (more t us)
 append_one none t us = refl
 append_one (more u ts) t us = ap (more u) (append_one ts t us)
-
-pub append_assoc : (ts us vs : Trees) → append (append ts us) vs ≡ append ts (append us vs)
-append_assoc none us vs = refl
-append_assoc (more t ts) us vs = ap (more t) (append_assoc ts us vs)
 
 -- ---- the bytes of a node over trees
 

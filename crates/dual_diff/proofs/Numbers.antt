@@ -1,9 +1,8 @@
 -- Whole numbers that are placed.
 use Rattle.dual_diff.proofs.Shared.{◌≡◌, ◌<◌, ◌≤◌, ℕ, List, ℤ, true, false, sym, ap, ◌∙◌, subst, arith, FitsSigned, Some, nat_abs, whole_literal, Rat, lowest, whole_fraction, rational}
 use Rattle.dual_diff.proofs.Shared.{size_of_payload, ratio_of, value_of, Tree, num, root_kind, size, whole_num, mult, more, two, power, told, children_of, nth, derivative, exponent_limit, lowered}
-use Rattle.dual_diff.proofs.{Shared.{power_rule, occurs, fits_signed_from_abs, w128}, Rules.power_by_rule}
-use Rattle.std.proofs.Common.{◌^◌, pos, ◌-ℤ◌, nat_eq, of_z, to_z}
-use Rattle.calc_terms.specs.{Integers.{int_is_one, int_is_zero}, Ratio.{Ratio, whole}}
+use Rattle.dual_diff.proofs.{Shared.{power_rule, occurs, fits_signed_from_abs, w128, ◌^◌, nat_eq, of_z, to_z, int_is_one, int_is_zero, Ratio, whole}, Rules.{power_by_rule}}
+use Rattle.std.proofs.Common.{pos, ◌-ℤ◌}
 use Rattle.calc_terms.specs.declared.kind.Kind.TheVariants as kind
 
 pub placed_value : (r : Rat) (z : ℤ) → nat_abs z < 2 ^ 127 → ratio_of r ≡ whole (to_z w128 (of_z w128 z)) → value_of r ≡ whole_fraction z
@@ -16,9 +15,6 @@ placed_size r z fits e = ap (λ (x : Ratio). size_of_payload (rational x)) e ∙
 
 pub told_zero : (z : ℤ) → nat_abs z < 2 ^ 127 → nat_eq (of_z w128 z) 0 ≡ int_is_zero z
 told_zero z h = grind arith
-
-pub told_one : (z : ℤ) → nat_abs z < 2 ^ 127 → nat_eq (of_z w128 z) 1 ≡ int_is_one z
-told_one z h = grind arith
 
 -- ---- the rule of powers by them
 

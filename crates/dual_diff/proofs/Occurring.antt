@@ -1,27 +1,11 @@
 -- Where a name occurs.
-use Rattle.dual_diff.proofs.Shared.{◌≡◌, ℕ, List, [], ◌∷◌, ◌++◌, Bool, true, false, subst, inl, inr, arith, ◌||◌, ◌↔◌, Contains, IsTrue, Tree, symbol}
-use Rattle.dual_diff.proofs.Shared.{add, mult, power, root, neg, sub, div, Trees, none, more, names, names_of, occurs, occurs_in}
-use Rattle.std.specs.Prelude.{◌⊎◌}
-use Rattle.std.proofs.lemmas.Bool.{or_left, or_right}
-use Rattle.std.proofs.{lemmas.List.Elements.{Contains-append_left, Contains-append_right, Contains-append_cases, Contains-push, Contains-push_cases}, lemmas.Slice.Eq.bytes_eq-Decides}
-
-pub either_left : (a b : Bool) → (a || b) ≡ false → a ≡ false
-either_left a b h = grind arith
-
-pub either_right : (a b : Bool) → (a || b) ≡ false → b ≡ false
-either_right a b h = grind arith
+use Rattle.dual_diff.proofs.Shared.{one_of, nobody, ◌≡◌, ℕ, List, [], ◌∷◌, ◌++◌, Bool, true, false, subst, inl, inr, arith, ◌||◌, ◌↔◌, Contains, IsTrue, Tree, symbol, add, mult, power, root, neg, sub}
+use Rattle.dual_diff.proofs.Shared.{div, Trees, none, more, names, names_of, occurs, occurs_in, ◌⊎◌, or_left, or_right, Contains-append_left, Contains-append_right, Contains-append_cases}
+use Rattle.dual_diff.proofs.Shared.{Contains-push, Contains-push_cases, bytes_eq-Decides}
+use Rattle.calc_terms.proofs.SmallLaws.{only_one as alone}
 
 pub neither : (a b : Bool) → a ≡ false → b ≡ false → (a || b) ≡ false
 neither a b h k = grind arith
-
-one_of : (a b : Bool) → (a || b) ≡ true → (a ≡ true) ⊎ (b ≡ true)
-one_of a b h = grind arith
-
-nobody : (y : List ℕ) → Contains [] y → ⊥
-nobody y (k, h, e) = absurd (omega arith)
-
-alone : (z y : List ℕ) → Contains (z ∷ []) y → z ≡ y
-alone z y c = elim (Contains-push_cases [] z y c) [ inl n ↦ absurd (nobody y n) | inr e ↦ e ]
 
 -- in one of two lists, as it occurs in one of two trees
 either : (a b : Bool) (xs ys : List (List ℕ)) (x : List ℕ) → (a ≡ true) ↔ Contains xs x → (b ≡ true) ↔ Contains ys x → ((a || b) ≡ true) ↔ Contains (xs ++ ys) x

@@ -1,17 +1,14 @@
 -- What is the same as a pair of a tree is one too.
-use Rattle.dual_diff.proofs.Shared.{arith, ℕ, List, inl, inr, Tree, num, symbol, undef, add, mult, power, root, neg, sub, div, Assignment, IsRoot, IsRootOf, Same, Surd, Inverts-Same}
-use Rattle.dual_diff.proofs.Shared.{Means-Same, Same-sym, Same-trans, Same-refl, Pair, SamePair, HasPair, IsPowerSlope, IsStill}
+use Rattle.dual_diff.proofs.Shared.{arith, ℕ, List, inl, inr, Tree, num, symbol, undef, add, mult, power, root, neg, sub, div, Assignment, IsRoot, IsRootOf, Same, Surd, Inverts-Same, Means-Same}
+use Rattle.dual_diff.proofs.Shared.{Same-sym, Same-trans, Same-refl, Pair, SamePair, HasPair, IsPowerSlope, IsStill, IsWholePower-Same}
+use Rattle.calc_algebra.proofs.MeaningLaws.{root_same as root_of_same}
 use Rattle.std.specs.Prelude.{ℤ}
-use Rattle.calc_algebra.proofs.PowerLaws.{IsWholePower-Same}
 
 same_pair_from : {p q r : Pair} → SamePair p q → SamePair p r → SamePair q r
 same_pair_from s e = record { values = Same-trans (Same-sym s.values) e.values; slopes = Same-trans (Same-sym s.slopes) e.slopes }
 
 power_slope : (n : ℤ) (q : Pair) (d e : Surd) → Same d e → IsPowerSlope n q d → IsPowerSlope n q e
 power_slope n q d e s h = grind (arith, Same-trans, Same-sym)
-
-root_of_same : (n : ℤ) (d : ℕ) (v u : Surd) → IsRootOf n d v → Same v u → IsRootOf n d u
-root_of_same n d v u h e = grind (arith, Same-trans, Same-sym)
 
 root_same : (x v u : Surd) → IsRoot x v → Same v u → IsRoot x u
 root_same x v u (c, i, h) e = (c, i, root_of_same c.num c.den v u h e)

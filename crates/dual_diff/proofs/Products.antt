@@ -1,7 +1,7 @@
 -- The products of a product's derivative, factor by factor.
-use Rattle.dual_diff.proofs.Shared.{◌≡◌, ℕ, suc, ◌+◌, ◌<◌, ◌≤◌, List, true, false, refl, sym, ap, ◌∙◌, subst, arith, if◌then◌else◌, Tree, root_kind, Trees, none, more, append, count}
-use Rattle.dual_diff.proofs.Shared.{size, sizes, children_of, nth, derivative, derivatives, products, sum_of_products, with_derivative, behind, add, one, first, occurs, occurs_in, append-none}
-use Rattle.dual_diff.proofs.{Forms.{append_assoc, behind_all, behind_at, count_append, count_behind, count_first, first_all, first_behind, first_next, sizes_append}, Rules.{product_held, product_sum}}
+use Rattle.dual_diff.proofs.Shared.{◌≡◌, ℕ, suc, ◌+◌, ◌<◌, ◌≤◌, List, true, false, refl, sym, ap, ◌∙◌, subst, arith, if◌then◌else◌, Tree, root_kind, Trees, none, more, append, count, size, sizes}
+use Rattle.dual_diff.proofs.Shared.{children_of, nth, derivative, derivatives, products, sum_of_products, with_derivative, behind, add, one, first, occurs, occurs_in, append-none, append_assoc}
+use Rattle.dual_diff.proofs.{Shared.{count_append}, Forms.{behind_all, behind_at, count_behind, count_first, first_all, first_behind, first_next, sizes_append}, Rules.{product_held, product_sum}}
 use Rattle.calc_terms.specs.declared.kind.Kind.TheVariants as kind
 
 -- ---- derivatives of children

@@ -1,7 +1,7 @@
 -- The slope of a tree that does not hold the name is 0.
-use Rattle.dual_diff.proofs.Shared.{arith, ◌≡◌, ℕ, List, [], Bool, false, ap, inl, inr, if◌then◌else◌, minus_one_fraction, Tree, num, symbol, undef, add, mult, power, root, neg}
-use Rattle.dual_diff.proofs.Shared.{sub, div, Trees, none, more, Assignment, Same, Surd, surd_one, surd_times, Same-Agree, Agree, Agree-trans, Agree-eq, occurs, occurs_in, Pair, HasPair}
-use Rattle.dual_diff.proofs.{Shared.{HasPairSum, HasPairProduct, bytes_eq}, Occurring.{either_left, either_right}, SlopeLaws.{zero_append, zero_scale, zero_times, times_zero}}
+use Rattle.dual_diff.proofs.Shared.{arith, ◌≡◌, ℕ, List, [], Bool, false, ap, inl, inr, if◌then◌else◌, minus_one_fraction, Tree, num, symbol, undef, add, mult, power, root, neg, sub, div, Trees, none}
+use Rattle.dual_diff.proofs.Shared.{more, Assignment, Same, Surd, surd_one, surd_times, Same-Agree, Agree, Agree-trans, Agree-eq, occurs, occurs_in, Pair, HasPair, HasPairSum, HasPairProduct}
+use Rattle.dual_diff.proofs.{Shared.{bytes_eq, either_left, either_right}, SlopeLaws.{zero_append, zero_scale, zero_times, times_zero}}
 
 symbol_still : (b : Bool) (d : Surd) → b ≡ false → Same d (if b then surd_one else []) → Agree d []
 symbol_still b d o s = grind (arith, Same-Agree)

@@ -1,9 +1,8 @@
 -- What follows of trees that are written one behind another.
 use Rattle.dual_diff.proofs.Shared.{◌≡◌, ℕ, suc, ◌+◌, ◌-◌, ◌<◌, ◌≤◌, List, refl, sym, ap, ◌∙◌, subst, arith, true, false, Kind, bare, size_of_payload, Tree, Trees, none, append, count, size, sizes}
 use Rattle.dual_diff.proofs.Shared.{State, IsExpression, takes_kind, Stands, forest, HasDerivative, derivative, occurs, nth, with_derivative, behind, first, CanCopy, CanDerive, CanGather, IsWriting}
-use Rattle.dual_diff.proofs.{Shared.{one, tree_of}, Slices.slice_first, Forms.{append_one, count_append, first_behind, first_next, sizes_append}}
+use Rattle.dual_diff.proofs.{Shared.{one, tree_of, count_append, used}, Slices.{slice_first}, Forms.{append_one, first_behind, first_next, sizes_append}}
 use Rattle.dual_diff.proofs.Products.{AreMade, made_more, made_none, made_same, with_factors}
-use Rattle.node_pool.specs.Nodes.{used}
 
 -- products of the first factors were written, and these factors have so many bytes
 pub record AreWritten {W : Type 0} (Writes : W → State → W → State → Trees → Type 0) (x : List ℕ) (at many seen : ℕ) (w : W) (s : State) (v : W) (t : State) (ts : Trees) : Type 0 where

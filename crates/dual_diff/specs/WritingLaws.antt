@@ -5,7 +5,7 @@ use Rattle.calc_terms.specs.Trees.{Tree, Trees, none, more, append, sizes}
 use Rattle.dual_diff.specs.{Placing.{Adds, AddsAll}, Writing.{Counts, IsLast, KeepsTrees, Places, one}}
 use Rattle.node_pool.specs.State.{State, free_of}
 use Rattle.tree_handles.specs.{Expressions.{AllExpressions, IsExpression, plain}, Forest.{Forest, empty, join}, Inside.{holds, tree_at}, Standing.{Stands, forest}}
-use Rattle.tree_handles.proofs.{Forests.{bytes_in-join, join_assoc, join-empty, keeps_after, keeps_none}, Given.{represents_join, represents_none}, Places.used_forest}
+use Rattle.tree_handles.proofs.{Forests.{bytes_in-join, join_assoc, join-empty, keeps_after}, Given.{represents_join, represents_none}, Places.{used_forest}, Refused.{kept_same as keeps_none}}
 use Rattle.tree_handles.proofs.{Joins.{holds-left, tree_at-join_left}, Plains.{alone, sizes-plains}}
 
 -- ---- counting

@@ -67,9 +67,6 @@ adopts {i} {n} {k} {ts} {g} {f} {h} {new} e a m w q =
     let ends : Ends i (one_tree i (bare k) a.trees) g new = record { whole = whole; alone = refl; root = refl; clear = e.clear } in
     gives ends (represents_node i (bare k) a.represents w) refl
 
-pub node_free : {i : ℕ} {k : Kind} {s t : State} → Stands s → Stands t → KeepsRefusals s t → Ends i (one_tree i (bare k) empty) (forest s) (forest t) → free_of s ≡ free_of t + size_of_payload (bare k)
-node_free {i} {k} {s} {t} h st r e = omega (arith, used_forest s h, used_forest t st, r.size, h.pool.fits, st.pool.fits, ap bytes_in e.whole, bytes_in-join (forest s) (one_tree i (bare k) empty))
-
 -- ---- a product that stands last
 
 -- a tree comes before its factors

@@ -1,8 +1,7 @@
 -- The faults of a call on numbers that ends an expansion, as faults of the expansion.
 use Rattle.expand_forms.proofs.Shared.{◌≡◌, ℕ, Result, Err, KeepsRefusals, NumberFault, OfFull, OfOverflow, State, Full, CountsRefusals, IfFull, IfInterrupted, fault_of, ReduceFault, kept_after}
-use Rattle.expand_forms.proofs.Shared.{refuses_after, Faults, LacksBytes, Overflow, Interrupted, Overflows}
+use Rattle.expand_forms.proofs.Shared.{refuses_after, Faults, LacksBytes, Overflow, Interrupted, Overflows, IsCaused}
 use Rattle.reduce_port.specs.Faults.{IfOverflow}
-use Rattle.tree_handles.specs.Causes.{IsCaused}
 use Rattle.reduce_port.specs.declared.fault.ReduceFault.TheVariants as fault
 use Rattle.tree_handles.specs.declared.fault.NumberFault.TheVariants as number
 

@@ -4,7 +4,8 @@ use Rattle.expand_forms.proofs.Shared.{negative_lowest, Fraction, inverse, is_ze
 use Rattle.expand_forms.proofs.Shared.{Tree, num, symbol, power, neg, sub, div, Trees, none, more, count, expanded, constant, raised, scaled, are_polynomials, divisor_of, exponent_of}
 use Rattle.expand_forms.proofs.Shared.{has_polynomial_root, is_divisor, is_exponent, is_polynomial, polynomial_of, product_of, sum_of, AreSame, IsExpanded, IsExpandedFrom, compound, grown, nth, takes}
 use Rattle.expand_forms.proofs.{Shared.{takes_kind, AreAnswers, EachTree}, Expansions.{constant_expanded, is_expanded, same_polynomial}, Numbers.{opposite_whole}}
-use Rattle.expansions.proofs.{SameCoefficients.{product_both, same_append, same_refl, scaled_same, raised_same}, TreeMeanings.{minus_one_times}, TreeMonomials.{tree_monomials}}
+use Rattle.expansions.proofs.{SameCoefficients.{product_both, same_append, same_refl, scaled_same, raised_same}, TreeMonomials.{tree_monomials}}
+use Rattle.calc_measures.proofs.Inverses.{times_minus_one as minus_one_times}
 use Rattle.calc_terms.specs.declared.kind.Kind.TheVariants as kind
 
 -- the polynomial of a node over such children has the coefficients of another one

@@ -55,7 +55,7 @@ answers_most ns m (more t ts) (more u us) p h l e =
 
 -- ---- what has become of them
 
-all_polynomials : (t : Tree) → is_polynomial t ≡ true → are_polynomials (children_of t) ≡ true
+pub all_polynomials : (t : Tree) → is_polynomial t ≡ true → are_polynomials (children_of t) ≡ true
 all_polynomials t h = grind arith
 
 pub root_bytes : (t : Tree) → size t ≤ 40 + sizes (children_of t)

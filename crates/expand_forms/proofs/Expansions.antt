@@ -1,9 +1,9 @@
 -- Expanded trees as answers.
-use Rattle.expand_forms.proofs.Shared.{◌≡◌, ◌≤◌, ℕ, List, [], ◌∷◌, ◌++◌, Bool, true, false, refl, sym, ap, ◌∙◌, arith, pos, append-nil, not, if◌then◌else◌, no_one, one_is, zero_is, zero_test}
-use Rattle.expand_forms.proofs.Shared.{product_tree, Rat, ratio_of, value_of, Ratio, whole, Fraction, is_one_fraction, is_zero_fraction, lowest, one_fraction, zero_fraction, Tree, num, symbol, add}
-use Rattle.expand_forms.proofs.Shared.{none, more, count, IsNormal, expanded, normal, sum_tree, term_trees, AreMonomials, IsMonomial, Polynomial, coefficient_at, constant, factor, summand, variable}
-use Rattle.expand_forms.proofs.Shared.{polynomial_of, AreSame, IsExpanded, IsSum, IsSumOf, children_of, nth, one_not_zero, AllHave, normal_all, sum_polynomial_is, expanded_polynomial}
-use Rattle.expand_forms.proofs.{Shared.{normal_coefficient, normal_is, one_normal, normal_same, same_sym, same_trans, all_monomials}, Sums.{sum_is}, TermReadings.{sum_children}}
+use Rattle.expand_forms.proofs.Shared.{one_nonzero, ◌≡◌, ◌≤◌, ℕ, List, [], ◌∷◌, ◌++◌, Bool, true, false, refl, sym, ap, ◌∙◌, arith, pos, append-nil, not, if◌then◌else◌, no_one, one_is, zero_is}
+use Rattle.expand_forms.proofs.Shared.{zero_test, product_tree, Rat, ratio_of, value_of, Ratio, whole, Fraction, is_one_fraction, is_zero_fraction, lowest, one_fraction, zero_fraction, Tree, num}
+use Rattle.expand_forms.proofs.Shared.{symbol, add, none, more, count, IsNormal, expanded, normal, sum_tree, term_trees, AreMonomials, IsMonomial, Polynomial, coefficient_at, constant, factor}
+use Rattle.expand_forms.proofs.Shared.{summand, variable, polynomial_of, AreSame, IsExpanded, IsSum, IsSumOf, children_of, nth, one_not_zero, AllHave, normal_all, sum_polynomial_is}
+use Rattle.expand_forms.proofs.{Shared.{expanded_polynomial, normal_coefficient, normal_is, one_normal, normal_same, same_sym, same_trans, all_monomials}, Sums.{sum_is}, TermReadings.{sum_children}}
 
 pub expanded_same : {v w : Polynomial} → AreSame v w → expanded v ≡ expanded w
 expanded_same h = ap (λ (u : Polynomial). sum_tree (term_trees u)) (normal_same h)
@@ -52,19 +52,12 @@ sum_same h = ap expanded (sum_polynomial_is h.sum) ∙ expanded_same h.same
 
 -- ---- powers
 
-pub zero_value : (r : Rat) → ratio_of r ≡ whole (pos 0) → value_of r ≡ zero_fraction
-unfolding zero_fraction
-zero_value r e = ap (λ (x : Ratio). lowest x.num x.den) e
-
 -- a new sum has no term
 pub empty_sum : {t : Tree} → t ≡ add none → IsSum t
 empty_sum e = record { summands = []; normal = tt; monomials = tt; tree = e }
 
 pub nothing_added : (v : Polynomial) {t : Tree} → t ≡ add none → v ++ polynomial_of t ≡ v
 nothing_added v e = ap (λ (u : Tree). v ++ polynomial_of u) e ∙ append-nil v
-
-pub one_nonzero : is_zero_fraction one_fraction ≡ false
-one_nonzero = zero_test one_fraction (λ e. one_not_zero e)
 
 pub name_expanded : (x : List ℕ) → expanded (variable x) ≡ symbol x
 name_expanded x =

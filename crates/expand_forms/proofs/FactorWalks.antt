@@ -1,9 +1,12 @@
 -- Walks over the nodes of a monomial's factors.
-use Rattle.expand_forms.proofs.Shared.{◌≡◌, ◌≤◌, ◌<◌, ℕ, pos, List, length, [], ◌∷◌, ◌++◌, map, drop, Some, true, refl, sym, ap, ◌∙◌, subst, arith, kind_of_payload, AreAhead, BeginsWith, value_of}
-use Rattle.expand_forms.proofs.Shared.{lowest, one_fraction, alone, Payload, State, Stands, IsExpression, children_of, first_place, forest, kids_of, rest_trees, root_kind, Fraction, Tree, is_mult}
-use Rattle.expand_forms.proofs.Shared.{num, symbol, power, Trees, none, more, whole_num, factor_tree, factor_trees, Factor, IsMonomial, Monomial, HasMonomial, factors_in, grown, nth, plain, takes}
-use Rattle.expand_forms.proofs.Shared.{arity, empty, tree, join, Forest, holds, tree_at, AllExpressions, name_of, all-rest_trees, one_at, children_of-plain, whole_kids, found, found-kids}
-use Rattle.expand_forms.proofs.Shared.{found-rest_trees, visit_here, visits_left, IsWhole, plains, flatten, node_of, visit_of, visits_of, AreFound, Visit, symbol_is, behind-plains, trees_behind}
+use Rattle.expand_forms.proofs.Shared.{first_is, others_are, ◌≡◌, ◌≤◌, ◌<◌, ℕ, pos, List, length, [], ◌∷◌, ◌++◌, map, drop, Some, true, refl, sym, ap, ◌∙◌, subst, arith, kind_of_payload, AreAhead}
+use Rattle.expand_forms.proofs.Shared.{BeginsWith, value_of, lowest, one_fraction, alone, Payload, State, Stands, IsExpression, children_of, first_place, forest, kids_of, rest_trees, root_kind}
+use Rattle.expand_forms.proofs.Shared.{Fraction, Tree, is_mult, num, symbol, power, Trees, none, more, whole_num, factor_tree, factor_trees, Factor, IsMonomial, Monomial, HasMonomial, factors_in}
+use Rattle.expand_forms.proofs.Shared.{grown, nth, plain, takes, arity, empty, tree, join, Forest, holds, tree_at, AllExpressions, name_of, all-rest_trees, one_at, children_of-plain, whole_kids}
+use Rattle.expand_forms.proofs.Shared.{found, found-kids, found-rest_trees, visit_here, visits_left, IsWhole, plains, flatten, node_of, visit_of, visits_of, AreFound, Visit, symbol_is, behind-plains}
+use Rattle.expand_forms.proofs.Shared.{trees_behind}
+use Rattle.tree_handles.proofs.ForestLists.{no_trees as none_left}
+use Rattle.number_forms.proofs.RationalCalls.{num_same as number_is}
 use Rattle.expand_forms.specs.declared.factors.Factor.{Factor as Read}
 use Rattle.calc_terms.specs.declared.kind.Kind.TheVariants as kind
 
@@ -35,16 +38,6 @@ symbol_alone x ts n y e w = grind arith
 
 number_alone : (x : Payload) (ts : Trees) (n : ℕ) (q : Fraction) → grown x ts ≡ num q → takes x n ≡ true → n ≡ 0
 number_alone x ts n q e w = grind arith
-
-none_left : (k : Forest) → arity k ≡ 0 → k ≡ empty
-none_left empty e = refl
-none_left (tree l k r) e = absurd (omega arith)
-
-first_is : (t u : Tree) (ts us : Trees) → more t ts ≡ more u us → t ≡ u
-first_is t u ts us e = cc
-
-others_are : (t u : Tree) (ts us : Trees) → more t ts ≡ more u us → ts ≡ us
-others_are t u ts us e = cc
 
 -- ---- where a walk ends
 
@@ -228,9 +221,6 @@ ended {left = left} {base = base} a e q =
     subst (λ (n : Monomial). AreAhead (drop 1 n) left base) (sym (none_ahead a e)) (record { trees = empty; monomial = tt; factors = refl; nodes-are = q; found = tt; whole = tt })
 
 -- ---- the factor that is read
-
-number_is : {p q : Fraction} → num p ≡ num q → p ≡ q
-number_is e = cc
 
 one_lowest : one_fraction ≡ lowest (pos 1) 1
 unfolding one_fraction

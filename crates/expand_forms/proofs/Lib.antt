@@ -19,7 +19,6 @@ pub mod NodeChildren
 pub mod NodeAnswers
 pub mod NodeKinds
 pub mod ChildRooms
-pub mod Lacks
 pub mod JoinRooms
 pub mod NodeRooms
 pub mod NodeParts

@@ -1,4 +1,5 @@
 -- The names of a tree, node by node.
+use Rattle.expansions.proofs.FactorOrders.{symbol_is as name_is}
 use Rattle.expand_forms.proofs.Shared.{◌≡◌, ◌⊎◌, ℕ, List, [], ◌∷◌, ◌++◌, inl, inr, true, refl, sym, ap, ◌∙◌, subst, arith, append-nil, append_assoc, ◌==◌, Payload, kind_of_payload, rational, named}
 use Rattle.expand_forms.proofs.Shared.{bare, Kind, names, names_of, Trees, more, none, count, symbol, is_symbol, nth, grown, compound, plain, takes, takes_kind, IsExpression, AllExpressions, alone}
 use Rattle.expand_forms.proofs.Shared.{Forest, empty, tree, join, holds, tree_at, arity, HasName, one_at, count-plains, found-join, no_visit, visit_here, visits_left, plains, visits_of, AreFound}
@@ -78,9 +79,6 @@ pub record IsNextNode (ns : List (List ℕ)) (v : Visit) (left : List Visit) (to
   pub with_name : v.kind ≡ kind.Sym → (x : List ℕ) (ms : List (List ℕ)) → plain (tree_at v.id base) ≡ symbol x → HasName x ms
       → ((y : List ℕ) → HasName y ns → HasName y ms) → AreCollected ms left total base
   pub without : (v.kind ≡ kind.Sym → ⊥) → AreCollected ns left total base
-
-name_is : {x y : List ℕ} → symbol x ≡ symbol y → x ≡ y
-name_is e = cc
 
 pub next_node : {ns total : List (List ℕ)} {v : Visit} {xs left : List Visit} {base : Forest} → AreCollected ns xs total base → xs ≡ v ∷ left → IsNextNode ns v left total base
 next_node {ns} {total} {v} {xs} {left} {base} w e = by w.trees (sym w.left-are ∙ e) w.found w.whole w.all

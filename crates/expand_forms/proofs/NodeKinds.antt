@@ -1,5 +1,5 @@
 -- What the kind of a node over expanded children tells of it.
-use Rattle.expand_forms.proofs.Shared.{◌≡◌, ◌≢◌, ◌≤◌, ℕ, ℤ, suc, pos, Bool, true, false, of_z, to_z, ap, ◌∙◌, arith, FitsSigned, Some, None, if◌then◌else◌, w128, to_z-of_z, Rat, Fraction, ratio_of}
+use Rattle.expand_forms.proofs.Shared.{◌≡◌, ◌≢◌, ◌≤◌, ℕ, ℤ, pos, Bool, true, false, of_z, to_z, ap, ◌∙◌, arith, FitsSigned, Some, None, if◌then◌else◌, w128, to_z-of_z, Rat, Fraction, ratio_of}
 use Rattle.expand_forms.proofs.Shared.{value_of, Tree, num, power, div, count, is_num, root_kind, expanded, exponent_of, has_polynomial_root, is_divisor, is_exponent, is_small, natural_of}
 use Rattle.expand_forms.proofs.{Shared.{polynomial_of, AreExpanded, IsExpanded, ratio_parts, children_of, nth, has_factors, has_parts}, Expansions.{constant_expanded, name_expanded}}
 use Rattle.expand_forms.proofs.NodeChildren.{expanded_nth}
@@ -40,9 +40,6 @@ quotient_node t k = grind arith
 
 pub many_children : {t u : Tree} {n : ℕ} → t ≡ u → count (children_of u) ≡ n → count (children_of t) ≡ n
 many_children e h = ap (λ (x : Tree). count (children_of x)) e ∙ h
-
-pub first_expanded : (t : Tree) {n : ℕ} → AreExpanded (children_of t) → count (children_of t) ≡ suc n → IsExpanded (nth 0 (children_of t))
-first_expanded t h e = expanded_nth 0 (children_of t) h (omega (arith, e))
 
 pub second_expanded : (t : Tree) → AreExpanded (children_of t) → count (children_of t) ≡ 2 → IsExpanded (nth 1 (children_of t))
 second_expanded t h e = expanded_nth 1 (children_of t) h (omega (arith, e))

@@ -7,7 +7,8 @@ use Rattle.expand_forms.proofs.Shared.{power, product, product_of, raised, root_
 use Rattle.expand_forms.proofs.Shared.{within_trans, zero_fraction, zero_times, one_not_zero, int_is_zero, normal, Part, each_once, has_factors, has_parts, multiplied, part, part_factor, parts_of}
 use Rattle.expand_forms.proofs.Shared.{repeated, total, constant, summand, row, few_names, IsGathered, gathered_is, gathered_products, gathered_trans, are_named, product_named, constant_product}
 use Rattle.expand_forms.proofs.{Shared.{scaled_one}, Expansions.{constant_is_expanded}, NodeBits.{difference_over, few_bits, opposite_over, power_over, product_over, quotient_over, sum_over}}
-use Rattle.expand_forms.proofs.{NodeRooms.{names_from, nth_names}, Nodes.{from}, Rows.{is_nonzero}}
+use Rattle.expand_forms.proofs.{NodeRooms.{names_from, nth_names}, Nodes.{from}}
+use Rattle.calc_terms.proofs.FractionFacts.{zero_test as is_nonzero}
 use Rattle.calc_terms.specs.declared.kind.Kind.TheVariants as kind
 
 -- ---- how many parts there are

@@ -1,6 +1,7 @@
 -- A node is a polynomial by its root and its children.
 use Rattle.expand_forms.proofs.Shared.{◌≡◌, ◌<◌, ◌≤◌, ℕ, zero, suc, true, false, refl, ap, arith, ◌&&◌, Tree, Trees, none, more, count, nodes, nodes_of, are_polynomials, has_polynomial_root}
 use Rattle.expand_forms.proofs.Shared.{is_polynomial, nth, children_of}
+use Rattle.tree_handles.proofs.{SmallLaws.{nodes_nth as at_most_all}, Plains.{nodes_grown as below}}
 
 -- the trees from a place on, counted from 0
 abbrev pub from : ℕ → Trees → Trees
@@ -35,14 +36,6 @@ none_left zero (more t ts) l = absurd (omega arith)
 none_left (suc n) (more t ts) l = none_left n ts (omega arith)
 
 -- ---- a child has fewer nodes
-
-below : (t : Tree) → nodes t ≡ suc (nodes_of (children_of t))
-below t = grind arith
-
-at_most_all : (n : ℕ) (ts : Trees) → n < count ts → nodes (nth n ts) ≤ nodes_of ts
-at_most_all n none l = absurd (omega arith)
-at_most_all zero (more t ts) l = omega arith
-at_most_all (suc n) (more t ts) l = omega (arith, at_most_all n ts (omega arith))
 
 pub fewer_nodes : (n : ℕ) (t : Tree) → n < count (children_of t) → nodes (nth n (children_of t)) < nodes t
 fewer_nodes n t l = omega (arith, below t, at_most_all n (children_of t) l)

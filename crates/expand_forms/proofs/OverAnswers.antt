@@ -1,13 +1,11 @@
 -- A node over the expanded trees of its children, from the tree as it was.
+pub use Rattle.expand_forms.proofs.ChildRooms.{all_polynomials}
 use Rattle.expand_forms.proofs.Shared.{◌≡◌, ℕ, ◌≤◌, ◌<◌, length, true, Result, sym, ap, ◌∙◌, subst, arith, IfErr, and_parts, AreSame, HasNoNewName, IsExpanded, Tree, Trees, none, more, names}
 use Rattle.expand_forms.proofs.Shared.{expanded, most_terms, node_bytes, are_polynomials, has_polynomial_root, is_polynomial, polynomial_of, AreExpanded, IsExpandedFrom, IsOver, IsPolynomial, OfFull}
 use Rattle.expand_forms.proofs.{Shared.{children_of, grown, NumberFault, EachTree, same_is, same_trans, most_of_all, is_leaf}, ChildExpansions.{IsOver as IsOverSame, child_expanded, child_same}}
 use Rattle.expand_forms.proofs.{ChildExpansions.{divisor_same, exponent_same, over_payload}, Expansions.{constant_expanded, expanded_same, name_expanded}, NodeTerms.{over_names, over_terms}}
 
 -- ---- children
-
-pub all_polynomials : (t : Tree) → is_polynomial t ≡ true → are_polynomials (children_of t) ≡ true
-all_polynomials t h = grind arith
 
 pub each_polynomial : (ts : Trees) → are_polynomials ts ≡ true → EachTree IsPolynomial ts
 each_polynomial none h = tt

@@ -1,9 +1,9 @@
 -- Exponents taken from a term's factors, name by name, and packed.
-use Rattle.expand_forms.proofs.Shared.{◌≡◌, ◌≤◌, ◌<◌, ℕ, zero, suc, ◌+◌, ◌-◌, ◌*◌, ◌/◌, ◌%◌, ◌^◌, List, [], ◌∷◌, ◌++◌, length, get_or, drop, replicate, Option, Some, inl, inr, refl, sym, ap, ◌∙◌}
-use Rattle.expand_forms.proofs.Shared.{subst, arith, append-nil, append_assoc, reverse, mul_assoc, mul_comm, length-reverse, reverse-append, name_of, Name, Less, nat_cmp, slice_cmp, AreAhead}
-use Rattle.expand_forms.proofs.Shared.{BeginsWith, Factor, IsMonomial, IsNamed, IsRead, Monomial, factor, Forest, AreNames, AreOf, AreZero, IsBelowNames, IsOfNames, factors_of, led, AreComing}
-use Rattle.expand_forms.proofs.Shared.{BeginsOtherwise, IsTaken, monomial_of, unpacked, Visit}
-use Rattle.expansions.proofs.{NamedMonomials.{packed_length}, NameLists.{AllHaveNames, all_have, below_has, dropped, dropped_all, later_names}, TreeMonomials.{below_more}}
+use Rattle.expand_forms.proofs.Shared.{unpacked_length, ◌≡◌, ◌≤◌, ◌<◌, ℕ, zero, suc, ◌+◌, ◌-◌, ◌*◌, ◌/◌, ◌%◌, ◌^◌, List, [], ◌∷◌, ◌++◌, length, get_or, drop, replicate, Option, Some, inl, inr, refl}
+use Rattle.expand_forms.proofs.Shared.{sym, ap, ◌∙◌, subst, arith, append-nil, append_assoc, reverse, mul_assoc, mul_comm, length-reverse, reverse-append, name_of, Name, Less, nat_cmp, slice_cmp}
+use Rattle.expand_forms.proofs.Shared.{AreAhead, BeginsWith, Factor, IsMonomial, IsNamed, IsRead, Monomial, factor, Forest, AreNames, AreOf, AreZero, IsBelowNames, IsOfNames, factors_of, led}
+use Rattle.expand_forms.proofs.Shared.{AreComing, BeginsOtherwise, IsTaken, monomial_of, unpacked, Visit, AllHaveNames, all_have, below_has, dropped, dropped_all, later_names}
+use Rattle.expansions.proofs.{NamedMonomials.{packed_length}, TreeMonomials.{below_more}}
 use Rattle.expansions.specs.Named.{named, names_of}
 use Rattle.expand_forms.specs.declared.factors.Factor.{Factor as Read}
 use Rattle.polynomials.specs.Polynomials.{Monomial as Packed}
@@ -80,10 +80,6 @@ unpacked_more i k e l =
 
 turned_more : (i k e : ℕ) → e < 256 → reverse (unpacked (suc i) (k * 256 + e)) ≡ reverse (unpacked i k) ++ e ∷ []
 turned_more i k e l = ap reverse (unpacked_more i k e l) ∙ reverse-append (e ∷ []) (unpacked i k)
-
-unpacked_length : (i k : ℕ) → length (unpacked i k) ≡ i
-unpacked_length zero k = refl
-unpacked_length (suc i) k = let go : length (unpacked i (k / 256)) ≡ i = unpacked_length i (k / 256) in omega arith
 
 -- what comes behind a name's factor is above it
 above : (x : List ℕ) (ns : List (List ℕ)) (e : ℕ) (m : Monomial) → IsBelowNames x ns → IsMonomial (led x e m) → AllHaveNames (x ∷ ns) (led x e m) → (e ≡ 0 → BeginsOtherwise x m) → AllHaveNames ns m

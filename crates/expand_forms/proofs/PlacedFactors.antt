@@ -1,7 +1,7 @@
 -- Listed factors, placed one by one.
-use Rattle.expand_forms.proofs.Shared.{◌≡◌, ℕ, zero, suc, ◌+◌, ◌<◌, ◌≤◌, List, [], ◌∷◌, ◌++◌, length, get_or, take, refl, sym, ap, ◌∙◌, subst, arith, Bool, true, false, if◌then◌else◌, num_most}
-use Rattle.expand_forms.proofs.Shared.{Fraction, is_one_fraction, Tree, Trees, num, none, more, append, count, sizes, State, factor_tree, factor_trees, term_tree, AddsTrees, Factor, Monomial, summand}
-use Rattle.expand_forms.proofs.Shared.{IsRead, led_by, Forest, join, Gives, KeepsFront, KeepsRefusals, Stands, forest, join_assoc, front_same, kept_same, represents_join, AreRead}
+use Rattle.expand_forms.proofs.Shared.{count_append, ◌≡◌, ℕ, zero, suc, ◌+◌, ◌<◌, ◌≤◌, List, [], ◌∷◌, ◌++◌, length, get_or, take, refl, sym, ap, ◌∙◌, subst, arith, Bool, true, false, if◌then◌else◌}
+use Rattle.expand_forms.proofs.Shared.{num_most, Fraction, is_one_fraction, Tree, Trees, num, none, more, append, count, sizes, State, factor_tree, factor_trees, term_tree, AddsTrees, Factor}
+use Rattle.expand_forms.proofs.Shared.{Monomial, summand, IsRead, led_by, Forest, join, Gives, KeepsFront, KeepsRefusals, Stands, forest, join_assoc, front_same, kept_same, represents_join, AreRead}
 use Rattle.expand_forms.proofs.{AddedTrees.{adds_more, adds_none}, FactorLists.{read_length}, TermReadings.{count_factors, factors_append, led_term}}
 use Rattle.expand_forms.specs.declared.factors.Factor.{Factor as Read}
 
@@ -29,10 +29,6 @@ pub placed_more : {n p : ℕ} {x : Read} {m : Monomial} {f g h : Forest} (r : Is
 placed_more {n} {m = m} {f} {h = h} r a p = subst (λ (ts : Trees). AddsTrees ts f h) (factors_append (take n m) (r.factor ∷ []) ∙ ap factor_trees (sym r.next)) (adds_more a p)
 
 -- ---- behind a coefficient
-
-count_append : (ts us : Trees) → count (append ts us) ≡ count ts + count us
-count_append none us = omega arith
-count_append (more t ts) us = omega (arith, count_append ts us)
 
 adds_both : {ts us : Trees} {f g h : Forest} → AddsTrees ts f g → AddsTrees us g h → AddsTrees (append ts us) f h
 adds_both {f = f} a b = record { trees = join a.trees b.trees; whole = b.whole ∙ ap (λ (x : Forest). join x b.trees) a.whole ∙ join_assoc f a.trees b.trees; represents = represents_join a.represents b.represents }

@@ -8,16 +8,12 @@ use Rattle.expand_forms.proofs.Shared.{root_size, size, sizes, sum_tree, symbol,
 use Rattle.expand_forms.proofs.{Shared.{has_power_of_sum, is_power_of_sum, answers_count, set_child, set_tree, same_is, same_trans, tree_monomials, root_over}, ChildExpansions.{IsOver as IsOverSame}}
 use Rattle.expand_forms.proofs.{ChildExpansions.{divisor_same, exponent_same, over_payload}, ChildRooms.{narrower, room_above, room_at_node, root_bytes}}
 use Rattle.expand_forms.proofs.{Expansions.{expanded_same, is_expanded, same_polynomial}, NodeBits.{over_kind}, Nodes.{from}}
+use Rattle.calc_terms.proofs.SmallLaws.{either_left as or_first, either_right as or_second}
+use Rattle.tree_handles.proofs.SmallLaws.{replaced_count as count_set}
 use Rattle.reduce_walk.specs.Answers.{IsNext}
 use Rattle.expand_forms.proofs.OverAnswers as over
 use Rattle.tree_handles.specs.declared.fault.NumberFault.TheVariants as number
 use Rattle.calc_terms.specs.declared.kind.Kind.TheVariants as kind
-
-or_first : (a b : Bool) → (a || b) ≡ false → a ≡ false
-or_first a b h = grind arith
-
-or_second : (a b : Bool) → (a || b) ≡ false → b ≡ false
-or_second a b h = grind arith
 
 -- ---- expanded trees are none
 
@@ -249,11 +245,6 @@ power_lacks t x (Err (number.Full full)) free l = omega (arith, l, narrower t x.
 power_lacks t x (Err (number.Overflow o)) free l = tt
 
 -- ---- it is raised
-
-pub count_set : (n : ℕ) (u : Tree) (ts : Trees) → count (set_tree n u ts) ≡ count ts
-count_set n u none = refl
-count_set zero u (more t ts) = refl
-count_set (suc n) u (more t ts) = ap suc (count_set n u ts)
 
 set_from : (n : ℕ) (ts us : Trees) → AreReadyFrom ts us → is_power_of_sum (nth n us) ≡ true → AreReadyFrom ts (set_tree n (expanded (polynomial_of (nth n us))) us)
 set_from n none none e h = tt

@@ -1,9 +1,9 @@
 -- Terms of an expanded tree that are listed one after another.
-use Rattle.expand_forms.proofs.Shared.{◌≡◌, ◌≤◌, ◌<◌, ℕ, zero, suc, List, [], ◌∷◌, ◌++◌, length, take, refl, sym, ap, ◌∙◌, subst, arith, HasMonomial, IsNamed, AreMonomials, IsExpanded, list_as}
-use Rattle.expand_forms.proofs.Shared.{Name, names_length, Polynomial, Summand, Tree, Trees, count, coefficient_in, factors_in, root_kind, more, names, none, normal, nth, polynomial_of, summand}
-use Rattle.expand_forms.proofs.Shared.{term_trees, terms_in, value_of, AreNames, IsListOf, IsOfNames, named_polynomial, AreAmong, IsSummandTree, monomial_of, AreTermsOf, summand_of, Term}
-use Rattle.expansions.proofs.{AllMonomials.{AllHave, normal_all}, Names.{tree_named}, NamedPolynomials.{named_same}, SameCoefficients.{same_cons, same_is, same_normal, same_trans, same_turned}}
-use Rattle.expansions.proofs.{NameLists.{taken_all}, TermPolynomials.{expanded_terms, term_coefficient, term_factors, tree_normal}, ListLaws.{list_none}}
+use Rattle.expand_forms.proofs.Shared.{◌≡◌, ◌≤◌, ◌<◌, ℕ, zero, suc, List, [], ◌∷◌, ◌++◌, length, take, refl, sym, ap, ◌∙◌, subst, arith, HasMonomial, IsNamed, AreMonomials, IsExpanded, list_as, Name}
+use Rattle.expand_forms.proofs.Shared.{names_length, Polynomial, Summand, Tree, Trees, count, coefficient_in, factors_in, root_kind, more, names, none, normal, nth, polynomial_of, summand, term_trees}
+use Rattle.expand_forms.proofs.Shared.{terms_in, value_of, AreNames, IsListOf, IsOfNames, named_polynomial, AreAmong, IsSummandTree, monomial_of, AreTermsOf, summand_of, Term, AllHave, normal_all}
+use Rattle.expand_forms.proofs.Shared.{tree_named, named_same, same_cons, same_is, same_normal, same_trans, same_turned, taken_all, expanded_terms, term_coefficient, term_factors, tree_normal}
+use Rattle.expand_forms.proofs.{Shared.{list_none}, PlacedTerms.{count_terms}}
 use Rattle.expansions.specs.Named.{named, names_of}
 use Rattle.polynomials.proofs.Worth.{same_cons as values_cons, same_trans as values_trans}
 use Rattle.polynomials.specs.Terms.{polynomial_of as terms_of}
@@ -40,10 +40,6 @@ next_summand ns (s ∷ v) zero t m n l e = record { summand-is = s; more = refl;
 next_summand ns (s ∷ v) (suc i) t m n l e =
     let go = next_summand ns v i t m.1 n.1 (omega arith) e in
     record { summand-is = go.summand-is; more = ap (λ (x : Polynomial). s ∷ x) go.more; is = go.is }
-
-count_terms : (v : Polynomial) → count (term_trees v) ≡ length v
-count_terms [] = refl
-count_terms (s ∷ v) = ap suc (count_terms v)
 
 -- an expanded tree with these names
 module _ (ns : List (List ℕ)) (t : Tree) (e : IsExpanded t) (n : AreAmong ns (names t)) where

@@ -1,4 +1,5 @@
 -- Rows of products, one after another.
+use Rattle.calc_terms.proofs.FractionFacts.{zero_test as is_nonzero}
 use Rattle.expand_forms.proofs.Shared.{arith, ◌≡◌, ◌≢◌, ◌≤◌, ℕ, ◌+◌, [], ◌∷◌, ◌++◌, drop, map, false, sym, ap, ◌∙◌, append-nil, product_not_zero, zero_is, Fraction, is_zero_fraction, times}
 use Rattle.expand_forms.proofs.Shared.{zero_fraction, Tree, count, normal, term_trees, Polynomial, Summand, monomial_times, product, summand, summand_times, polynomial_of, row, with_coefficient}
 use Rattle.expand_forms.proofs.{Shared.{IsTerm, coefficient_in, plain, Forest, tree_at}, JoinLoops.{IsNextPart, IsNextTerm, next_part}, Joins.{IsNextSummand, no_summands}}
@@ -8,9 +9,6 @@ use Rattle.expansions.proofs.{TermPolynomials.{term_polynomial_is, term_coeffici
 
 pub next_coefficient : {n j : ℕ} {t : Tree} {others f : Forest} (x : IsNextTerm n j t others f) {c : Fraction} → c ≡ coefficient_in (plain (tree_at j f)) → c ≡ x.term.summand.coefficient
 next_coefficient x e = e ∙ ap coefficient_in (x.same ∙ x.term.tree) ∙ term_coefficient x.term.summand
-
-pub is_nonzero : (q : Fraction) → q ≢ zero_fraction → is_zero_fraction q ≡ false
-is_nonzero q h = grind (arith, zero_is)
 
 pub product_nonzero : {a b c q : Fraction} → q ≡ times a b → a ≢ zero_fraction → b ≡ c → c ≢ zero_fraction → is_zero_fraction q ≡ false
 product_nonzero {a} {b} {c} {q} e h k l = is_nonzero q (λ z. product_not_zero a c h l (sym (e ∙ ap (times a) k) ∙ z))

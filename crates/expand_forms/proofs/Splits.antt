@@ -45,6 +45,3 @@ exponents_fit f g l =
     let b = den_divides (pos g) 1 (omega arith) in
     sum_fits_over (lowest (pos f) 1) (lowest (pos g) 1) 1 (omega arith) a b (omega arith)
     (omega (arith, magnitude_lowest 1 (pos f) 1 f (omega arith) a refl, magnitude_lowest 1 (pos g) 1 g (omega arith) b refl, l))
-
-pub contradiction : {A : Type 0} {b : Bool} → b ≡ true → b ≡ false → A
-contradiction p q = absurd cc

@@ -105,9 +105,6 @@ sum_term s n u l e =
 
 -- ---- the next factor of a product
 
-pub if_ok_map : {A E : Type 0} {P Q : A → Type 0} (r : Result A E) → IfOk r P → ((x : A) → P x → Q x) → IfOk r Q
-if_ok_map r p f = grind arith
-
 pub next_left : (f : Factor) (m n r : Monomial) (x : Next) → IsMonomial m → n ≡ [] → m ≡ f ∷ r → IsRead x.factor f → x.left ≡ 1 → x.right ≡ 0 → IsNext m n x
 next_left f m n r x h e q k l p = grind (arith, put_first, below_times)
 
@@ -126,9 +123,6 @@ pub exponent_one : (n : ℕ) → is_one_fraction (lowest (pos n) 1) ≡ (n == 1)
 exponent_one n = grind (arith, whole_numerator, whole_denominator, one_number)
 
 -- ---- lists of factors
-
-pub mult_is : (t : Tree) → is_mult t ≡ true → t ≡ mult (children_of t)
-mult_is t h = grind arith
 
 pub led_some : (q : Fraction) (ts : Trees) → 1 ≤ count (led_by q ts)
 led_some q ts = grind arith

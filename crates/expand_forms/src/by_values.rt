@@ -207,7 +207,7 @@ fn list_raised(pool: &Pool, child: Id, lists: &mut TermLists) -> bool
 }
 
 /// The product of two lists, of which rows run over the one with fewer terms.
-#[tactic(auto, using(crate::proofs::TermReadings::if_ok_map, expansions::proofs::ListLaws::list_product))]
+#[tactic(auto, using(calc_terms::proofs::SmallLaws::if_ok_map, expansions::proofs::ListLaws::list_product))]
 fn multiply(
     a: &[Term],
     b: &[Term],

@@ -1,7 +1,7 @@
 -- The exponents of each term of a list are those of its names.
 use Rattle.expansions.proofs.Shared.{◌≡◌, ℕ, zero, suc, ◌<◌, ◌^◌, List, [], ◌∷◌, length, get_or, Bool, true, false, refl, sym, ap, ◌∙◌, subst, arith, ◌==◌, if◌then◌else◌, and_from, and_parts, inl}
 use Rattle.expansions.proofs.Shared.{inr, eq-eqb, eqb-true, false_from_ne_true, no_zero, not_from_false, plus, value_of, zero_fraction, HaveNames, IsListOf, IsOfNames, one_unpacked, same_coefficient}
-use Rattle.expansions.proofs.{Shared.{monomial_of, Term, cases_Bool}, Arithmetic.{plus_zero}}
+use Rattle.expansions.proofs.Shared.{monomial_of, Term, cases_Bool, plus_zero}
 use Rattle.expansions.specs.Polynomials.{Polynomial as Named}
 use Rattle.polynomials.specs.{Polynomials.{Monomial, Polynomial, coefficient_at, is_same_monomial}, Terms.{IsBelowAll, IsNormal, polynomial_of}}
 

@@ -2,12 +2,12 @@
 use Rattle.expansions.proofs.Shared.{◌≡◌, ◌≤◌, ℕ, zero, suc, ◌+◌, pos, [], ◌∷◌, Bool, true, false, refl, sym, ap, ◌∙◌, subst, arith, ◌==◌, if◌then◌else◌, eqb-true, Ordering, Less, Equal, Greater}
 use Rattle.expansions.proofs.Shared.{nat_cmp, slice_cmp, Assignment, IsAssignment, IsWholePower, Means, MeansProduct, MeansSum, product_tree, Surd, surd_of, surd_one, Means-Same, Same-sym}
 use Rattle.expansions.proofs.Shared.{rational_power, power_whole, Same-trans, Same-eq, Same-refl, joined_radicand, surd_times-terms, zero_term, one_is, zero_is, fraction_power, one_times, zero_plus}
-use Rattle.expansions.proofs.Shared.{zero_times, Fraction, is_one_fraction, minus_one_fraction, plus, plus_assoc, times, zero_fraction, inverse, Tree, num, symbol, undef, add, mult}
-use Rattle.expansions.proofs.Shared.{power, root, neg, sub, div, Trees, none, more, whole_num, Factor, Monomial, Polynomial, Summand, factor, monomial_times, scaled, summand, with_factor, divisor_of}
-use Rattle.expansions.proofs.Shared.{exponent_of, is_polynomial, polynomial_of, product_of, sum_of, expanded, factor_tree, factor_trees, joined, monomial_cmp, monomial_tree, normal, sum_tree}
-use Rattle.expansions.proofs.Shared.{term_tree, term_trees, with_summand, without_zeros, factor_value, given, monomial_value, polynomial_value, summand_value, Gives, none_product, none_sum}
-use Rattle.expansions.proofs.{Shared.{one_product, one_sum, product_more, product_none, sum_more, sum_none}, AllMonomials.{AllHave, IsClosed, append_all, normal_all, product_all, raised_all}}
-use Rattle.expansions.proofs.{AllMonomials.{scaled_all}, Arithmetic.{plus_left_comm, plus_times, times_one}, MonomialTrees.{equal_is}, TreeMeanings.{tree_worth}, ValueLaws.{given_is}}
+use Rattle.expansions.proofs.Shared.{zero_times, Fraction, is_one_fraction, minus_one_fraction, plus, plus_assoc, times, zero_fraction, inverse, Tree, num, symbol, undef, add, mult, power, root, neg}
+use Rattle.expansions.proofs.Shared.{sub, div, Trees, none, more, whole_num, Factor, Monomial, Polynomial, Summand, factor, monomial_times, scaled, summand, with_factor, divisor_of, exponent_of}
+use Rattle.expansions.proofs.Shared.{is_polynomial, polynomial_of, product_of, sum_of, expanded, factor_tree, factor_trees, joined, monomial_cmp, monomial_tree, normal, sum_tree, term_tree}
+use Rattle.expansions.proofs.Shared.{term_trees, with_summand, without_zeros, factor_value, given, monomial_value, polynomial_value, summand_value, Gives, none_product, none_sum, one_product, one_sum}
+use Rattle.expansions.proofs.{Shared.{product_more, product_none, sum_more, sum_none, times_one, plus_left_comm, plus_times}, AllMonomials.{AllHave, IsClosed, append_all, normal_all, product_all}}
+use Rattle.expansions.proofs.{AllMonomials.{raised_all, scaled_all}, MonomialTrees.{equal_is}, TreeMeanings.{tree_worth}, ValueLaws.{given_is}}
 
 -- ---- the value of the normal polynomial
 

@@ -1,13 +1,11 @@
 -- The order of factors and of monomials, by the kinds of their trees first.
-use Rattle.expansions.proofs.Shared.{◌≡◌, ℕ, ℤ, pos, ◌*ℤ◌, List, [], ◌∷◌, Bool, true, false, refl, sym, ap, ◌∙◌, arith, not, int_cmp, fraction_cmp, name_of, before_zero, padded, Ordering, Name}
-use Rattle.expansions.proofs.Shared.{trees_cmp, root_code, ordering_then, ints, bytes_eq, bytes_eq-Decides, tree_cmp_same, Less, Equal, Greater, nat_cmp, slice_cmp, tree_cmp, tree_cmp_refl}
+use Rattle.expansions.proofs.Shared.{then-equal, ◌≡◌, ℕ, ℤ, pos, ◌*ℤ◌, List, [], ◌∷◌, Bool, true, false, refl, sym, ap, ◌∙◌, arith, not, int_cmp, fraction_cmp, name_of, before_zero, padded, Ordering}
+use Rattle.expansions.proofs.Shared.{Name, trees_cmp, root_code, ordering_then, ints, bytes_eq, bytes_eq-Decides, tree_cmp_same, Less, Equal, Greater, nat_cmp, slice_cmp, tree_cmp, tree_cmp_refl}
 use Rattle.expansions.proofs.Shared.{whole_numerator, whole_denominator, lowest, one_fraction, num, symbol, mult, factor_tree, factor_trees, monomial_cmp, monomial_tree, Factor, Monomial}
 use Rattle.expansions.proofs.FactorTrees.{on_factor, on_monomial}
+use Rattle.calc_measures.proofs.LiteralValues.{one_times as times_one}
 
 -- ---- whole exponents
-
-times_one : (z : ℤ) → z *ℤ pos 1 ≡ z
-times_one z = omega (arith, ints)
 
 cross_is : (a b : ℕ) → (lowest (pos a) 1).num *ℤ pos (lowest (pos b) 1).den ≡ pos a
 cross_is a b = (λ i. whole_numerator (pos a) i *ℤ pos (whole_denominator (pos b) i)) ∙ times_one (pos a)
@@ -33,9 +31,6 @@ names_equal x y b e h = tree_cmp_same (symbol (name_of x)) (symbol (name_of y)) 
     no_not a k = grind arith
 
 -- ---- factors
-
-then-equal : (a : Ordering) → ordering_then a Equal ≡ a
-then-equal a = grind arith
 
 -- kinds decide, and then names, and then exponents
 pub factors_cmp : (f g : Factor) → tree_cmp (factor_tree f) (factor_tree g) ≡ ordering_then (nat_cmp (root_code (factor_tree f)) (root_code (factor_tree g))) (ordering_then (slice_cmp nat_cmp f.name g.name) (nat_cmp f.exponent g.exponent))

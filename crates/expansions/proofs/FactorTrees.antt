@@ -1,12 +1,9 @@
 -- The trees of monomials and of terms have the form of reduced trees.
-use Rattle.expansions.proofs.Shared.{◌≡◌, ◌≢◌, ◌≤◌, inl, inr, ℕ, pos, [], ◌∷◌, Bool, true, false, refl, sym, ap, ◌∙◌, subst, arith, ◌==◌, ◌&&◌, not, if◌then◌else◌, Less, Greater, eq-eqb}
+use Rattle.expansions.proofs.Shared.{and_false, ◌≡◌, ◌≢◌, ◌≤◌, inl, inr, ℕ, pos, [], ◌∷◌, Bool, true, false, refl, sym, ap, ◌∙◌, subst, arith, ◌==◌, ◌&&◌, not, if◌then◌else◌, Less, Greater, eq-eqb}
 use Rattle.expansions.proofs.Shared.{false_from_ne_true, IsNumber, is_number, is_term, HasForm, IsFrontForm, IsPowerForm, IsProductForm, NoneIs, RisesBy, Split, base_of, is_num_one, is_one_add}
 use Rattle.expansions.proofs.Shared.{is_opaque_exponent, is_undistributed, num_one, part_of, product_tree, split, split_product, tree_cmp, whole_one, tree_cmp_refl, no_one, whole_denominator}
 use Rattle.expansions.proofs.Shared.{not_from_false, Fraction, is_one_fraction, one_fraction, zero_fraction, AllParts, AllPartsOf, HasTwo, Tree, num, symbol, mult, power, Trees, more, is_add, is_mult}
 use Rattle.expansions.proofs.{Shared.{is_num, whole_num, factor_tree, factor_trees, monomial_tree, term_tree, Factor, IsMonomial, Monomial, Summand, number_words}, MonomialTrees.{factor_no_mult}}
-
-and_false : (a : Bool) → (a && false) ≡ false
-and_false a = grind arith
 
 -- ---- factors
 

@@ -1,9 +1,9 @@
 -- Polynomials that are held by bits: their sums, products and powers, and their normal forms.
-use Rattle.expansions.proofs.Shared.{◌≡◌, ℕ, zero, suc, ◌+◌, ◌*◌, ◌^◌, ◌≤◌, ◌<◌, pos, negsuc, [], ◌∷◌, sym, subst, arith, one-dvd, pow-le-pow_right, mul-le, pow-add, dvd_trans, magnitude_over, ◌++◌}
-use Rattle.expansions.proofs.Shared.{den_divides, magnitude_lowest, lowest, minus_one_fraction, mul_pos, one_fraction, zero_fraction, Tree, expanded, normal, sum_tree, term_trees, IsHeld, mass}
-use Rattle.expansions.proofs.{Shared.{AreMonomials, IsMonomial, Polynomial, constant, product, raised, scaled, polynomial_of, ◌∣◌, two_powers}, AllMonomials.{AllHave, normal_all}}
-use Rattle.expansions.proofs.{Gathered.{gathered_held, gathered_normal}, Masses.{mass_product, more_exponents, product_exponents, whole_product, whole_right, mass_append, exponents_right}}
-use Rattle.expansions.proofs.{SameCoefficients.{constant_product}, TermPolynomials.{terms_polynomial, term_polynomial}, TreeMonomials.{all_monomials}}
+use Rattle.expansions.proofs.Shared.{one_magnitude, ◌≡◌, ℕ, zero, suc, ◌+◌, ◌*◌, ◌^◌, ◌≤◌, ◌<◌, pos, negsuc, [], ◌∷◌, sym, subst, arith, one-dvd, pow-le-pow_right, mul-le, pow-add, dvd_trans}
+use Rattle.expansions.proofs.Shared.{magnitude_over, ◌++◌, den_divides, magnitude_lowest, lowest, minus_one_fraction, mul_pos, one_fraction, zero_fraction, Tree, expanded, normal, sum_tree}
+use Rattle.expansions.proofs.Shared.{term_trees, IsHeld, mass, AreMonomials, IsMonomial, Polynomial, constant, product, raised, scaled, polynomial_of, ◌∣◌, two_powers}
+use Rattle.expansions.proofs.{AllMonomials.{AllHave, normal_all}, Gathered.{gathered_held, gathered_normal}, Masses.{mass_product, more_exponents, product_exponents, whole_product, whole_right}}
+use Rattle.expansions.proofs.{Masses.{mass_append, exponents_right}, SameCoefficients.{constant_product}, TermPolynomials.{terms_polynomial, term_polynomial}, TreeMonomials.{all_monomials}}
 
 -- ---- more bits
 
@@ -67,10 +67,6 @@ held_product {v} {w} {h} {l} {k} {n} m x y =
 pub one_den : one_fraction.den ∣ 1
 unfolding one_fraction
 one_den = den_divides (pos 1) 1 (omega arith)
-
-pub one_magnitude : magnitude_over 1 one_fraction ≡ 1
-unfolding one_fraction
-one_magnitude = magnitude_lowest 1 (pos 1) 1 1 (omega arith) (den_divides (pos 1) 1 (omega arith)) (omega arith)
 
 pub one_held : IsHeld (constant one_fraction) 0 0
 one_held = record {

@@ -1,9 +1,10 @@
 -- How large sums and products of polynomials are, and normal polynomials.
-use Rattle.expansions.proofs.Shared.{◌≡◌, ℕ, ◌+◌, ◌*◌, ◌≤◌, ◌<◌, ℤ, ◌+ℤ◌, List, [], ◌∷◌, ◌++◌, map, Bool, true, false, refl, sym, ap, ◌∙◌, subst, arith, nat_abs, if◌then◌else◌, ints, dvd_trans}
-use Rattle.expansions.proofs.Shared.{dvd-mul_left, Ordering, Less, Equal, Greater, nat_cmp, ordering_reverse, nat_list_cmp_total, slice_cmp, magnitude_over, den_divides, magnitude_lowest}
+use Rattle.expansions.proofs.Shared.{magnitude_plus, ◌≡◌, ℕ, ◌+◌, ◌*◌, ◌≤◌, ◌<◌, ℤ, ◌+ℤ◌, List, [], ◌∷◌, ◌++◌, map, Bool, true, false, refl, sym, ap, ◌∙◌, subst, arith, nat_abs, if◌then◌else◌, ints}
+use Rattle.expansions.proofs.Shared.{dvd_trans, dvd-mul_left, Ordering, Less, Equal, Greater, nat_cmp, ordering_reverse, nat_list_cmp_total, slice_cmp, magnitude_over, den_divides, magnitude_lowest}
 use Rattle.expansions.proofs.Shared.{magnitude_scale, magnitude_times, over_multiple, plus_den, plus_over, times_den, whole_over, whole_over-abs, Fraction, is_zero_fraction, lowest, plus, joined}
 use Rattle.expansions.proofs.Shared.{monomial_cmp, normal, with_summand, without_zeros, AreWhole, HasExponents, HaveExponents, mass, Factor, IsBelowAll, IsMonomial, Monomial, Polynomial, Summand}
 use Rattle.expansions.proofs.{Shared.{factor, monomial_times, product, summand, summand_times, with_factor, ◌∣◌}, AllMonomials.{AllHave, normal_all}, ValueLaws.{names_equal}}
+use Rattle.calc_bits.proofs.ClassMasses.{abs_plus as sum_magnitude}
 
 -- ---- sums
 
@@ -129,20 +130,6 @@ have_exponents n [] h = tt
 have_exponents n (s ∷ v) h = (h.0, have_exponents n v h.1)
 
 -- ---- normal polynomials
-
-sum_magnitude : (x y : ℤ) → nat_abs (x +ℤ y) ≤ nat_abs x + nat_abs y
-sum_magnitude x y = omega (arith, ints)
-
-pub magnitude_plus : (p q : Fraction) (d : ℕ) → 0 < d → p.den ∣ d → q.den ∣ d → magnitude_over d (plus p q) ≤ magnitude_over d p + magnitude_over d q
-magnitude_plus p q d h a b =
-    let x : ℤ = whole_over d p in
-    let y : ℤ = whole_over d q in
-    let e : plus p q ≡ lowest (x +ℤ y) d = (λ i. plus (over_multiple d p h a i) (over_multiple d q h b i)) ∙ plus_over x y d h in
-    let f : magnitude_over d (lowest (x +ℤ y) d) ≡ nat_abs (x +ℤ y) = magnitude_lowest d (x +ℤ y) d (nat_abs (x +ℤ y)) h (den_divides (x +ℤ y) d h) refl in
-    at (ap (magnitude_over d) e ∙ f) (sum_magnitude x y) (whole_over-abs d p) (whole_over-abs d q)
-  where
-    at : {m n u w a b : ℕ} → m ≡ n → n ≤ u + w → u ≡ a → w ≡ b → m ≤ a + b
-    at e f g h = omega (arith, e, f, g, h)
 
 with_whole : (d : ℕ) (s : Summand) (v : Polynomial) → 0 < d → s.coefficient.den ∣ d → AreWhole d v → AreWhole d (with_summand s v)
 with_whole d s [] z h k = (h, tt)

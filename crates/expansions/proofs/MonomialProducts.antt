@@ -1,15 +1,12 @@
 -- Products of monomials and of polynomials: their order and their brackets.
 use Rattle.expansions.proofs.Shared.{◌≡◌, ℕ, suc, ◌+◌, List, [], ◌∷◌, refl, sym, ap, ◌∙◌, arith, subst, Ordering, Less, Equal, Greater, nat_cmp, ordering_reverse, nat_list_cmp_total, slice_cmp}
-use Rattle.expansions.proofs.{Shared.{tree_cmp_same, symbol, Factor, IsBelowAll, IsMonomial, Monomial, factor, monomial_times, with_factor}, TreeMonomials.{below_more, below_with, names_turned}}
-use Rattle.expansions.proofs.ValueLaws.{names_equal}
+use Rattle.expansions.proofs.{Shared.{tree_cmp_same, symbol, Factor, IsBelowAll, IsMonomial, Monomial, factor, monomial_times, with_factor}, PackedOrders.{above as names_above}}
+use Rattle.expansions.proofs.{TreeMonomials.{below_more, below_with, names_turned}, ValueLaws.{names_equal}}
 
 -- ---- the order of names
 
 names_same : (x y : List ℕ) → x ≡ y → slice_cmp nat_cmp x y ≡ Equal
 names_same x y e = tree_cmp_same (symbol x) (symbol y) (ap symbol e)
-
-names_above : (x y : List ℕ) → slice_cmp nat_cmp x y ≡ Less → slice_cmp nat_cmp y x ≡ Greater
-names_above x y l = nat_list_cmp_total.antisymm y x ∙ ap ordering_reverse l
 
 names_chain : (x y z : List ℕ) → slice_cmp nat_cmp x y ≡ Less → slice_cmp nat_cmp y z ≡ Less → slice_cmp nat_cmp x z ≡ Less
 names_chain x y z a b = nat_list_cmp_total.trans x y z a b

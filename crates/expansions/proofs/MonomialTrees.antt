@@ -1,7 +1,7 @@
 -- Monomials are one where their trees are.
-use Rattle.expansions.proofs.Shared.{arith, ◌≡◌, ℕ, List, pos, [], ◌∷◌, Bool, true, false, refl, sym, ap, ◌∙◌, ◌==◌, ◌&&◌, bytes_eq, and_from, and_parts, eq-eqb, eqb-true, false_from_ne_true}
+use Rattle.expansions.proofs.Shared.{arith, ◌≡◌, ℕ, pos, [], ◌∷◌, Bool, true, false, refl, sym, ap, ◌∙◌, ◌==◌, ◌&&◌, bytes_eq, and_from, and_parts, eq-eqb, eqb-true, false_from_ne_true}
 use Rattle.expansions.proofs.Shared.{bytes_eq-Decides, Less, Equal, Greater, ordering_reverse, whole_one, tree_chain, tree_cmp_equal, tree_cmp_same, tree_cmp_turned, Fraction, zero_fraction, Tree}
-use Rattle.expansions.proofs.Shared.{num, symbol, undef, mult, Trees, none, more, is_mult, is_num, whole_num, Factor, Monomial, factor, is_same_monomial, factor_tree, factor_trees, monomial_cmp}
+use Rattle.expansions.proofs.Shared.{num, undef, mult, Trees, none, more, is_mult, is_num, whole_num, Factor, Monomial, factor, is_same_monomial, factor_tree, factor_trees, monomial_cmp}
 use Rattle.expansions.proofs.Shared.{monomial_tree}
 
 -- ---- parts of trees
@@ -9,10 +9,6 @@ use Rattle.expansions.proofs.Shared.{monomial_tree}
 abbrev fraction_in : Tree → Fraction
 fraction_in (num q) = q
 fraction_in _ = zero_fraction
-
-abbrev name_in : Tree → List ℕ
-name_in (symbol x) = x
-name_in _ = []
 
 abbrev factors_in : Tree → Trees
 factors_in (mult ts) = ts

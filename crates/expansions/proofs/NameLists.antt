@@ -1,10 +1,9 @@
 -- Lists of rising names.
 use Rattle.expansions.proofs.Shared.{◌≡◌, ◌≤◌, ◌<◌, ℕ, zero, suc, List, [], ◌∷◌, ◌++◌, length, get_or, take, drop, inl, inr, Bool, true, false, refl, sym, ap, ◌∙◌, subst, arith, Contains, ◌==◌}
-use Rattle.expansions.proofs.Shared.{length-map, drop-cons, insert, not, name_of, before_zero, Name, bytes_eq, bytes_eq-Decides, Ordering, Less, Equal, ordering_index, nat_cmp}
-use Rattle.expansions.proofs.Shared.{nat_list_cmp_total, slice_cmp, symbol, tree_cmp_same, IsBelowAll, IsNamed, Monomial, AreNames, AreNamesBelow, IsBelowNames, StartNamesFrom, HasName}
-use Rattle.expansions.proofs.{FactorOrders.{one_name}, TreeMonomials.{names_turned}, ValueLaws.{names_equal}}
+use Rattle.expansions.proofs.Shared.{length-map, drop-cons, insert, not, name_of, before_zero, Name, bytes_eq, bytes_eq-Decides, Ordering, Less, Equal, ordering_index, nat_cmp, nat_list_cmp_total}
+use Rattle.expansions.proofs.Shared.{slice_cmp, symbol, tree_cmp_same, IsBelowAll, IsNamed, Monomial, AreNames, AreNamesBelow, IsBelowNames, StartNamesFrom, HasName, take-suc, drop_all, take_all}
+use Rattle.expansions.proofs.{Shared.{take-append-drop, map-append}, FactorOrders.{one_name}, TreeMonomials.{names_turned}, ValueLaws.{names_equal}}
 use Rattle.expansions.specs.Named.{names_of}
-use Rattle.std.proofs.{Math.Seq.{take-suc}, lemmas.List.{drop_all, take_all, take-append-drop, map-append}}
 
 -- ---- lists
 

@@ -1,8 +1,7 @@
 -- Polynomials of names, from packed ones: the same coefficients, sums, multiples, products and powers.
-use Rattle.expansions.proofs.Shared.{◌≡◌, ℕ, zero, suc, List, [], ◌∷◌, ◌++◌, length, map, refl, sym, ap, ◌∙◌, if◌then◌else◌, Fraction, times_comm, times, zero_fraction, arith}
-use Rattle.expansions.proofs.Shared.{one_fraction, one_times, zero_plus, zero_times, AreSame, Monomial, Polynomial, coefficient_at, is_same_monomial, product, raised, scaled, summand}
-use Rattle.expansions.proofs.{Shared.{summand_times, AreNames, HaveNames, IsOfNames, named_polynomial, worth, Term, named}, NamedMonomials.{named_one, named_times, names_one, names_times}}
-use Rattle.expansions.proofs.NamedMonomials.{packed_length, times_length}
+use Rattle.expansions.proofs.Shared.{◌≡◌, ℕ, zero, suc, List, [], ◌∷◌, ◌++◌, length, map, refl, sym, ap, ◌∙◌, if◌then◌else◌, Fraction, times_comm, times, zero_fraction, arith, one_fraction, one_times}
+use Rattle.expansions.proofs.Shared.{zero_plus, zero_times, AreSame, Monomial, Polynomial, coefficient_at, is_same_monomial, product, raised, scaled, summand, summand_times, AreNames, HaveNames}
+use Rattle.expansions.proofs.{Shared.{IsOfNames, named_polynomial, worth, Term, named}, NamedMonomials.{named_one, named_times, names_one, names_times, packed_length, times_length}}
 use Rattle.polynomials.specs.Polynomials.{Monomial as Exponents, Polynomial as Packed, Summand as PackedSummand, AreSame as AreSameValues, product as packed_product, raised as packed_raised}
 use Rattle.polynomials.specs.{Polynomials.{row as packed_row, scaled as packed_scaled}, Terms.{polynomial_of}}
 

@@ -1,9 +1,8 @@
 -- The names of polynomials, and of expanded trees.
-use Rattle.expansions.proofs.Shared.{ℕ, List, [], ◌∷◌, arith, Contains, Within, no_new_name, within_both}
-use Rattle.expansions.proofs.Shared.{within_left, within_none, within_right, within_same, within_trans, product_tree, HasNoNewName, inverse, minus_one_fraction, Tree, num, symbol}
-use Rattle.expansions.proofs.Shared.{undef, add, mult, power, root, neg, sub, div, Trees, none, more, names, names_of, expanded, factor_tree, factor_trees, normal, sum_tree, term_tree}
-use Rattle.expansions.proofs.Shared.{term_trees, AreNamed, IsNamed, Factor, Monomial, Polynomial, Summand, monomial_times, scaled, with_factor, divisor_of, exponent_of, polynomial_of}
-use Rattle.expansions.proofs.{Shared.{product_of, sum_of, Contains-push}, AllMonomials.{AllHave, IsClosed, append_all, normal_all, product_all, raised_all, scaled_all}}
+use Rattle.expansions.proofs.Shared.{ℕ, List, [], ◌∷◌, arith, Contains, Within, no_new_name, within_both, within_left, within_none, within_right, within_same, within_trans, product_tree, HasNoNewName}
+use Rattle.expansions.proofs.Shared.{inverse, minus_one_fraction, Tree, num, symbol, undef, add, mult, power, root, neg, sub, div, Trees, none, more, names, names_of, expanded, factor_tree}
+use Rattle.expansions.proofs.Shared.{factor_trees, normal, sum_tree, term_tree, term_trees, AreNamed, IsNamed, Factor, Monomial, Polynomial, Summand, monomial_times, scaled, with_factor, divisor_of}
+use Rattle.expansions.proofs.{Shared.{exponent_of, polynomial_of, product_of, sum_of, Contains-push}, AllMonomials.{AllHave, IsClosed, append_all, normal_all, product_all, raised_all, scaled_all}}
 
 -- ---- monomials
 

@@ -1,8 +1,8 @@
 -- The normal polynomial keeps coefficients, and is the only one with them.
 use Rattle.expansions.proofs.Shared.{arith, ◌≡◌, [], ◌∷◌, Bool, true, false, refl, sym, ap, ◌∙◌, subst, if◌then◌else◌, Ordering, Less, Equal, Greater, zero_is, no_zero, zero_plus, Fraction}
 use Rattle.expansions.proofs.Shared.{is_zero_fraction, plus, plus_assoc, zero_fraction, not_from_false, Monomial, Polynomial, Summand, coefficient_at, is_same_monomial, summand, IsBeforeAll, IsNormal}
-use Rattle.expansions.proofs.{Shared.{joined, monomial_cmp, normal, with_summand, without_zeros}, Arithmetic.{plus_left_comm, plus_zero}, MonomialTrees.{chained, equal_is, less_apart, not_same}}
-use Rattle.expansions.proofs.MonomialTrees.{same_is, same_itself, turned}
+use Rattle.expansions.proofs.{Shared.{joined, monomial_cmp, normal, with_summand, without_zeros, plus_left_comm, plus_zero}, MonomialTrees.{chained, equal_is, less_apart, not_same, same_is}}
+use Rattle.expansions.proofs.MonomialTrees.{same_itself, turned}
 
 -- ---- coefficients
 

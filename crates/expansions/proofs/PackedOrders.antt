@@ -9,7 +9,7 @@ use Rattle.calc_terms.specs.declared.kind.Kind.TheVariants as kind
 
 -- ---- two factors
 
-above : (x y : List ℕ) → slice_cmp nat_cmp x y ≡ Less → slice_cmp nat_cmp y x ≡ Greater
+pub above : (x y : List ℕ) → slice_cmp nat_cmp x y ≡ Less → slice_cmp nat_cmp y x ≡ Greater
 above x y l = nat_list_cmp_total.antisymm y x ∙ ap ordering_reverse l
 
 -- of the second name, which is above the first
@@ -183,7 +183,7 @@ pub factors_decide : (es fs : List ℕ) (o : Ordering) (b : Bool) → o ≡ nat_
 unfolding exponents_order
 factors_decide es fs o b h c e = grind arith
 
-unpacked_length : (n k : ℕ) → length (unpacked n k) ≡ n
+pub unpacked_length : (n k : ℕ) → length (unpacked n k) ≡ n
 unpacked_length zero k = refl
 unpacked_length (suc n) k = ap suc (unpacked_length n (k / 256))
 

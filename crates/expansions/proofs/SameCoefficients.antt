@@ -1,9 +1,8 @@
 -- Polynomials with the same coefficients, in sums and products.
-use Rattle.expansions.proofs.Shared.{◌≡◌, [], ◌∷◌, ◌++◌, map, refl, sym, ap, ◌∙◌, append-nil, append_assoc, if◌then◌else◌, Ordering, Less, Equal, Greater, times_zero, zero_is}
-use Rattle.expansions.proofs.Shared.{arith, raised, zero, suc, ℕ, one_times, times_comm, times_plus, zero_plus, zero_times, Fraction, one_fraction, plus, plus_assoc, plus_comm}
-use Rattle.expansions.proofs.Shared.{times, zero_fraction, joined, monomial_cmp, normal, with_summand, without_zeros, Monomial, Polynomial, Summand, coefficient_at, constant, is_same_monomial}
-use Rattle.expansions.proofs.{Shared.{monomial_times, product, scaled, summand, summand_times, AreSame}, Arithmetic.{plus_both, plus_left_comm, plus_times}, MonomialTrees.{equal_is}}
-use Rattle.expansions.proofs.NormalForms.{normal_coefficient, one_normal_form}
+use Rattle.expansions.proofs.Shared.{◌≡◌, [], ◌∷◌, ◌++◌, map, refl, sym, ap, ◌∙◌, append-nil, append_assoc, if◌then◌else◌, Ordering, Less, Equal, Greater, times_zero, zero_is, arith, raised, zero}
+use Rattle.expansions.proofs.Shared.{suc, ℕ, one_times, times_comm, times_plus, zero_plus, zero_times, Fraction, one_fraction, plus, plus_assoc, plus_comm, times, zero_fraction, joined, monomial_cmp}
+use Rattle.expansions.proofs.Shared.{normal, with_summand, without_zeros, Monomial, Polynomial, Summand, coefficient_at, constant, is_same_monomial, monomial_times, product, scaled, summand}
+use Rattle.expansions.proofs.{Shared.{summand_times, AreSame, plus_both, plus_left_comm, plus_times}, MonomialTrees.{equal_is}, NormalForms.{normal_coefficient, one_normal_form}}
 
 -- ---- the relation
 

@@ -1,8 +1,7 @@
 -- How many bytes terms and sums of them have.
-use Rattle.expansions.proofs.Shared.{ℕ, suc, ◌+◌, ◌*◌, ◌≤◌, List, [], ◌∷◌, length, Bool, true, false, arith, if◌then◌else◌, mul-le, product_tree, num_most}
-use Rattle.expansions.proofs.Shared.{is_one_fraction, one_fraction, num, more, size, sizes, expanded, factor_tree, factor_trees, joined, monomial_tree, normal}
-use Rattle.expansions.proofs.Shared.{sum_tree, term_tree, term_trees, with_summand, without_zeros, IsNamed, count_distinct, term_bytes, terms_bytes, sum_bytes, Factor, IsMonomial, Monomial}
-use Rattle.expansions.proofs.{Shared.{Polynomial, Summand}, AllMonomials.{AllHave, normal_all}, Widths.{few_factors}}
+use Rattle.expansions.proofs.Shared.{ℕ, suc, ◌+◌, ◌*◌, ◌≤◌, List, [], ◌∷◌, length, Bool, true, false, arith, if◌then◌else◌, mul-le, product_tree, num_most, is_one_fraction, one_fraction, num, more}
+use Rattle.expansions.proofs.Shared.{size, sizes, expanded, factor_tree, factor_trees, joined, monomial_tree, normal, sum_tree, term_tree, term_trees, with_summand, without_zeros, IsNamed}
+use Rattle.expansions.proofs.{Shared.{count_distinct, term_bytes, terms_bytes, sum_bytes, Factor, IsMonomial, Monomial, Polynomial, Summand}, AllMonomials.{AllHave, normal_all}, Widths.{few_factors}}
 
 -- ---- terms
 

@@ -1,4 +1,5 @@
 -- How many summands the polynomial of a tree has, and the room of an expansion.
+use Rattle.calc_terms.proofs.SmallLaws.{one_node as some_nodes}
 use Rattle.expansions.proofs.Shared.{◌≡◌, ℕ, zero, suc, ◌*◌, ◌^◌, ◌≤◌, List, [], ◌∷◌, length, map, true, sym, ap, ◌∙◌, arith, le-max_left, le-max_right, one-le-pow, pow-le-pow_left, pow-succ'}
 use Rattle.expansions.proofs.Shared.{pow-zero, and_parts, length-append, length-map, mul-le, Within, within_same, Fraction, inverse, minus_one_fraction, times, Tree, num, symbol, undef, add, mult}
 use Rattle.expansions.proofs.Shared.{power, root, neg, sub, div, Trees, none, more, names, nodes, size, expanded, IsNamed, count_distinct, expansion_room, most_terms, product_of_terms, sum_bytes}
@@ -79,9 +80,6 @@ tree_named_monomials ns t h = named_monomials ns (polynomial_of t) (tree_monomia
 pub answer_most : (ns : List (List ℕ)) (n : ℕ) (t : Tree) → is_polynomial t ≡ true → Within ns (names t) → most_terms t ≤ n → size (expanded (polynomial_of t)) ≤ sum_bytes ns n
 answer_most ns n t p h l =
     expanded_most ns (polynomial_of t) n (tree_named_monomials ns t h) (omega (arith, few_terms t, most_of_all t, l)) (omega (arith, some_terms t p, most_of_all t, l))
-
-pub some_nodes : (t : Tree) → 1 ≤ nodes t
-some_nodes t = omega (arith, some_overflow_nodes t, at_most_all_nodes t)
 
 pub within_room : (t : Tree) → is_polynomial t ≡ true → 5 * size (expanded (polynomial_of t)) ≤ expansion_room t
 within_room t p =

@@ -1,11 +1,10 @@
 -- The polynomials of terms and of expanded trees, and how these are read.
-use Rattle.expansions.proofs.Shared.{◌≡◌, ◌≢◌, ◌≤◌, ℕ, zero, suc, List, [], ◌∷◌, ◌++◌, Bool, true, false, refl, sym, ap, ◌∙◌, arith, not, if◌then◌else◌, false_from_ne_true, product_tree, no_zero}
-use Rattle.expansions.proofs.Shared.{IsSum, IsTerm, ◌⊎◌, inl, inr, one_is, whole_denominator, whole_numerator, zero_is, one_times, zero_plus, Fraction, is_one_fraction, is_zero_fraction, one_fraction}
-use Rattle.expansions.proofs.Shared.{times, zero_fraction, Tree, num, mult, none, more, whole_num, IsNormal, expanded, factor_tree, factor_trees, monomial_tree, normal, sum_tree, term_tree}
-use Rattle.expansions.proofs.Shared.{term_trees, AreMonomials, Factor, IsMonomial, Monomial, Polynomial, Summand, constant, factor, product, raised, summand, variable, exponent_of}
-use Rattle.expansions.proofs.{Shared.{polynomial_of, product_of, sum_of, AreSame, IsExpanded, coefficient_in, factors_in, terms_in}, AllMonomials.{normal_all}, Arithmetic.{times_one}}
-use Rattle.expansions.proofs.{FactorTrees.{on_factor}, MonomialProducts.{name_again, put_first}, NormalForms.{normal_is}, SameCoefficients.{same_is, same_normal, same_trans}}
-use Rattle.expansions.proofs.TreeMonomials.{all_monomials, tree_monomials}
+use Rattle.expansions.proofs.Shared.{zero_is_zero, ◌≡◌, ◌≢◌, ◌≤◌, ℕ, zero, suc, List, [], ◌∷◌, ◌++◌, Bool, true, false, refl, sym, ap, ◌∙◌, arith, not, if◌then◌else◌, false_from_ne_true, product_tree}
+use Rattle.expansions.proofs.Shared.{no_zero, IsSum, IsTerm, ◌⊎◌, inl, inr, one_is, whole_denominator, whole_numerator, zero_is, one_times, zero_plus, Fraction, is_one_fraction, is_zero_fraction}
+use Rattle.expansions.proofs.Shared.{one_fraction, times, zero_fraction, Tree, num, mult, none, more, whole_num, IsNormal, expanded, factor_tree, factor_trees, monomial_tree, normal, sum_tree}
+use Rattle.expansions.proofs.Shared.{term_tree, term_trees, AreMonomials, Factor, IsMonomial, Monomial, Polynomial, Summand, constant, factor, product, raised, summand, variable, exponent_of}
+use Rattle.expansions.proofs.{Shared.{polynomial_of, product_of, sum_of, AreSame, IsExpanded, coefficient_in, factors_in, terms_in, times_one}, AllMonomials.{normal_all}, FactorTrees.{on_factor}}
+use Rattle.expansions.proofs.{MonomialProducts.{name_again, put_first}, NormalForms.{normal_is}, SameCoefficients.{same_is, same_normal, same_trans}, TreeMonomials.{all_monomials, tree_monomials}}
 
 -- ---- factors
 
@@ -105,13 +104,6 @@ term_alone s z = by (is_one_fraction s.coefficient) refl s.monomial
     by true e (f ∷ g ∷ m) = refl
     by false e [] = ap (λ (b : Bool). if b then none else more (num s.coefficient) none) some
     by false e (f ∷ m) = refl
-
-zero_is_zero : is_zero_fraction zero_fraction ≡ true
-zero_is_zero = by (is_zero_fraction zero_fraction) refl
-  where
-    by : (b : Bool) → is_zero_fraction zero_fraction ≡ b → b ≡ true
-    by true e = refl
-    by false e = absurd (no_zero zero_fraction (ap not e) refl)
 
 sum_terms : (v : Polynomial) → IsNormal v → terms_in (sum_tree (term_trees v)) ≡ term_trees v
 sum_terms [] h = ap (λ (b : Bool). if b then none else more (num zero_fraction) none) zero_is_zero

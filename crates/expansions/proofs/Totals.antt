@@ -1,15 +1,11 @@
 -- Sums of fractions over a list do not depend on its order.
 use Rattle.expansions.proofs.Shared.{◌≡◌, ℕ, zero, suc, ◌<◌, List, [], ◌∷◌, length, get_or, set, inl, inr, refl, sym, ap, ◌∙◌, arith, get_or-set_same, get_or-set_other, IsPermutation, swap}
-use Rattle.expansions.proofs.{Shared.{length-set, IsPermutation-keeps, Fraction, negative, plus, plus_assoc, plus_comm, plus_negative, zero_fraction, cases_eq}, Arithmetic.{plus_left_comm, plus_zero}}
+use Rattle.expansions.proofs.Shared.{length-set, IsPermutation-keeps, Fraction, negative, plus, plus_assoc, plus_comm, plus_negative, zero_fraction, cases_eq, plus_left_comm, plus_zero}
+use Rattle.calc_bits.proofs.Parts.{plus_cancel_right as cancelled}
 
 abbrev pub total : {X : Type 0} → (X → Fraction) → List X → Fraction
 total f [] = zero_fraction
 total f (x ∷ xs) = plus (f x) (total f xs)
-
-cancelled : (a b c : Fraction) → plus a c ≡ plus b c → a ≡ b
-cancelled a b c e =
-    let back : (x : Fraction) → plus (plus x c) (negative c) ≡ x = λ x. plus_assoc x c (negative c) ∙ ap (plus x) (plus_negative c) ∙ plus_zero x in
-    sym (back a) ∙ ap (λ x. plus x (negative c)) e ∙ back b
 
 -- one element is exchanged
 total_set : {X : Type 0} (f : X → Fraction) (xs : List X) (i : ℕ) (y d : X) → i < length xs → plus (total f (set xs i y)) (f (get_or xs i d)) ≡ plus (f y) (total f xs)

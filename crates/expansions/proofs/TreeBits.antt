@@ -4,9 +4,11 @@ use Rattle.expansions.proofs.Shared.{Option, not, dvd_refl, le-max_left, le-max_
 use Rattle.expansions.proofs.Shared.{magnitude_lowest, half_literal, or_literal, whole_literal, HighLow, bounds, bounds_of_terms, ceil_log2, high, low, power_bounds, Fraction, den_pos, inverse}
 use Rattle.expansions.proofs.Shared.{inverse_of, minus_one_fraction, mul_pos, int_is_zero, Tree, num, symbol, undef, add, mult, power, root, neg, sub, div, Trees, none, more, count, negative_parts}
 use Rattle.expansions.proofs.Shared.{AreHeldTogether, AreWhole, HaveExponents, IsHeld, mass, Polynomial, constant, scaled, variable, are_polynomials, divisor_of, exponent_of, is_divisor, is_exponent}
-use Rattle.expansions.proofs.{Shared.{is_polynomial, is_small, natural_of, polynomial_of, product_of, sum_of, ceil_log2_is}, Held.{held_more, held_opposite, held_product, held_raised, one_den}}
-use Rattle.expansions.proofs.{Held.{one_held, one_magnitude}, Masses.{exponents_append, mass_append, mass_scale, more_exponents, whole_append, whole_scale}, SameCoefficients.{constant_product}}
+use Rattle.expansions.proofs.{Shared.{is_polynomial, is_small, natural_of, polynomial_of, product_of, sum_of, ceil_log2_is, one_magnitude}, Held.{held_more, held_opposite, held_product, held_raised}}
+use Rattle.expansions.proofs.{Held.{one_den, one_held}, Masses.{exponents_append, mass_append, mass_scale, more_exponents, whole_append, whole_scale}, SameCoefficients.{constant_product}}
 use Rattle.expansions.proofs.TreeMonomials.{tree_monomials}
+use Rattle.rational128.proofs.Reciprocals.{abs_negative as opposite_abs}
+use Rattle.calc_terms.proofs.Names.{not_true as no_not}
 
 -- ---- rationals
 
@@ -27,14 +29,8 @@ constant_held q h l a b = record {
   exponents = (tt, tt);
 }
 
-no_not : (b : Bool) → not b ≡ true → b ≡ false
-no_not b h = grind arith
-
 opposite_zero : (n : ℤ) → int_is_zero (neg_ℤ n) ≡ int_is_zero n
 opposite_zero n = grind arith
-
-opposite_abs : (n : ℤ) → nat_abs (neg_ℤ n) ≡ nat_abs n
-opposite_abs n = grind arith
 
 -- of an inverse
 inverse_by : (n : ℤ) (d : ℕ) (h l : ℕ) → int_is_zero n ≡ false → 0 < d → nat_abs n ≤ 2 ^ h → d ≤ 2 ^ l → IsHeld (constant (inverse_of n d)) (h + 2 * l) (2 * h + 2 * l)

@@ -1,13 +1,13 @@
 -- What a polynomial tree means is what its polynomial is worth.
-use Rattle.expansions.proofs.Shared.{◌≡◌, ◌≢◌, ◌≤◌, ℕ, zero, suc, ℤ, pos, negsuc, Bool, true, false, refl, sym, ap, ◌∙◌, arith, Option, Some, None, ◌==◌, neg_ℤ, ◌*ℤ◌, if◌then◌else◌, and_parts}
-use Rattle.expansions.proofs.Shared.{eqb-true, ints, Assignment, IsAssignment, IsWholePower, Means, MeansSum, MeansProduct, Surd, surd_of, Inverts-surd_of, inverse_times_itself, negative_times}
-use Rattle.expansions.proofs.Shared.{Same-sym, one_meaning, surd_power-surd_of, exponent_is, Same-trans, Same-Agree, Agree, Agree-Same, Agree-surd_times_right, Agree-trans, one_inverse, Same-append}
-use Rattle.expansions.proofs.Shared.{Same-eq, Same-refl, Same-surd_power, Same-surd_scale, Same-surd_times, joined_radicand, zero_term, opposite, whole_literal, whole_value, no_zero}
-use Rattle.expansions.proofs.Shared.{whole_denominator, whole_numerator, fraction_power, negative_lowest, one_times, plus_negative, times_comm, Fraction, fraction_path, inverse, lowest}
-use Rattle.expansions.proofs.Shared.{minus_one_fraction, negative, one_fraction, plus, times, times_lowest, whole_fraction, zero_fraction, Tree, num, symbol, undef, add, mult, power, root, neg, sub}
-use Rattle.expansions.proofs.Shared.{div, Trees, none, more, scaled, are_polynomials, divisor_of, exponent_of, is_divisor, is_exponent, is_nonzero, is_polynomial, is_small, natural_of, polynomial_of}
-use Rattle.expansions.proofs.{Shared.{product_of, sum_of, polynomial_value, Same, Inverts}, Arithmetic.{plus_zero}, ValueLaws.{append_value, constant_value, given_is, product_value, raised_value}}
-use Rattle.expansions.proofs.ValueLaws.{scaled_value, variable_value}
+use Rattle.expansions.proofs.Shared.{whole_by, negative_not_zero, ◌≡◌, ◌≢◌, ◌≤◌, ℕ, zero, suc, ℤ, pos, negsuc, true, refl, sym, ap, ◌∙◌, arith, Option, Some, None, ◌==◌, neg_ℤ, ◌*ℤ◌, and_parts, ints}
+use Rattle.expansions.proofs.Shared.{Assignment, IsAssignment, IsWholePower, Means, MeansSum, MeansProduct, Surd, surd_of, Inverts-surd_of, inverse_times_itself, Same-sym, one_meaning}
+use Rattle.expansions.proofs.Shared.{surd_power-surd_of, exponent_is, Same-trans, Agree-Same, Same-append, Same-eq, Same-refl, Same-surd_power, Same-surd_scale, Same-surd_times, joined_radicand}
+use Rattle.expansions.proofs.Shared.{zero_term, opposite, whole_literal, whole_value, no_zero, fraction_power, times_comm, Fraction, inverse, lowest, minus_one_fraction, one_fraction, plus, times}
+use Rattle.expansions.proofs.Shared.{times_lowest, whole_fraction, zero_fraction, Tree, num, symbol, undef, add, mult, power, root, neg, sub, div, Trees, none, more, scaled, are_polynomials}
+use Rattle.expansions.proofs.Shared.{divisor_of, exponent_of, is_divisor, is_exponent, is_nonzero, is_polynomial, is_small, natural_of, polynomial_of, product_of, sum_of, polynomial_value, Same}
+use Rattle.expansions.proofs.ValueLaws.{append_value, constant_value, given_is, product_value, raised_value, scaled_value, variable_value}
+use Rattle.calc_measures.proofs.Inverses.{times_minus_one as minus_one_times}
+use Rattle.calc_algebra.proofs.MeaningLaws.{one_inverse' as inverse_of_same}
 
 -- ---- whole literals
 
@@ -16,10 +16,6 @@ small_is l h = grind arith
 
 small_positive : (l : Option ℤ) → is_small l ≡ true → 1 ≤ natural_of l
 small_positive l h = grind arith
-
-whole_by : (b : Bool) (q : Fraction) (n : ℤ) → (q.den == 1) ≡ b → (if b then Some q.num else None) ≡ Some n → q ≡ whole_fraction n
-whole_by true q n d h = fraction_path q (whole_fraction n) ((let same : q.num ≡ n = cc in same) ∙ sym (whole_numerator n)) (eqb-true q.den 1 d ∙ sym (whole_denominator n))
-whole_by false q n d h = absurd cc
 
 minus_whole : (m : ℤ) → times minus_one_fraction (whole_fraction m) ≡ whole_fraction (neg_ℤ m)
 minus_whole m = times_lowest (negsuc 0) m 1 1 (omega arith) (omega arith) ∙ ap (λ (z : ℤ). lowest z 1) (let e : negsuc 0 *ℤ m ≡ neg_ℤ m = omega (arith, ints) in e)
@@ -36,16 +32,6 @@ literal_means f e n h = cc
 
 -- ---- divisors
 
-minus_one_is : minus_one_fraction ≡ negative one_fraction
-unfolding one_fraction
-minus_one_is = sym (negative_lowest (pos 1) 1 (omega arith))
-
-pub minus_one_times : (q : Fraction) → times minus_one_fraction q ≡ negative q
-minus_one_times q = ap (λ x. times x q) minus_one_is ∙ negative_times one_fraction q ∙ ap negative (one_times q)
-
-negative_not_zero : (q : Fraction) → q ≢ zero_fraction → negative q ≢ zero_fraction
-negative_not_zero q h e = h (sym (plus_zero q) ∙ ap (plus q) (sym e) ∙ plus_negative q)
-
 -- a divisor means a fraction that is not 0
 pub record MeansDivisor (f : Assignment) (c : Tree) : Type 0 where
   pub means : Means c f (surd_of (divisor_of c))
@@ -61,9 +47,6 @@ opposite_means f a h = cc
 divisor_means : (f : Assignment) (c : Tree) → is_divisor c ≡ true → MeansDivisor f c
 divisor_means f (neg a) h = opposite_means f a h
 divisor_means f c h = nonzero_means f c h
-
-inverse_of_same : (y x w u : Surd) → Inverts y w → Inverts x u → Agree w u → Agree y x
-inverse_of_same y x w u a b c = one_inverse y x w (Same-Agree a) (Agree-trans (Agree-surd_times_right x c) (Same-Agree b))
 
 -- ---- trees
 

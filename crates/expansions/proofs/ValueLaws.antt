@@ -1,9 +1,10 @@
 -- The arithmetic of polynomials is that of their values.
 use Rattle.expansions.proofs.Shared.{◌≡◌, ◌⊎◌, inl, inr, ℕ, zero, suc, List, [], ◌∷◌, ◌++◌, map, Bool, true, false, refl, sym, ap, ◌∙◌, arith, if◌then◌else◌, Contains, bytes_eq, bytes_eq-Decides}
-use Rattle.expansions.proofs.Shared.{Equal, nat_cmp, slice_cmp, Assignment, IsAssignment, Binding, times_zero, tree_cmp_equal, fraction_power, times_assoc, times_plus}
-use Rattle.expansions.proofs.Shared.{zero_plus, zero_times, one_times, Fraction, plus, times, one_fraction, plus_assoc, Tree, symbol, Factor, Monomial, Polynomial, Summand, constant}
-use Rattle.expansions.proofs.Shared.{monomial_times, product, raised, scaled, summand_times, variable, with_factor, factor_value, given, monomial_value, polynomial_value, summand_value, Gives}
-use Rattle.expansions.proofs.{Shared.{one_value}, Arithmetic.{plus_both, plus_times, plus_zero, power_plus, times_exchange, times_left_comm, times_one}}
+use Rattle.expansions.proofs.Shared.{Equal, nat_cmp, slice_cmp, Assignment, IsAssignment, Binding, times_zero, tree_cmp_equal, fraction_power, times_assoc, times_plus, zero_plus, zero_times}
+use Rattle.expansions.proofs.Shared.{one_times, Fraction, plus, times, one_fraction, plus_assoc, Tree, symbol, Factor, Monomial, Polynomial, Summand, constant, monomial_times, product, raised, scaled}
+use Rattle.expansions.proofs.Shared.{summand_times, variable, with_factor, factor_value, given, monomial_value, polynomial_value, summand_value, Gives, one_value, times_one, plus_both, plus_times}
+use Rattle.expansions.proofs.{Shared.{plus_zero, times_exchange}, Widths.{clash}, Arithmetic.{power_plus, times_left_comm}}
+use Rattle.calc_algebra.proofs.MeaningLaws.{at_front as first_or_later}
 
 -- ---- names
 
@@ -13,12 +14,6 @@ name_in _ = []
 
 pub names_equal : (x y : List ℕ) → slice_cmp nat_cmp x y ≡ Equal → x ≡ y
 names_equal x y e = ap name_in (tree_cmp_equal (symbol x) (symbol y) e)
-
-first_or_later : {X : Type 0} (y : X) (ys : List X) (x : X) → Contains (y ∷ ys) x → (y ≡ x) ⊎ Contains ys x
-first_or_later y ys x h = grind arith
-
-clash : {A : Type 0} (b : Bool) → b ≡ true → b ≡ false → A
-clash b p q = absurd cc
 
 -- an assignment gives what it gives
 pub given_is : (f : Assignment) → IsAssignment f → (x : List ℕ) (q : Fraction) → Gives f x q → given f x ≡ q

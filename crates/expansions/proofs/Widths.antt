@@ -4,7 +4,7 @@ use Rattle.expansions.proofs.Shared.{is_eq, Within, IsNamed, count_distinct, is_
 
 -- ---- names
 
-is_same : (x y : List ℕ) → bytes_eq x y ≡ true → x ≡ y
+pub is_same : (x y : List ℕ) → bytes_eq x y ≡ true → x ≡ y
 is_same x y = (bytes_eq-Decides x y).0
 
 same_is : (x y : List ℕ) → x ≡ y → bytes_eq x y ≡ true
@@ -13,11 +13,8 @@ same_is x y = (bytes_eq-Decides x y).1
 false_for : (b : Bool) → (b ≡ true → ⊥) → b ≡ false
 false_for b h = grind arith
 
-clash : {A : Type 0} (b : Bool) → b ≡ true → b ≡ false → A
+pub clash : {A : Type 0} (b : Bool) → b ≡ true → b ≡ false → A
 clash b p q = absurd cc
-
-or_is : (a b : Bool) → (a || b) ≡ true → a ≡ false → b ≡ true
-or_is a b h e = grind arith
 
 pub contained_among : (ns : List (List ℕ)) (x : List ℕ) → Contains ns x → is_among x ns ≡ true
 contained_among [] x (k, l, e) = absurd (omega arith)

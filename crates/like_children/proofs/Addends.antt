@@ -1,17 +1,15 @@
 -- The addends of terms, of multiples of terms, and of sums.
-use Rattle.std.proofs.{Common.{◌≡◌, ◌≢◌, ◌≤◌, ◌⊎◌, inl, inr, [], ◌∷◌, Bool, true, false, if◌then◌else◌, refl, sym, ap, ◌∙◌, subst, arith, append-nil, map, one-mul}, lemmas.Bool.{true≢false}}
-use Rattle.calc_algebra.proofs.{NumberClasses.{one_not_zero}, NumberLaws.{number_test, term_words}, InverseLaws.{product_not_zero}, MeaningLaws.{Same-sym}, TermLaws.{Same-refl, zero_term}}
-use Rattle.calc_algebra.specs.{Numbers.{AreTerms, IsNumber, is_number, natural_of, terms_of, value}, Reduced.{HasForm, IsProductForm, IsSumForm, NoneIs, Split, num_one, number_terms, other_terms}}
-use Rattle.calc_algebra.specs.{Reduced.{part_of, product_tree, split_product}, Surds.{Surd, surd_of, surd_one, surd_scale, surd_times, term, term_times}, SquareClasses.{Same}}
-use Rattle.calc_measures.specs.Loads.{has_coefficient}
-use Rattle.calc_terms.proofs.FractionFacts.{one_is, zero_test, zero_is}
-use Rattle.calc_terms.specs.{Fractions.{Fraction, is_one_fraction, one_fraction, times, zero_fraction, is_zero_fraction}, Trees.{AllParts, AllPartsOf, Tree, Trees, add, append, count, is_add, more}}
-use Rattle.calc_terms.specs.Trees.{mult, none, num, root}
-use Rattle.coefficients.proofs.{Coefficients.{leading_factors, product_form_of}, Factors.{AreFactors, factors_monic, factors_of_tree, monic_coefficient, monic_no_number, monic_part, monic_parts}}
-use Rattle.coefficients.proofs.{Factors.{no_split, none_leads, spliced_split}, NumberMultiples.{IsFactor, not_one_is, number_scaled, terms-scaled, times_one}, SumMultiples.{number_term}}
-use Rattle.coefficients.proofs.{TermMultiples.{multiple, behind_none, behind_parts, unled}, Splits.{IsCoefficient, Leads, in_front}, Forms.{no_term, term_test}}
-use Rattle.coefficients.specs.{Coefficients.{IsMonic, coefficient_of, factors_of, spliced}, Multiples.{mapped, rational_times_number, rational_times_sum, rational_times_term}}
-use Rattle.tree_bits.specs.{Factors.{distributed}, HeldTrees.{Addend, addend, addend_of, addends, addends_of}}
+use Rattle.like_children.proofs.Shared.{◌≡◌, ◌≢◌, ◌≤◌, ◌⊎◌, inl, inr, [], ◌∷◌, Bool, true, false, if◌then◌else◌, refl, sym, ap, ◌∙◌, subst, arith, append-nil, map, one-mul, true≢false, one_not_zero}
+use Rattle.like_children.proofs.Shared.{number_test, term_words, product_not_zero, Same-sym, Same-refl, zero_term, AreTerms, IsNumber, natural_of, terms_of, value, HasForm, IsProductForm, IsSumForm}
+use Rattle.like_children.proofs.Shared.{NoneIs, Split, num_one, number_terms, other_terms, part_of, product_tree, split_product, Surd, surd_of, surd_one, surd_scale, surd_times, term, term_times}
+use Rattle.like_children.proofs.Shared.{Same, has_coefficient, one_is, zero_test, zero_is, Fraction, is_one_fraction, one_fraction, times, zero_fraction, is_zero_fraction, AllParts, AllPartsOf, Tree}
+use Rattle.like_children.proofs.Shared.{Trees, add, append, count, is_add, more, mult, none, num, root, leading_factors, product_form_of, AreFactors, factors_monic, factors_of_tree, monic_coefficient}
+use Rattle.like_children.proofs.Shared.{monic_no_number, monic_part, monic_parts, no_split, none_leads, spliced_split, IsFactor, not_one_is, number_scaled, terms-scaled, number_term, times_one}
+use Rattle.like_children.proofs.Shared.{multiple, behind_none, behind_parts, unled, IsCoefficient, in_front, no_term, term_test, IsMonic, coefficient_of, factors_of, spliced, mapped}
+use Rattle.like_children.proofs.Shared.{rational_times_number, rational_times_sum, rational_times_term, distributed, Addend, addend, addend_of, addends, addends_of}
+use Rattle.surd_bits.proofs.Rooted.{as_rational as rational_value}
+use Rattle.calc_algebra.specs.Numbers.{is_number}
+use Rattle.coefficients.proofs.Splits.{Leads}
 
 -- ---- which terms make the Number
 
@@ -32,16 +30,6 @@ other_terms-terms (more t ts) us h k = ap (λ b. if b then other_terms (append t
 
 pub one_value : value num_one ≡ surd_one
 one_value = ap (λ (b : Bool). if b then [] else surd_of one_fraction) (zero_test one_fraction one_not_zero)
-
-pub rational_value : (q : Fraction) → q ≢ zero_fraction → value (num q) ≡ surd_of q
-rational_value q h = ap (λ (b : Bool). if b then [] else surd_of q) (zero_test q h)
-
-pub num_value : (q : Fraction) → Same (value (num q)) (surd_of q)
-num_value q = by (is_zero_fraction q) refl
-  where
-    by : (b : Bool) → is_zero_fraction q ≡ b → Same (if b then [] else surd_of q) (surd_of q)
-    by true e = subst (λ (x : Fraction). Same [] (surd_of x)) (sym (zero_is q e)) (Same-sym (zero_term 1))
-    by false e = Same-refl (surd_of q)
 
 -- the factors of a product's part are those behind its coefficient
 factors_behind : (ts : Trees) → AllParts HasForm (mult ts) → is_number (mult ts) ≡ false → factors_of (product_tree (split_product ts).factors) ≡ (split_product ts).factors

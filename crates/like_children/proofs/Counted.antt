@@ -1,15 +1,9 @@
 -- What trees count that change places, and a coefficient before a part.
-use Rattle.std.proofs.{Common.{◌≡◌, inl, inr, ℕ, ◌+◌, ◌≤◌, max, Bool, true, false, not, if◌then◌else◌, refl, ap, ◌∙◌, sym, arith}, lemmas.Bool.{true≢false}}
-use Rattle.calc_algebra.proofs.{MeaningRewrites.{Permuted, permuted_more, permuted_none, permuted_swap, permuted_trans}, NumberLaws.{number_test}}
-use Rattle.calc_algebra.specs.{Numbers.{IsNumber, is_number}, Reduced.{HasForm, NoneIs}}
-use Rattle.calc_room.specs.Counts.{counted, counted_among}
-use Rattle.calc_terms.proofs.FractionFacts.{no_zero}
-use Rattle.calc_terms.specs.{Fractions.{Fraction, is_one_fraction, is_zero_fraction, zero_fraction}, Trees.{AllPartsOf, Tree, Trees, add, is_add, more, none, num}}
-use Rattle.coefficients.proofs.{Coefficients.{monic_sum}, Factors.{monic_parts}, NumberMultiples.{IsFactor, not_one_is}, SumMultiples.{EachTerm, each_term, number_term}, TermMultiples.{multiple}}
-use Rattle.coefficients.specs.{Coefficients.{IsMonic, factors_of, rational_before, spliced, with_coefficient}, Multiples.{mapped, rational_times_term}}
-use Rattle.tree_room.proofs.{Coefficients.{same_parts}, Counts.{appended, at_most_itself, counts_one}}
-use Rattle.tree_room.specs.Handed.{HasSamePart, HaveSameParts}
-use Rattle.calc_room.proofs.TreeBytes.{term_counts}
+use Rattle.like_children.proofs.Shared.{◌≡◌, inl, inr, ℕ, ◌+◌, ◌≤◌, max, Bool, true, false, not, if◌then◌else◌, refl, ap, ◌∙◌, sym, arith, true≢false, Permuted, permuted_more, permuted_none}
+use Rattle.like_children.proofs.Shared.{permuted_swap, permuted_trans, number_test, IsNumber, is_number, HasForm, NoneIs, counted, counted_among, no_zero, Fraction, is_one_fraction, is_zero_fraction}
+use Rattle.like_children.proofs.Shared.{zero_fraction, AllPartsOf, Tree, Trees, add, is_add, more, none, num, monic_sum, monic_parts, IsFactor, not_one_is, EachTerm, each_term, number_term, multiple}
+use Rattle.like_children.proofs.Shared.{IsMonic, factors_of, rational_before, spliced, with_coefficient, mapped, rational_times_term, same_parts, appended, at_most_itself, counts_one, HasSamePart}
+use Rattle.like_children.proofs.Shared.{HaveSameParts, term_counts}
 
 -- what a tree counts among others
 abbrev pub counted_in : Tree → ℕ

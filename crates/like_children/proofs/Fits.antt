@@ -1,23 +1,13 @@
 -- A rational goes into each term of a sum without an overflow, where what the sum becomes has few bits.
-use Rattle.calc_algebra.proofs.{NumberClasses.{AreProper, terms_proper, value_proper}, NumberLaws.{number_words}}
-use Rattle.calc_algebra.specs.{Numbers.{term_of, terms_of}, Reduced.{split, split_product, HasForm, num_one}, Surds.{term, surd_of, term_times, surd_times}}
-use Rattle.calc_bits.proofs.Parts.{held_left, held_right}
-use Rattle.calc_bits.specs.Masses.{IsHeld, mass}
-use Rattle.calc_terms.proofs.FractionFacts.{no_zero}
-use Rattle.calc_terms.specs.{Fits.{fraction_fits, operation_fits}, Fractions.{times, zero_fraction, is_zero_fraction}, Rat.{value_of}}
-use Rattle.coefficients.proofs.{Coefficients.{monic_sum, taken}, Factors.{monic_parts}, Forms.{parts_reduced, parts_defined}}
-use Rattle.coefficients.specs.{Coefficients.{coefficient_of, IsMonic}, Overflows.{Leads, LeadsIn, LeadsTerm, NamesPut}}
-use Rattle.like_children.proofs.{Addends.{IsSplit, one_value, rational_value, split_sum, sum_addends}, Shared.{AreTerms, IsTerm, value, NoneIs, Surd, is_number, HasFewBits, Fraction, AllParts}}
-use Rattle.like_children.proofs.Shared.{AllPartsOf, Tree, Trees, add, append, more, mult, none, num, Overflow, Bool, List, [], ap, arith, false, if◌then◌else◌, inl, inr, refl, subst, sym, true, ℕ}
-use Rattle.like_children.proofs.Shared.{◌+◌, ◌∙◌, ◌∷◌, ◌≡◌, ◌≤◌, ◌⊎◌, true≢false}
-use Rattle.number_forms.proofs.RationalBits.{rational_product_fits}
-use Rattle.rational128.specs.Refusals.{operation_of}
-use Rattle.std.proofs.{Common.{◌≢◌, ◌++◌, map, ◌*◌, ◌^◌}, lemmas.Bool.{not_from_false}, lemmas.Nat.{mul-le, pow_pos}}
-use Rattle.surd_bits.proofs.ProductsFit.{coefficients_fit}
-use Rattle.tree_bits.proofs.{Joined.{addend_left_out}, Numbers.{nothing_held}}
-use Rattle.tree_bits.specs.{Children.{IsSumHeld}, Factors.{distributed}, HeldTrees.{Addend, addend, addend_of, addends, addends_of, AreWeighted, more_weighted}, Rows.{AreFewBits}}
-use Rattle.tree_bits.specs.Weighted.{Weighted, lows, weighted_mass, AreHeld}
-use Rattle.tree_handles.specs.Causes.{Overflows}
+use Rattle.like_children.proofs.Shared.{AreProper, terms_proper, value_proper, number_words, term_of, terms_of, split, split_product, HasForm, num_one, term, surd_of, term_times, surd_times}
+use Rattle.like_children.proofs.Shared.{held_left, held_right, IsHeld, mass, no_zero, fraction_fits, operation_fits, times, zero_fraction, is_zero_fraction, value_of, monic_sum, taken, monic_parts}
+use Rattle.like_children.proofs.Shared.{parts_reduced, parts_defined, coefficient_of, IsMonic, LeadsIn, LeadsTerm, NamesPut, AreTerms, IsTerm, value, NoneIs, Surd, is_number, HasFewBits, Fraction}
+use Rattle.like_children.proofs.Shared.{AllParts, AllPartsOf, Tree, Trees, add, append, more, mult, none, num, Overflow, Bool, List, [], ap, arith, false, if◌then◌else◌, inl, inr, refl, subst, sym}
+use Rattle.like_children.proofs.Shared.{true, ℕ, ◌+◌, ◌∙◌, ◌∷◌, ◌≡◌, ◌≤◌, ◌⊎◌, true≢false, rational_product_fits, operation_of, ◌≢◌, ◌++◌, map, ◌*◌, ◌^◌, not_from_false, mul-le, pow_pos}
+use Rattle.like_children.proofs.Shared.{coefficients_fit, addend_left_out, nothing_held, IsSumHeld, distributed, Addend, addend, addend_of, addends, addends_of, AreWeighted, more_weighted, AreFewBits}
+use Rattle.like_children.proofs.{Shared.{Weighted, lows, weighted_mass, AreHeld, Overflows}, Addends.{IsSplit, one_value, split_sum, sum_addends}}
+use Rattle.coefficients.specs.Overflows.{Leads}
+use Rattle.surd_bits.proofs.Rooted.{as_rational as rational_value}
 
 -- ---- a rational among the coefficients of terms
 

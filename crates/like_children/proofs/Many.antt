@@ -1,4 +1,5 @@
 -- Roots that are sums or products, from call to call.
+use Rattle.tree_handles.proofs.FreeBytes.{beside_bytes as handed_bytes}
 use Rattle.like_children.proofs.Shared.{ℕ, ◌+◌, ◌≤◌, ◌<◌, ◌≡◌, true, refl, sym, ap, ◌∙◌, subst, arith, Tree, Trees, count, size, sizes, IsSumOrProduct, State, free_of}
 use Rattle.like_children.proofs.Shared.{removed, nth, compound, plain, children_of, takes_kind, Forest, arity, kids, bytes_in, root_count, tree_nth, without_nth, IsOnce, IsHanded, Represents, Ends}
 use Rattle.like_children.proofs.Shared.{Gives, kids_of, root_tree, without_root, put, Stands, forest, all-tree_nth, arity-tree_nth, gives, kids_of_root, size-plain, root_arity, Kind, IsOver, over_sum}
@@ -63,12 +64,6 @@ out {i = i} {ts = ts} {f = f} n m l e =
     record { now = now; are = r; given = gives {Told = λ u. u ≡ nth n ts} e (represents_nth n (place_within n m l) m.over.kids) refl; left = many_end (many_put now m r) e }
 
 -- ---- bytes
-
-pub all_bytes : (s : State) → Stands s → free_of s + bytes_in (forest s) ≡ s.size
-all_bytes s st = let fits : used s.nodes ≤ s.size = st.pool.fits in omega (arith, fits, used_forest s st)
-
-pub handed_bytes : (i : ℕ) (f : Forest) → IsHanded i f → bytes_in f ≡ bytes_in (without_root i f) + size (plain (root_tree i f))
-handed_bytes i f h = omega (arith, bytes_without i f h.root, size-plain (root_tree i f) (root_arity i f h.root) h.whole)
 
 over_bytes : {i : ℕ} {ts : Trees} {f : Forest} (k : Kind) → ((n : ℕ) → takes_kind k n ≡ true) → IsOver k i ts f → bytes_in f ≡ bytes_in (without_root i f) + size (compound k ts)
 over_bytes {i = i} {f = f} k any o = handed_bytes i f (over_handed o (any _)) ∙ ap (λ (t : Tree). bytes_in (without_root i f) + size t) (over_plain o (any _))

@@ -1,8 +1,7 @@
 -- The Numbers among trees, and the others.
 use Rattle.like_children.proofs.Shared.{ℕ, zero, suc, ◌<◌, ◌≡◌, Bool, true, false, if◌then◌else◌, refl, sym, ap, ◌∙◌, arith, and_from, is_number, are_numbers, NoneIs, Permuted, permuted_none}
 use Rattle.like_children.proofs.Shared.{permuted_more, permuted_trans, Permuted-sym, Permuted-to_front, Tree, Trees, none, more, append, count, removed, nth, numbers_in, others_in, IsNextNumber}
-pub use Rattle.coefficients.proofs.Loops.{append_assoc as trees_assoc, count_append}
-pub use Rattle.tree_handles.proofs.Given.{append-none as append_none}
+pub use Rattle.calc_terms.proofs.SmallLaws.{append_assoc as trees_assoc, count_append, append_none}
 pub use Rattle.std.proofs.lemmas.Bool.{and_parts as both_true}
 
 -- ---- the first one

@@ -1,11 +1,7 @@
 -- What holds of each part of a coefficient and of a tree holds of each part of both put together.
 use Rattle.like_children.proofs.Shared.{arith, Fraction, Tree, num, add, mult, Trees, none, more, append, AllParts, AllPartsOf, product_tree, Permuted, permuted_none, permuted_more, permuted_swap}
 use Rattle.like_children.proofs.Shared.{permuted_trans, factors_of, spliced, rational_before, with_coefficient, mapped, rational_times, rational_times_term, AllPartsOf-append, is_reduced, and_parts}
-use Rattle.like_children.proofs.Shared.{and_from, ◌≡◌, true, false, refl}
-use Rattle.calc_algebra.specs.Reduced.{are_reduced, HasForm}
-use Rattle.calc_terms.specs.Trees.{has_undef, is_undef}
-use Rattle.std.proofs.lemmas.Bool.{or_parts}
-use Rattle.coefficients.proofs.Forms.{reduced_parts, parts_reduced}
+use Rattle.like_children.proofs.Shared.{and_from, ◌≡◌, true, false, refl, are_reduced, HasForm, has_undef, is_undef, or_parts, reduced_parts, parts_reduced}
 
 -- ---- trees that change places, or stand before others
 

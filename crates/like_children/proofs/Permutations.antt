@@ -1,10 +1,6 @@
 -- Trees that change places.
-use Rattle.std.specs.Prelude.{IsPermutation}
-use Rattle.std.proofs.{Common.{◌≡◌, [], ◌∷◌, Bool, refl, ap, ◌∙◌, subst, arith, take}, lemmas.List.Sorted.{IsPermutation-refl, IsPermutation-cons, IsPermutation-middle, IsPermutation-trans}}
-use Rattle.calc_algebra.proofs.MeaningRewrites.{Permuted, permuted_more, permuted_none, permuted_swap, permuted_trans, permuted_trees, trees_of}
-use Rattle.calc_algebra.specs.Reduced.{NoneIs}
-use Rattle.calc_terms.specs.Trees.{Tree, Trees, count, more, none}
-use Rattle.node_order.specs.Sorting.{list_of, IsSorting}
+use Rattle.like_children.proofs.Shared.{IsPermutation, ◌≡◌, [], ◌∷◌, Bool, refl, ap, ◌∙◌, subst, arith, take, IsPermutation-refl, IsPermutation-cons, IsPermutation-middle, IsPermutation-trans}
+use Rattle.like_children.proofs.Shared.{Permuted, permuted_more, permuted_none, permuted_swap, permuted_trans, permuted_trees, trees_of, NoneIs, Tree, Trees, count, more, none, list_of, IsSorting}
 use Rattle.like_children.proofs.Shared.{append}
 
 -- ---- the same trees in another order

@@ -1,11 +1,6 @@
 -- Trees among others by their places.
-use Rattle.std.proofs.Common.{ℕ, zero, suc, ◌<◌, ◌≤◌, ◌+◌, ◌≡◌, refl, ap, arith}
-use Rattle.calc_algebra.proofs.MeaningRewrites.{Permuted, Permuted-refl, permuted_more, permuted_swap, permuted_trans}
-use Rattle.calc_terms.specs.Trees.{Tree, Trees, count, more, none}
-use Rattle.number_forms.specs.Sums.{removed}
-use Rattle.tree_handles.specs.Expressions.{inserted, nth}
-use Rattle.like_children.proofs.Shared.{is_reduced, and_from, and_parts, true}
-use Rattle.calc_algebra.specs.Reduced.{are_reduced}
+use Rattle.like_children.proofs.Shared.{ℕ, zero, suc, ◌<◌, ◌≤◌, ◌+◌, ◌≡◌, refl, ap, arith, Permuted, Permuted-refl, permuted_more, permuted_swap, permuted_trans, Tree, Trees, count, more, none}
+use Rattle.like_children.proofs.Shared.{removed, inserted, nth, is_reduced, and_from, and_parts, true, are_reduced}
 
 -- ---- one is taken out, or put in
 
@@ -38,12 +33,6 @@ pub taken_permuted : (n : ℕ) (ts : Trees) → n < count ts → Permuted ts (mo
 taken_permuted n none h = absurd (omega arith)
 taken_permuted zero (more t ts) h = Permuted-refl (more t ts)
 taken_permuted (suc n) (more t ts) h = permuted_trans (permuted_more (taken_permuted n ts (omega arith))) permuted_swap
-
-pub nth_removed : (i j : ℕ) (ts : Trees) → i < j → nth i (removed j ts) ≡ nth i ts
-nth_removed i j none h = refl
-nth_removed i zero (more t ts) h = absurd (omega arith)
-nth_removed zero (suc j) (more t ts) h = refl
-nth_removed (suc i) (suc j) (more t ts) h = nth_removed i j ts (omega arith)
 
 pub nth_behind_removed : (i j : ℕ) (ts : Trees) → i ≤ j → nth j (removed i ts) ≡ nth (suc j) ts
 nth_behind_removed i j none h = refl

@@ -4,9 +4,10 @@ use Rattle.like_children.proofs.Shared.{count, size, sizes, AllParts, AllPartsOf
 use Rattle.like_children.proofs.Shared.{State, free_of, IsNumberOf, removed, Overflow, nth, plain, children_of, Forest, bytes_in, kids, tree_nth, without_nth, tree_of, IsHanded, Ends, Gives}
 use Rattle.like_children.proofs.Shared.{KeepsFront, has_root, root_tree, without_root, put, Stands, forest, KeepsRefusals, NumberFault, behind_first, behind_later, behind_new, front_same, front_end}
 use Rattle.like_children.proofs.Shared.{front_put, front_without, front_after_two, gives_as, given_apart, given_handed, given_other, given_rest, given_same, given_told, given_without, handed_by_put}
-use Rattle.like_children.proofs.{Shared.{last_tree, other_apart, eqb-sym, root-put, tree-put, tree-without, without-put, put-put, put-same, Surd, HasFewBits, IsNoLarger}, Folds.{no_numbers}}
-use Rattle.like_children.proofs.{Kids.{sizes_taken}, Many.{IsMany, IsOut, out, many, many_end, many_put, all_bytes, handed_bytes, put_bytes}, NumbersIn.{others_removed, numbers_removed}}
-use Rattle.like_children.proofs.NumbersIn.{no_numbers_none, no_numbers_others, append_one, append_none}
+use Rattle.like_children.proofs.Shared.{last_tree, other_apart, eqb-sym, root-put, tree-put, tree-without, without-put, put-put, put-same, Surd, HasFewBits, IsNoLarger, all_bytes}
+use Rattle.like_children.proofs.{Folds.{no_numbers}, Kids.{sizes_taken}, Many.{IsMany, IsOut, out, many, many_end, many_put, put_bytes}, NumbersIn.{others_removed, numbers_removed, no_numbers_none}}
+use Rattle.like_children.proofs.NumbersIn.{no_numbers_others, append_one, append_none}
+use Rattle.tree_handles.proofs.FreeBytes.{beside_bytes as handed_bytes}
 
 pub parts_taken : (P : Tree → Type 0) (n : ℕ) (ts : Trees) → n < count ts → AllPartsOf P ts → AllParts P (nth n ts) × AllPartsOf P (removed n ts)
 parts_taken P n none l h = absurd (omega arith)

@@ -1,7 +1,6 @@
 -- What is written of a node without children.
-use Rattle.line_text.proofs.{Shared.{◌≡◌, ℕ, ◌^◌, ◌<◌, List, nat_abs, sym, ap, subst, arith, Fraction, lowest, Holds, lowest_parts, Ratio, IsRat, decimal}, Decimals.decimal_is}
-use Rattle.std.proofs.{Common.{ℤ, FitsSigned}, lemmas.Int.ints}
-use Rattle.std.specs.Int.{w128, cast_signed, cast_unsigned}
+use Rattle.line_text.proofs.Shared.{◌≡◌, ℕ, ◌^◌, ◌<◌, List, nat_abs, sym, ap, subst, arith, Fraction, lowest, Holds, lowest_parts, Ratio, IsRat, decimal, ℤ, FitsSigned, ints, w128, cast_signed}
+use Rattle.line_text.proofs.{Shared.{cast_unsigned}, Decimals.{decimal_is}}
 use Rattle.std.specs.Fmt as fmt
 
 signed_fits : (z : ℤ) → nat_abs z < 2 ^ 127 → FitsSigned w128 z

@@ -1,12 +1,9 @@
 -- A text has at most twice the bytes of the nodes of its tree, with room for a sign and parentheses.
-use Rattle.line_text.proofs.Shared.{ℕ, ◌+◌, ◌*◌, ◌^◌, ◌<◌, ◌≤◌, ◌≡◌, refl, List, ◌++◌, length, Bool, true, false, nat_abs, codes, arith, length-append}
-use Rattle.line_text.proofs.Shared.{ltb-true, decimal, first_of_sum, later_of_sum, first_of_product, left_of_quotient, later_of_product, base, exponent, admits, at_place, in_parentheses, text}
-use Rattle.line_text.proofs.Shared.{text_of_sum, text_of_terms, text_of_product, text_of_factors, IsWritable, AreWritable, times_sign, Tree, num, symbol, undef, add, mult, power, root, neg, sub}
-use Rattle.line_text.proofs.{Shared.{div, Trees, none, more, size, sizes, AllPartsOf, Fraction, IsFitting, HasFittingNumbers, is_short, spelled}, Decimals.{decimal_short, decimal_shorter}}
-use Rattle.std.proofs.Common.{cond}
+use Rattle.line_text.proofs.Shared.{ℕ, ◌+◌, ◌*◌, ◌^◌, ◌<◌, ◌≤◌, ◌≡◌, refl, List, ◌++◌, length, Bool, true, false, nat_abs, codes, arith, length-append, ltb-true, decimal, first_of_sum, later_of_sum}
+use Rattle.line_text.proofs.Shared.{first_of_product, left_of_quotient, later_of_product, base, exponent, admits, at_place, in_parentheses, text, text_of_sum, text_of_terms, text_of_product}
+use Rattle.line_text.proofs.Shared.{text_of_factors, IsWritable, AreWritable, times_sign, Tree, num, symbol, undef, add, mult, power, root, neg, sub, div, Trees, none, more, size, sizes, AllPartsOf}
+use Rattle.line_text.proofs.{Shared.{Fraction, IsFitting, HasFittingNumbers, is_short, spelled, cond, size_by_form, short_magnitude}, Decimals.{decimal_short, decimal_shorter}}
 use Rattle.calc_language.specs.Texts.{Place}
-use Rattle.calc_terms.specs.Kind.{size_by_form}
-use Rattle.calc_terms.proofs.ShortForm.{short_magnitude}
 use Rattle.calc_terms.specs.declared.kind.Kind.TheVariants as kind
 
 -- a tree in its place has two parentheses more at most

@@ -1,15 +1,13 @@
 -- What is written of a face is its text.
-use Rattle.line_text.proofs.Shared.{◌≡◌, ◌∙◌, ℕ, ◌+◌, List, [], ◌∷◌, ◌++◌, Bool, true, false, nat_abs, codes, if◌then◌else◌, refl, sym, ap, arith, append_assoc}
-use Rattle.line_text.proofs.Shared.{eqb-true, Kind, Payload, rational, named, bare, kind_of_payload, IsPayload, root_sign, later_of_sum, left_of_quotient, later_of_product, base, exponent}
-use Rattle.line_text.proofs.Shared.{level, admits, admits_signed, at_place, in_parentheses, text, text_of_sum, text_of_terms, text_of_product, text_of_factors, Tree, num, symbol, undef, add}
-use Rattle.line_text.proofs.Shared.{mult, power, root, neg, sub, div, Trees, none, more, root_kind, is_sub, is_div, children_of, State, holds, tree_at, kids_of, forest, root_payload, Visit}
-use Rattle.line_text.proofs.Shared.{visit_of, visit_at, Label, Forest, empty, tree, arity, flatten, node_of, AllNodes, AllExpressions, takes, grown, plain, plains, alone, grown_whole, Place}
-use Rattle.line_text.proofs.Shared.{WholeText, FirstOfSum, LaterOfSum, FirstOfProduct, LaterOfProduct, rule_of, sign_before, first_place, next_place, level_of, is_sub_kind, is_div_kind}
-use Rattle.line_text.proofs.Shared.{is_neg_kind, kind_behind_opposites, deciding_kind, admits_kind, skips_opposites, opening, leaf_bytes, parentheses, kind_closing, closing_of, first_kind}
-use Rattle.line_text.proofs.{Shared.{deciding, is_admitted, written, decimal}, Leaves.numerator_is, Valid.HoldsPayload}
-use Rattle.std.proofs.Common.{map, nat_le, append-nil}
-use Rattle.calc_terms.specs.{Node.Node, Trees.count}
-use Rattle.tree_handles.proofs.{Parts.at, Plains.count-plains}
+use Rattle.line_text.proofs.Shared.{◌≡◌, ◌∙◌, ℕ, ◌+◌, List, [], ◌∷◌, ◌++◌, Bool, true, false, nat_abs, codes, if◌then◌else◌, refl, sym, ap, arith, append_assoc, eqb-true, Kind, Payload, rational}
+use Rattle.line_text.proofs.Shared.{named, bare, kind_of_payload, IsPayload, root_sign, later_of_sum, left_of_quotient, later_of_product, base, exponent, level, admits, admits_signed, at_place}
+use Rattle.line_text.proofs.Shared.{in_parentheses, text, text_of_sum, text_of_terms, text_of_product, text_of_factors, Tree, num, symbol, undef, add, mult, power, root, neg, sub, div, Trees, none}
+use Rattle.line_text.proofs.Shared.{more, root_kind, is_sub, is_div, children_of, State, holds, tree_at, kids_of, forest, root_payload, Visit, visit_of, visit_at, Label, Forest, empty, tree, arity}
+use Rattle.line_text.proofs.Shared.{flatten, node_of, AllNodes, AllExpressions, takes, grown, plain, plains, alone, grown_whole, Place, WholeText, FirstOfSum, LaterOfSum, FirstOfProduct}
+use Rattle.line_text.proofs.Shared.{LaterOfProduct, rule_of, sign_before, first_place, next_place, level_of, is_sub_kind, is_div_kind, is_neg_kind, kind_behind_opposites, deciding_kind, admits_kind}
+use Rattle.line_text.proofs.Shared.{skips_opposites, opening, leaf_bytes, parentheses, kind_closing, closing_of, first_kind, deciding, is_admitted, written, decimal, map, nat_le, Node, count, at}
+use Rattle.line_text.proofs.{Shared.{count-plains}, Leaves.{numerator_is}, Valid.{HoldsPayload}}
+use Rattle.std.proofs.Common.{append-nil}
 use Rattle.calc_terms.specs.declared.kind.Kind.TheVariants as kind
 
 -- ---- the text of a tree, by its root
@@ -80,13 +78,13 @@ leaf_is (bare k) ts h p = leaf_of_kind k ts h
 
 -- ---- parentheses
 
-level_is : (t : Tree) → level t ≡ level_of (root_kind t)
+pub level_is : (t : Tree) → level t ≡ level_of (root_kind t)
 level_is t = grind arith
 
 is_sub_is : (t : Tree) → is_sub t ≡ is_sub_kind (root_kind t)
 is_sub_is t = grind arith
 
-is_div_is : (t : Tree) → is_div t ≡ is_div_kind (root_kind t)
+pub is_div_is : (t : Tree) → is_div t ≡ is_div_kind (root_kind t)
 is_div_is t = grind arith
 
 signed_is : (t : Tree) → admits_signed t ≡ nat_le 3 (level_of (kind_behind_opposites t))

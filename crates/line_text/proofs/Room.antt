@@ -1,10 +1,8 @@
 -- What is written of a tree has at most twice the bytes of its nodes.
-use Rattle.line_text.proofs.Shared.{◌≡◌, ℕ, ◌+◌, ◌-◌, ◌*◌, ◌≤◌, List, [], ◌++◌, if◌then◌else◌, length, nat_abs, Bool, true, codes, refl, ap, arith}
-use Rattle.line_text.proofs.Shared.{length-append, Kind, Payload, rational, named, bare, kind_of_payload, size_of_payload, IsPayload, lowest, State, Forest, empty, tree, AllNodes, node_of}
-use Rattle.line_text.proofs.Shared.{nodes_in, bytes_in, holds, tree_at, kids_of, Stands, forest, Place, WholeText, sign_before, opening, leaf_bytes, parentheses, closing_of, front_of}
-use Rattle.line_text.proofs.{Shared.{is_admitted, written, first_place, next_place, is_short, live_at, decimal, spelled}, Leaves.numerator_is, Lengths.number_text, Valid.{HoldsPayload, valid}}
-use Rattle.std.proofs.lemmas.List.{length-take-le}
-use Rattle.node_pool.proofs.Sizes.{size_from}
+use Rattle.line_text.proofs.Shared.{◌≡◌, ℕ, ◌+◌, ◌-◌, ◌*◌, ◌≤◌, List, [], ◌++◌, if◌then◌else◌, length, nat_abs, Bool, true, codes, refl, ap, arith, length-append, Kind, Payload, rational, named, bare}
+use Rattle.line_text.proofs.Shared.{kind_of_payload, size_of_payload, IsPayload, lowest, State, Forest, empty, tree, AllNodes, node_of, nodes_in, bytes_in, holds, tree_at, kids_of, Stands, forest}
+use Rattle.line_text.proofs.Shared.{Place, WholeText, sign_before, opening, leaf_bytes, parentheses, closing_of, front_of, is_admitted, written, first_place, next_place, is_short, live_at, decimal}
+use Rattle.line_text.proofs.{Shared.{spelled, length-take-le, size_from}, Leaves.{numerator_is}, Lengths.{number_text}, Valid.{HoldsPayload, valid}}
 
 opening_short : (p : Place) (b : Bool) → length (opening p b) ≤ 5
 opening_short p b = omega (arith, sign_short p, one_short b, length-append (sign_before p) (if b then [] else codes "("))

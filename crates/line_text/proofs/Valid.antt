@@ -1,8 +1,6 @@
 -- What the nodes of a tree in a pool hold is valid.
-use Rattle.line_text.proofs.Shared.{◌≡◌, ◌∙◌, ℕ, ◌∷◌, ◌++◌, true, subst, sym, IsPayload, State, Label, Forest, empty, tree, flatten, node_of, AllNodes, holds, tree_at}
-use Rattle.line_text.proofs.Shared.{kids_of, Stands, forest, live_at}
-use Rattle.node_pool.specs.Nodes.{AreNodes}
-use Rattle.node_pool.proofs.Sizes.{AreNodes-left, AreNodes-right}
+use Rattle.line_text.proofs.Shared.{◌≡◌, ◌∙◌, ℕ, ◌∷◌, ◌++◌, true, subst, sym, IsPayload, State, Label, Forest, empty, tree, flatten, node_of, AllNodes, holds, tree_at, kids_of, Stands, forest}
+use Rattle.line_text.proofs.Shared.{live_at, AreNodes, AreNodes-left, AreNodes-right}
 
 abbrev pub HoldsPayload : Label → ℕ → Type 0
 HoldsPayload l n = IsPayload l.payload

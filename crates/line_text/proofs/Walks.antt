@@ -1,10 +1,9 @@
 -- A walk over the nodes of a tree that knows what is still to be written.
-use Rattle.line_text.proofs.Shared.{◌≡◌, ◌∙◌, ℕ, suc, ◌+◌, ◌-◌, ◌<◌, ◌≤◌, List, [], ◌∷◌, ◌++◌, length, false, refl, sym, ap, subst, arith, append_assoc}
-use Rattle.line_text.proofs.Shared.{length-append, Content, kind_of_payload, Visit, Label, Forest, empty, tree, join, arity, kids, root_payload, nodes_in, tree_at, visits_of, AreFound}
-use Rattle.line_text.proofs.Shared.{join-empty, IsSeen, found-join, visit_here, visits_left, visits_length, Pending, WholeText, front_of, is_admitted, written, owed_bytes, parentheses}
-use Rattle.line_text.proofs.{Shared.{closing_of, owes, pending_below, first_place, next_place}, Room.{closing_few, parentheses_length}}
-use Rattle.std.proofs.{Common.append-nil, lemmas.Bool.Decides.nat_tests}
-use Rattle.tree_handles.proofs.Visiting.{seen}
+use Rattle.line_text.proofs.Shared.{◌≡◌, ◌∙◌, ℕ, suc, ◌+◌, ◌-◌, ◌<◌, ◌≤◌, List, [], ◌∷◌, ◌++◌, length, false, refl, sym, ap, subst, arith, append_assoc, length-append, Content, kind_of_payload, Visit}
+use Rattle.line_text.proofs.Shared.{Label, Forest, empty, tree, join, arity, kids, root_payload, nodes_in, tree_at, visits_of, AreFound, join-empty, IsSeen, found-join, visit_here, visits_left}
+use Rattle.line_text.proofs.Shared.{visits_length, Pending, WholeText, front_of, is_admitted, written, owed_bytes, parentheses, closing_of, owes, pending_below, first_place, next_place, nat_tests}
+use Rattle.line_text.proofs.{Shared.{seen}, Room.{closing_few, parentheses_length}}
+use Rattle.std.proofs.Common.{append-nil}
 
 -- what is pending of a node, and the children that it still waits for
 pub record Owed : Type 0 where

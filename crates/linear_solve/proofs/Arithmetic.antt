@@ -1,16 +1,6 @@
 -- Identities of fractions.
-use Rattle.std.proofs.Common.{◌≡◌, sym, ap, ◌∙◌}
-use Rattle.linear_solve.proofs.Shared.{negative_times, times_zero, times_comm, times_assoc, times_plus, zero_plus, one_times, plus_negative, Fraction, plus, times, negative, zero_fraction}
-use Rattle.linear_solve.proofs.Shared.{one_fraction, plus_comm, plus_assoc}
-
-pub plus_both : {a b c d : Fraction} → a ≡ b → c ≡ d → plus a c ≡ plus b d
-plus_both p q = λ i. plus (p i) (q i)
-
-pub plus_zero : (a : Fraction) → plus a zero_fraction ≡ a
-plus_zero a = plus_comm a zero_fraction ∙ zero_plus a
-
-pub times_one : (a : Fraction) → times a one_fraction ≡ a
-times_one a = times_comm a one_fraction ∙ one_times a
+use Rattle.linear_solve.proofs.Shared.{plus_both, plus_zero, ◌≡◌, sym, ap, ◌∙◌, negative_times, times_zero, times_comm, times_assoc, times_plus, zero_plus, one_times, plus_negative, Fraction, plus}
+use Rattle.linear_solve.proofs.Shared.{times, negative, zero_fraction, one_fraction, plus_comm, plus_assoc}
 
 pub plus_exchange : (a b c d : Fraction) → plus (plus a b) (plus c d) ≡ plus (plus a c) (plus b d)
 plus_exchange a b c d =

@@ -1,8 +1,6 @@
 -- Calculations of which an operation may not fit.
-use Rattle.std.proofs.Common.{◌≡◌, ◌<◌, ◌≤◌, ℕ, zero, suc, ◌+◌, List, [], ◌∷◌, ◌++◌, length, take, drop, get_or, map, Bool, if◌then◌else◌, Result, Ok, Err, refl, sym, ap, ◌∙◌, arith}
-use Rattle.std.specs.Prelude.{All}
-use Rattle.linear_solve.proofs.Shared.{take_more, take_all, drop_more, take-append-drop, All-nil, All-cons, All-head, All-tail, All-same, Operation, result_of, Fraction, Misfit, and_then, fitted}
-use Rattle.linear_solve.proofs.Shared.{each}
+use Rattle.linear_solve.proofs.Shared.{◌≡◌, ◌<◌, ◌≤◌, ℕ, zero, suc, ◌+◌, List, [], ◌∷◌, ◌++◌, length, take, drop, get_or, map, Result, Ok, Err, refl, sym, ap, ◌∙◌, arith, All, take_more, take_all}
+use Rattle.linear_solve.proofs.Shared.{drop_more, take-append-drop, All-nil, All-cons, All-head, All-tail, All-same, Operation, result_of, Fraction, Misfit, and_then, fitted, each}
 
 -- ---- one after another
 
@@ -19,9 +17,6 @@ pub ok_is : {A : Type 0} {E : Type 0} (x y : A) → ◌≡◌ {A = Result A E} (
 ok_is x y e = cc
 
 -- ---- one operation
-
-abbrev told : Operation → Fraction → Fraction → Bool → Result Fraction Misfit
-told op a b fits = if fits then Ok (result_of op a b) else Err (record { op = op; a = a; b = b })
 
 pub fitted_is : (op : Operation) (a b r : Fraction) → fitted op a b ≡ Ok r → r ≡ result_of op a b
 fitted_is op a b r e = grind arith

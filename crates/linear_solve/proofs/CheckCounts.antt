@@ -1,10 +1,9 @@
 -- The checks up to an operation that does not fit.
-use Rattle.std.proofs.{Common.{◌≡◌, ◌<◌, ◌≤◌, ℕ, zero, suc, ◌+◌, List, [], ◌∷◌, ◌++◌, length, take, drop, get_or, Result, Ok, Err, refl, sym, ap, ◌∙◌, arith, inl, inr}, lemmas.List.Sums.{sum_by-cons}}
-use Rattle.std.specs.Prelude.{sum_by}
-use Rattle.linear_solve.proofs.Shared.{State, TripsWithin, enumerate_from, cases_eq, length-enumerate_from, take_more, take_all, drop_more, take-append-drop, Tree, undef, add, mult}
-use Rattle.linear_solve.proofs.Shared.{power, root, neg, sub, div, Trees, none, more, count, nodes, nodes_of, Misfit, and_then, each, Rows, difference_of, equation_row, equation_rows, settled}
-use Rattle.linear_solve.proofs.Shared.{settled_up_to, Equation, nodes_of_sides, Names, Side, row_of, rows_of, children_of, nth, checks_behind, checks_of_each, equation_checks, name_checks, row_checks}
-use Rattle.linear_solve.proofs.{Shared.{rows_checks, side_checks, solving_checks, Row, unit, Kind}, Calculations.{both, each_all, each_cons, each_stops, then_err}, EquationRows.{numbered}}
+use Rattle.linear_solve.proofs.Shared.{◌≡◌, ◌<◌, ◌≤◌, ℕ, zero, suc, ◌+◌, List, [], ◌∷◌, ◌++◌, length, take, drop, get_or, Result, Ok, Err, refl, sym, ap, ◌∙◌, arith, inl, inr, sum_by-cons, sum_by}
+use Rattle.linear_solve.proofs.Shared.{State, TripsWithin, enumerate_from, cases_eq, length-enumerate_from, take_more, take_all, drop_more, take-append-drop, Tree, undef, add, mult, power, root, neg}
+use Rattle.linear_solve.proofs.Shared.{sub, div, Trees, none, more, count, nodes, nodes_of, Misfit, and_then, each, Rows, difference_of, equation_row, equation_rows, settled, settled_up_to, Equation}
+use Rattle.linear_solve.proofs.Shared.{nodes_of_sides, Names, Side, row_of, rows_of, children_of, nth, checks_behind, checks_of_each, equation_checks, name_checks, row_checks, rows_checks}
+use Rattle.linear_solve.proofs.{Shared.{side_checks, solving_checks, Row, unit, Kind}, Calculations.{both, each_all, each_cons, each_stops, then_err}, EquationRows.{numbered}}
 use Rattle.linear_solve.proofs.{RowLists.{settled_stops}, Theorem.{no_equation}, TreeLists.{get_or-listed, length-listed, listed}, Walks.{AreMade, rows_listed}}
 
 behind_ok : {A : Type 0} (r : Result A Misfit) (f : A → ℕ) (x : A) → r ≡ Ok x → checks_behind r f ≡ f x

@@ -1,21 +1,10 @@
 -- The entries of rows, and loops over them.
-use Rattle.std.proofs.Common.{◌≡◌, ◌≢◌, ◌<◌, ◌≤◌, ◌↔◌, ℕ, pos, ◌+◌, min, List, [], ◌∷◌, ◌++◌, length, take, get_or, map, false, Result, Ok, Err, IfOk, IfErr, IsErr, sym, ap, ◌∙◌, arith}
-use Rattle.std.specs.Prelude.{zip}
+use Rattle.linear_solve.proofs.Shared.{◌≡◌, ◌≢◌, ◌<◌, ◌≤◌, ◌↔◌, ℕ, pos, ◌+◌, min, List, [], ◌∷◌, ◌++◌, length, take, get_or, map, false, Result, Ok, Err, IfOk, IfErr, IsErr, sym, ap, ◌∙◌, arith, zip}
 use Rattle.linear_solve.proofs.Shared.{length_push, map_more, take_all, length-zip, get_or-zip, Fraction, lowest, plus, times, is_zero_fraction, zero_fraction, one_fraction, ratio_parts, ratio_of}
-use Rattle.linear_solve.proofs.{Shared.{value_of, Overflow, Misfit, each, sum_of, product_of, Row, entry, misfit_of}, Calculations.{each_all, each_more, each_stops}}
-use Rattle.calc_terms.specs.{declared.rat.Rat.{Rat}, Ratio.{Ratio, whole}}
-use Rattle.rational128.specs.Refusals.{DoesNotFit}
+use Rattle.linear_solve.proofs.{Shared.{value_of, Overflow, Misfit, each, sum_of, product_of, Row, entry, misfit_of, Rat, Ratio, whole, DoesNotFit}, Calculations.{each_all, each_more, each_stops}}
 use Rattle.rational128.specs.declared.overflow.Op.TheVariants as op
 
 -- ---- rationals
-
-pub zero_value : (r : Rat) → ratio_of r ≡ whole (pos 0) → value_of r ≡ zero_fraction
-unfolding zero_fraction
-zero_value r e = ap (λ (p : Ratio). lowest p.num p.den) e
-
-pub one_value : (r : Rat) → ratio_of r ≡ whole (pos 1) → value_of r ≡ one_fraction
-unfolding one_fraction
-one_value r e = ap (λ (p : Ratio). lowest p.num p.den) e
 
 -- what an operation answers
 abbrev pub rat_told : Result Rat Overflow → Result Fraction Misfit

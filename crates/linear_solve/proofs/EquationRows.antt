@@ -1,9 +1,7 @@
 -- The rows of equations, one after another.
-use Rattle.std.proofs.Common.{◌≡◌, ◌<◌, ◌≤◌, ℕ, ◌+◌, List, [], ◌∷◌, ◌++◌, length, take, get_or, Ok, Err, sym, ap, ◌∙◌, arith, zero-add}
-use Rattle.std.specs.Prelude.{zip}
-use Rattle.linear_solve.proofs.Shared.{enumerate_from, length-map, get_or-map, get_or-enumerate_from, length-enumerate_from, get_or-zip, length-zip, difference_of, equation_row, equation_rows, unit}
-use Rattle.linear_solve.proofs.{Shared.{Equation, equation_at, equations_in, Misfit, each, Row, Names}, Calculations.{each_all, each_more, each_stops, then_err, then_ok}, Theorem.{no_equation}}
-use Rattle.tree_handles.specs.Forest.{Forest}
+use Rattle.linear_solve.proofs.Shared.{◌≡◌, ◌<◌, ◌≤◌, ℕ, ◌+◌, List, [], ◌∷◌, ◌++◌, length, take, get_or, Ok, Err, sym, ap, ◌∙◌, arith, zero-add, zip, enumerate_from, length-map, get_or-map}
+use Rattle.linear_solve.proofs.Shared.{get_or-enumerate_from, length-enumerate_from, get_or-zip, length-zip, difference_of, equation_row, equation_rows, unit, Equation, equation_at, equations_in}
+use Rattle.linear_solve.proofs.{Shared.{Misfit, each, Row, Names, Forest}, Calculations.{each_all, each_more, each_stops, then_err, then_ok}, Theorem.{no_equation}}
 
 pub equations_long : (f : Forest) (ls rs : List ℕ) → length rs ≡ length ls → length (equations_in f ls rs) ≡ length ls
 equations_long f ls rs e = length-map (zip ls rs) _ ∙ length-zip ls rs ∙ omega (arith, e)

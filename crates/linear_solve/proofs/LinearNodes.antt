@@ -1,8 +1,8 @@
 -- A node is linear by its children.
-use Rattle.std.proofs.Common.{◌≡◌, ◌<◌, ◌≤◌, ℕ, ◌+◌, Bool, true, false, List, [], ◌∷◌, drop, Option, Some, None, refl, sym, ap, ◌∙◌, arith}
-use Rattle.std.specs.Prelude.{◌&&◌, ◌||◌, if◌then◌else◌, nat_le, option_and_then}
+use Rattle.linear_solve.proofs.Shared.{and_true, ◌≡◌, ◌<◌, ◌≤◌, ℕ, ◌+◌, Bool, true, false, List, [], ◌∷◌, drop, Option, Some, None, refl, sym, ap, ◌∙◌, arith, ◌&&◌, ◌||◌, nat_le, option_and_then}
 use Rattle.linear_solve.proofs.Shared.{lt-leb, drop_more, drop_all, Kind, Tree, undef, Trees, none, more, count, root_kind, are_linear, count_named, has_name, have_name, is_divisor, is_linear}
-use Rattle.linear_solve.proofs.{Shared.{joined_name, name_where_linear, root_name, nth, children_of}, SideWorths.{or_assoc, or_false}, TreeLists.{get_or-listed, length-listed, listed}}
+use Rattle.linear_solve.proofs.{Shared.{joined_name, name_where_linear, root_name, nth, children_of, or_false}, SideWorths.{or_assoc}, TreeLists.{get_or-listed, length-listed, listed}}
+use Rattle.std.specs.Prelude.{if◌then◌else◌}
 use Rattle.calc_terms.specs.declared.kind.Kind.TheVariants as kind
 
 -- children are asked one after another
@@ -29,9 +29,6 @@ product_asked (more t ts) b = grind (arith, product_asked ts (b || has_name t), 
 
 pub divisor_linear : (c : Tree) → is_divisor c ≡ true → (is_linear c ≡ true) × (has_name c ≡ false)
 divisor_linear c h = grind arith
-
-and_true : (a : Bool) → (a && true) ≡ a
-and_true a = grind arith
 
 two_asked : (k : Kind) → ((b c : Bool) → joined_name k b c ≡ Some (b || c)) → (a c : Tree) → asked k false (a ∷ c ∷ []) ≡ answer (is_linear a && is_linear c) (has_name a || has_name c)
 two_asked k h a c = plain_asked k h (more a (more c none)) false ∙ (λ i. answer (is_linear a && and_true (is_linear c) i) (has_name a || or_false (has_name c) i))

@@ -1,16 +1,16 @@
 -- The row of a linear tree is worth what the tree means.
-use Rattle.std.proofs.Common.{◌≡◌, ◌≢◌, ◌≤◌, ◌⊎◌, inl, inr, ℕ, suc, ◌+◌, List, [], ◌∷◌, ◌++◌, length, map, Bool, true, false, Ok, refl, sym, ap, ◌∙◌, subst, arith, length-append, pos}
-use Rattle.std.proofs.lemmas.Slice.Eq.{bytes_eq-Decides}
-use Rattle.std.specs.Prelude.{◌&&◌, ◌||◌, if◌then◌else◌, nat_le, Contains}
-use Rattle.linear_solve.proofs.Shared.{bytes_eq, and_parts, leb-true, false_from_ne_true, length-map, get_or_at, Contains-append_left, Contains-append_right, Contains-push, Assignment, IsAssignment}
-use Rattle.linear_solve.proofs.Shared.{Gives, Means, surd_of, surd_one, Inverts-surd_of, inverse_times_itself, Same-sym, one_meaning, surd_of_one, Same-trans, Same-eq, Same-refl, joined_radicand}
-use Rattle.linear_solve.proofs.Shared.{surd_times-terms, zero_term, no_zero, negative_lowest, one_times, zero_times, zero_plus, Fraction, plus, times, negative, inverse, zero_fraction, one_fraction}
-use Rattle.linear_solve.proofs.Shared.{minus_one_fraction, Tree, num, symbol, undef, add, mult, power, root, neg, sub, div, Trees, none, more, names, names_of, AreDistinct, Assigns, and_then}
-use Rattle.linear_solve.proofs.Shared.{are_linear, count_named, has_name, have_name, is_divisor, is_linear, is_nonzero, Row, worth, Side, constant_row, difference_row, joined_from, name_row, own_row}
-use Rattle.linear_solve.proofs.{Shared.{product_row, quotient_row, row_of, rows_of, sum_row}, Arithmetic.{plus_both, plus_zero, times_one, negative_is, negative_zero, negative_twice}}
-use Rattle.linear_solve.proofs.{Calculations.{both, ok_is}, SideWorths.{IsRow, AreRows, any, AtMostOne, difference_is, opposite_row, product, products_are, quotient_is, sums_are, total}}
-use Rattle.linear_solve.proofs.Worths.{worth-append}
-use Rattle.calc_algebra.proofs.MeaningRewrites.{sum_more, sum_none, product_more, product_none}
+use Rattle.linear_solve.proofs.Shared.{clash, ◌≡◌, ◌≢◌, ◌≤◌, ◌⊎◌, inl, inr, ℕ, suc, ◌+◌, List, [], ◌∷◌, ◌++◌, length, map, Bool, true, false, Ok, refl, sym, ap, ◌∙◌, subst, arith, pos}
+use Rattle.linear_solve.proofs.Shared.{bytes_eq-Decides, ◌&&◌, ◌||◌, nat_le, Contains, bytes_eq, and_parts, leb-true, false_from_ne_true, length-map, get_or_at, Contains-append_left}
+use Rattle.linear_solve.proofs.Shared.{Contains-append_right, Contains-push, Assignment, IsAssignment, Gives, Means, surd_of, surd_one, Inverts-surd_of, inverse_times_itself, Same-sym, one_meaning}
+use Rattle.linear_solve.proofs.Shared.{surd_of_one, Same-trans, Same-eq, Same-refl, joined_radicand, surd_times-terms, zero_term, no_zero, negative_lowest, one_times, zero_times, zero_plus, Fraction}
+use Rattle.linear_solve.proofs.Shared.{plus, times, negative, inverse, zero_fraction, one_fraction, minus_one_fraction, Tree, num, symbol, undef, add, mult, power, root, neg, sub, div, Trees, none}
+use Rattle.linear_solve.proofs.Shared.{more, names, names_of, AreDistinct, Assigns, and_then, are_linear, count_named, has_name, have_name, is_divisor, is_linear, is_nonzero, Row, worth, Side}
+use Rattle.linear_solve.proofs.Shared.{constant_row, difference_row, joined_from, name_row, own_row, product_row, quotient_row, row_of, rows_of, sum_row, plus_both, times_one, plus_zero, sum_more}
+use Rattle.linear_solve.proofs.{Shared.{sum_none, product_more, product_none}, Arithmetic.{negative_is, negative_zero, negative_twice}, Calculations.{both, ok_is}, SideWorths.{IsRow, AreRows, any}}
+use Rattle.linear_solve.proofs.{SideWorths.{AtMostOne, difference_is, opposite_row, product, products_are, quotient_is, sums_are, total}, Worths.{worth-append}}
+use Rattle.calc_algebra.proofs.MeaningLaws.{at_front as first_or_later, none_in as nothing_in}
+use Rattle.std.proofs.Common.{length-append}
+use Rattle.std.specs.Prelude.{if◌then◌else◌}
 
 -- ---- meanings that are rationals
 
@@ -62,9 +62,6 @@ zeros_worth (x ∷ xs) (v ∷ vs) = plus_both (zero_times v) (zeros_worth xs vs)
 abbrev unit_entries : List (List ℕ) → List ℕ → Row
 unit_entries xs x = map (λ y. if bytes_eq y x then one_fraction else zero_fraction) xs
 
-nothing_in : {X : Type 0} {x : X} → Contains [] x → ⊥
-nothing_in (k, l, e) = absurd (omega arith)
-
 in_tail : {X : Type 0} (y : X) (ys : List X) (x : X) → Contains ys x → Contains (y ∷ ys) x
 in_tail y ys x (k, l, e) = (suc k, omega arith, e)
 
@@ -74,12 +71,6 @@ absent_worth (y ∷ ys) x [] h = refl
 absent_worth (y ∷ ys) x (v ∷ vs) h =
     let apart : bytes_eq y x ≡ false = false_from_ne_true _ (λ e. h (0, omega arith, (bytes_eq-Decides y x).0 e)) in
     plus_both (ap (λ b. times (if b then one_fraction else zero_fraction) v) apart ∙ zero_times v) (absent_worth ys x vs (λ c. h (in_tail y ys x c))) ∙ zero_plus zero_fraction
-
-first_or_later : {X : Type 0} (y : X) (ys : List X) (x : X) → Contains (y ∷ ys) x → (y ≡ x) ⊎ Contains ys x
-first_or_later y ys x h = grind arith
-
-clash : (b : Bool) → b ≡ false → b ≡ true → ⊥
-clash b p q = cc
 
 -- a name is worth its value
 pub record HasWorth (f : Assignment) (xs : List (List ℕ)) (vs : List Fraction) (x : List ℕ) : Type 0 where

@@ -1,17 +1,7 @@
 -- Rising names are told by what they contain.
-use Rattle.std.proofs.Common.{◌≡◌, ◌∙◌, ℕ, suc, ◌≤◌, List, [], ◌∷◌, length, true, refl, sym, ap, subst, arith}
-use Rattle.std.specs.Prelude.{Contains}
-use Rattle.linear_solve.proofs.{RisingLemmas.{before_chain, never_before_itself, rises_distinct}, Shared.{AreDistinct, Equation}}
-use Rattle.linear_solve.specs.RisingNames.{AreNamesOf, HoldOverSixNames, Rises, is_before}
-
-in_front : (x : List ℕ) (xs : List (List ℕ)) → Contains (x ∷ xs) x
-in_front x xs = (0, omega arith, refl)
-
-later_on : (y x : List ℕ) (xs : List (List ℕ)) → Contains xs x → Contains (y ∷ xs) x
-later_on y x xs (k, l, e) = (suc k, omega arith, e)
-
-none_in : (x : List ℕ) → Contains {X = List ℕ} [] x → ⊥
-none_in x (k, l, e) = omega (arith, l)
+use Rattle.linear_solve.proofs.Shared.{in_front, ◌≡◌, ◌∙◌, ℕ, suc, ◌≤◌, List, [], ◌∷◌, length, true, refl, sym, ap, subst, arith, Contains, AreDistinct, Equation, AreNamesOf, HoldOverSixNames, Rises}
+use Rattle.linear_solve.proofs.{Shared.{is_before}, RisingLemmas.{none_in, before_chain, never_before_itself, rises_distinct}}
+use Rattle.calc_terms.proofs.SmallLaws.{behind as later_on}
 
 -- the first, or one of the others
 data Among (y : List ℕ) (ys : List (List ℕ)) (x : List ℕ) : Type 0 where

@@ -1,8 +1,7 @@
 -- What a result of the whole calculation says.
-use Rattle.std.proofs.Common.{arith, ◌≡◌, ◌↔◌, ◌∙◌, ap, sym, ℕ, List, length, Result, Ok, Err, IfOk, IfErr, OnOk}
-use Rattle.linear_solve.proofs.Shared.{calm_checks_raise_no_trips, only_the_tripped_rose, CalmChecks, TripsRose, State, SolveFault, Rows, equation_rows, settled_up_to, Equation, StopsAfter, Misfit}
-use Rattle.linear_solve.proofs.{Shared.{Answer, Form, answer_of, never, solved, Row, Names, IfNever, IfSolved, answer_told, solving, rows_at_first, rows_solved}, Calculations.{then_err, then_ok}}
-use Rattle.linear_solve.specs.declared.solution.Solution.{Solution}
+use Rattle.linear_solve.proofs.Shared.{arith, ◌≡◌, ◌↔◌, ◌∙◌, ap, sym, ℕ, List, length, Result, Ok, Err, IfOk, IfErr, OnOk, calm_checks_raise_no_trips, only_the_tripped_rose, CalmChecks, TripsRose}
+use Rattle.linear_solve.proofs.Shared.{State, SolveFault, Rows, equation_rows, settled_up_to, Equation, StopsAfter, Misfit, Answer, Form, answer_of, solved, Row, Names, IfSolved, answer_told, solving}
+use Rattle.linear_solve.proofs.{Shared.{rows_at_first, rows_solved, Solution}, Calculations.{then_err, then_ok}}
 use Rattle.linear_solve.specs.declared.fault.SolveFault.TheVariants as fault
 
 -- ---- the calculation, step by step
@@ -29,9 +28,6 @@ rows_solve xs es n rows h e = then_ok (equation_rows xs es) (λ rows. rows_solve
 pub if_solved : {C : Result Answer Misfit} {P : List Form → Type 0} (r : Result Solution SolveFault) → IfOk r (λ s. C ≡ Ok (answer_told s))
     → ((forms : List Form) → C ≡ Ok (solved forms) → P forms) → IfSolved r P
 if_solved r e h = grind arith
-
-pub if_never : {C : Result Answer Misfit} {P : Row → Type 0} (r : Result Solution SolveFault) → IfOk r (λ s. C ≡ Ok (answer_told s)) → ((cs : Row) → C ≡ Ok (never cs) → P cs) → IfNever r P
-if_never r e h = grind arith
 
 -- whether a breaker tripped shows in the trips
 pub trips_tell : (r : Result Solution SolveFault) (n most : ℕ) (old new : List State) → OnOk r (CalmChecks n old new) → IfErr r (StopsAfter most old new) → (place : ℕ)

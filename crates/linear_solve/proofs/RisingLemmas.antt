@@ -1,13 +1,9 @@
 -- Lemmas on names in the order of their bytes.
-use Rattle.std.proofs.Common.{◌≡◌, ◌∙◌, ◌⊎◌, inl, inr, ℕ, zero, suc, ◌+◌, ◌<◌, ◌≤◌, List, [], ◌∷◌, ◌++◌, length, take, get_or, Bool, true, false, cond, refl, sym, ap, subst, arith, append_assoc}
-use Rattle.std.proofs.{lemmas.List.Elements.{Contains-append_cases, Contains-append_left, Contains-append_right, All-cons, All-contains, All-head, All-tail}, lemmas.Slice.Eq.{bytes_eq-Decides}}
-use Rattle.std.proofs.{lemmas.Cmp.{nat_list_cmp_total, tied_itself}, lemmas.List.{append-nil}, lemmas.List.Folds.{list_any_at}, lemmas.Map.Lookups.{exact_bytes}, lemmas.Map.Views.{Contains-from_any}}
-use Rattle.std.specs.{Prelude.{◌||◌, All, Contains}, List.{insert, list_any, prefix_len}, Str.{bytes_eq}, declared.cmp.Ordering.TheVariants.{Less}}
-use Rattle.calc_algebra.specs.TreeOrder.{tree_cmp}
-use Rattle.calc_terms.specs.{Leaf.{name_of}, Trees.{symbol, Tree, Trees, none, more, count, is_symbol, names, names_of, root_kind}}
-use Rattle.linear_solve.specs.{Equations.{AreDistinct, equations_in}, Listed.{names_listed}, RisingNames.{AreNamesOf, HoldOverSixNames, Includes, IsNameIn, Rises, is_before, names_at}}
-use Rattle.linear_solve.specs.declared.side_names.Listed.{Listed}
-use Rattle.tree_handles.specs.{Expressions.{children_of, nth, plain}, Forest.{Forest}, Inside.{tree_at}}
+use Rattle.linear_solve.proofs.Shared.{only_one, ◌≡◌, ◌∙◌, ◌⊎◌, inl, inr, ℕ, zero, suc, ◌+◌, ◌<◌, ◌≤◌, List, [], ◌∷◌, ◌++◌, length, take, get_or, Bool, true, false, cond, refl, sym, ap, subst, arith}
+use Rattle.linear_solve.proofs.Shared.{append_assoc, Contains-append_cases, Contains-append_left, Contains-append_right, All-cons, All-contains, All-head, All-tail, bytes_eq-Decides}
+use Rattle.linear_solve.proofs.Shared.{nat_list_cmp_total, tied_itself, append-nil, list_any_at, exact_bytes, Contains-from_any, ◌||◌, All, Contains, insert, list_any, prefix_len, bytes_eq, Less}
+use Rattle.linear_solve.proofs.Shared.{tree_cmp, name_of, symbol, Tree, Trees, none, more, count, is_symbol, names, names_of, root_kind, AreDistinct, equations_in, names_listed, AreNamesOf}
+use Rattle.linear_solve.proofs.Shared.{HoldOverSixNames, Includes, IsNameIn, Rises, is_before, names_at, Listed, children_of, nth, plain, Forest, tree_at}
 use Rattle.calc_terms.specs.declared.kind.Kind.TheVariants as kind
 
 pub before_is : (x y : List ℕ) → is_before x y ≡ true → tree_cmp (symbol x) (symbol y) ≡ Less
@@ -69,9 +65,6 @@ from_insert (suc n) y [] x (zero, l, e) = inr (0, omega arith, e)
 from_insert (suc n) y [] x (suc k, l, e) = absurd (omega (arith, l))
 from_insert (suc n) y (z ∷ xs) x (zero, l, e) = inl (0, omega arith, e)
 from_insert (suc n) y (z ∷ xs) x (suc k, l, e) = elim (from_insert n y xs x (k, omega arith, e)) [ inl (j, b, q) ↦ inl (suc j, omega arith, q) | inr m ↦ inr m ]
-
-only_one : (y x : List ℕ) → Contains (y ∷ []) x → y ≡ x
-only_one y x h = grind arith
 
 -- a name that is there already
 pub includes_there : (y : List ℕ) (xs : List (List ℕ)) → Contains xs y → Includes (y ∷ []) xs xs true
@@ -188,7 +181,7 @@ names_at-in f (suc n) (i ∷ is) x c = elim (Contains-append_cases (names (plain
   | inr d ↦ Contains-append_right (names (plain (tree_at i f))) (names_at f is) x (names_at-in f n is x d)
 ]
 
-none_in : (x : List ℕ) → Contains {X = List ℕ} [] x → ⊥
+pub none_in : (x : List ℕ) → Contains {X = List ℕ} [] x → ⊥
 none_in x (k, l, e) = omega (arith, l)
 
 pub in_sides : (f : Forest) (ls rs : List ℕ) (x : List ℕ) → length rs ≡ length ls → Contains (names_at f ls ++ names_at f rs) x → IsNameIn (equations_in f ls rs) x

@@ -1,10 +1,9 @@
 -- Lists of rows, and loops over them.
-use Rattle.std.proofs.Common.{zero-add, Option, ◌≡◌, ◌<◌, ◌≤◌, ℕ, zero, suc, ◌+◌, ◌-◌, Bool, cond, List, [], ◌∷◌, ◌++◌, length, get_or, map, Some, None, Ok, Err, refl, sym, ap, ◌∙◌, arith}
-use Rattle.std.proofs.Common.{length-drop, add-one, inl, inr}
-use Rattle.std.specs.Prelude.{position, not, nat_lt, swap, if◌then◌else◌, ◌==◌}
-use Rattle.linear_solve.proofs.Shared.{enumerate_from, length-enumerate_from, get_or-enumerate_from, form_of, forms_of, free, prefix_len, cases_eq, eq-eqb, ne_eqb, get_or-drop, get_or-map}
-use Rattle.linear_solve.proofs.Shared.{get_or-replicate, length-map, map_push, length-swap, swapped_from_swap, one_fraction, zero_fraction, Rows, others, settled, settled_up_to, unit, Misfit, Row}
-use Rattle.linear_solve.proofs.{Shared.{entry, entries_of}, Calculations.{then_err, then_ok}}
+use Rattle.linear_solve.proofs.Shared.{zero-add, Option, ◌≡◌, ◌<◌, ◌≤◌, ℕ, zero, suc, ◌+◌, ◌-◌, Bool, cond, List, [], ◌∷◌, ◌++◌, length, get_or, map, Some, None, Ok, Err, refl, sym, ap, ◌∙◌, arith}
+use Rattle.linear_solve.proofs.Shared.{length-drop, add-one, inl, inr, position, not, nat_lt, swap, ◌==◌, enumerate_from, length-enumerate_from, get_or-enumerate_from, form_of, forms_of, free}
+use Rattle.linear_solve.proofs.Shared.{prefix_len, cases_eq, eq-eqb, ne_eqb, get_or-drop, get_or-map, get_or-replicate, length-map, map_push, length-swap, swapped_from_swap, one_fraction}
+use Rattle.linear_solve.proofs.{Shared.{zero_fraction, Rows, others, settled, settled_up_to, unit, Misfit, Row, entry, entries_of}, Calculations.{then_err, then_ok}}
+use Rattle.std.specs.Prelude.{if◌then◌else◌}
 use Rattle.linear_solve.specs.declared.row.Row.{Row as RowOfCode}
 
 prefix_len-map : {A B : Type 0} (q : B → Bool) (f : A → B) (xs : List A) → prefix_len q (map f xs) ≡ prefix_len (λ x. q (f x)) xs

@@ -1,9 +1,10 @@
 -- What the rows of nodes are worth where the names have values.
-use Rattle.std.proofs.Common.{arith, ◌≡◌, ℕ, suc, List, [], ◌∷◌, length, Bool, true, false, Ok, refl, sym, ap, ◌∙◌, subst}
-use Rattle.std.specs.Prelude.{◌&&◌, ◌||◌, if◌then◌else◌}
-use Rattle.linear_solve.proofs.Shared.{times_comm, times_assoc, one_times, Fraction, plus, times, negative, inverse, zero_fraction, one_fraction, plus_assoc, Row, added, entry, negated, scaled, worth}
-use Rattle.linear_solve.proofs.{Shared.{Side, constant_of, difference_row, joined_rows, over_both, product_row, quotient_row, sum_row}, Arithmetic.{plus_both, plus_zero, times_one, negative_is}}
-use Rattle.linear_solve.proofs.{Calculations.{both, ok_is}, Worths.{added_is, scaled_is, negated_is, multiple_entry, combined_entries}}
+use Rattle.linear_solve.proofs.Shared.{or_false, arith, ◌≡◌, ℕ, suc, List, [], ◌∷◌, length, Bool, true, false, Ok, refl, sym, ap, ◌∙◌, subst, ◌&&◌, ◌||◌, times_comm, times_assoc, one_times, Fraction}
+use Rattle.linear_solve.proofs.Shared.{plus, times, negative, inverse, zero_fraction, one_fraction, plus_assoc, Row, added, entry, negated, scaled, worth, Side, constant_of, difference_row}
+use Rattle.linear_solve.proofs.{Shared.{joined_rows, over_both, product_row, quotient_row, sum_row, plus_both, times_one, plus_zero}, Arithmetic.{negative_is}, Calculations.{both, ok_is}}
+use Rattle.linear_solve.proofs.Worths.{added_is, scaled_is, negated_is, multiple_entry, combined_entries}
+use Rattle.calc_terms.proofs.SmallLaws.{either_left as or_first, either_right as or_second}
+use Rattle.std.specs.Prelude.{if◌then◌else◌}
 
 -- a row of so many names and a constant has a value at a point; where no name occurs, that is its constant
 pub record IsRow (n : ℕ) (vs : List Fraction) (v : Fraction) (named : Bool) (r : Side) : Type 0 where
@@ -11,12 +12,6 @@ pub record IsRow (n : ℕ) (vs : List Fraction) (v : Fraction) (named : Bool) (r
   pub value : worth r.entries vs ≡ v
   pub flag : r.named ≡ named
   pub constant : named ≡ false → entry n r.entries ≡ v
-
-or_first : (a b : Bool) → (a || b) ≡ false → a ≡ false
-or_first a b e = grind arith
-
-or_second : (a b : Bool) → (a || b) ≡ false → b ≡ false
-or_second a b e = grind arith
 
 module _ {n : ℕ} {vs : List Fraction} {v w : Fraction} {b c : Bool} {r s : Side} where
   pub sum_is : (t : Side) → IsRow n vs v b r → IsRow n vs w c s → sum_row r s ≡ Ok t → IsRow n vs (plus v w) (b || c) t
@@ -122,9 +117,6 @@ AreRows n vs _ _ _ = ⊥
 
 pub or_assoc : (a b c : Bool) → ((a || b) || c) ≡ (a || (b || c))
 or_assoc a b c = grind arith
-
-pub or_false : (a : Bool) → (a || false) ≡ a
-or_false a = grind arith
 
 row_as : {n : ℕ} {vs : List Fraction} {v w : Fraction} {b c : Bool} {r : Side} → v ≡ w → b ≡ c → IsRow n vs v b r → IsRow n vs w c r
 row_as {n} {vs} {v} {w} {b} {c} {r} p q h = subst (λ x. IsRow n vs x c r) p (subst (λ x. IsRow n vs v x r) q h)

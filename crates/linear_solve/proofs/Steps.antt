@@ -1,12 +1,12 @@
 -- One name after another is eliminated, and the rows keep their solutions.
-use Rattle.std.proofs.Common.{◌≡◌, ◌≢◌, ◌<◌, ◌⊎◌, inl, inr, ℕ, zero, suc, ◌+◌, ◌-◌, List, [], ◌∷◌, ◌++◌, length, get_or, set, Bool, true, false, Option, Some, None, Result, Ok, refl, sym, ap, ◌∙◌}
-use Rattle.std.proofs.{Common.{subst, arith, add-one}, lemmas.List.Quantifiers.{position-Some}}
-use Rattle.std.specs.Prelude.{All, if◌then◌else◌}
-use Rattle.linear_solve.proofs.Shared.{cases_eq, cases_lt, not-false, get_or_append_left, get_or_push, get_or_past, get_or_default, length_push, All-drop, All-set, All-get_or, prefix_len_passes}
-use Rattle.linear_solve.proofs.Shared.{inverse_times_itself, times_zero, zero_is, no_zero, times_comm, times_assoc, one_times, zero_times, plus_negative, Fraction, plus, times, negative, inverse}
-use Rattle.linear_solve.proofs.Shared.{is_zero_fraction, zero_fraction, one_fraction, Rows, cleared, cleared_pivot, first_with, others, row_at, settled, settled_at, settled_up_to, Misfit, and_then}
-use Rattle.linear_solve.proofs.{Shared.{each, Row, entry, scaled, without, worth}, Arithmetic.{plus_zero, negative_zero, times_one}, Calculations.{both, each_at, each_long, each_forward, each_back}}
-use Rattle.linear_solve.proofs.{Calculations.{ok_is}, RowLists.{others_first, others_long, others_same}, Worths.{IsMultiple, IsCombined, scaled_is, without_is, multiple_entry, combined_entries}}
+use Rattle.linear_solve.proofs.Shared.{◌≡◌, ◌≢◌, ◌<◌, ◌⊎◌, inl, inr, ℕ, zero, suc, ◌+◌, ◌-◌, List, [], ◌∷◌, ◌++◌, length, get_or, set, Bool, true, false, Option, Some, None, Result, Ok, refl, sym, ap}
+use Rattle.linear_solve.proofs.Shared.{◌∙◌, subst, arith, add-one, position-Some, All, cases_eq, cases_lt, not-false, get_or_append_left, get_or_push, get_or_past, get_or_default, length_push}
+use Rattle.linear_solve.proofs.Shared.{All-drop, All-set, All-get_or, prefix_len_passes, inverse_times_itself, times_zero, zero_is, no_zero, times_comm, times_assoc, one_times, zero_times}
+use Rattle.linear_solve.proofs.Shared.{plus_negative, Fraction, plus, times, negative, inverse, is_zero_fraction, zero_fraction, one_fraction, Rows, cleared, cleared_pivot, first_with, others, row_at}
+use Rattle.linear_solve.proofs.{Shared.{settled, settled_at, settled_up_to, Misfit, and_then, each, Row, entry, scaled, without, worth, times_one, plus_zero}, Arithmetic.{negative_zero}}
+use Rattle.linear_solve.proofs.{Calculations.{both, each_at, each_long, each_forward, each_back, ok_is}, RowLists.{others_first, others_long, others_same}, Worths.{IsMultiple, IsCombined, scaled_is}}
+use Rattle.linear_solve.proofs.Worths.{without_is, multiple_entry, combined_entries}
+use Rattle.std.specs.Prelude.{if◌then◌else◌}
 
 -- ---- pivots
 

@@ -1,18 +1,18 @@
 -- Forms and multipliers say which assignments solve the equations.
-use Rattle.std.proofs.Common.{◌≡◌, ◌≢◌, ◌<◌, inl, inr, ℕ, zero, suc, ◌+◌, List, [], ◌∷◌, ◌++◌, length, drop, get_or, map, Option, Some, None, Ok, refl, sym, ap, ◌∙◌, subst, arith, length-append}
-use Rattle.std.proofs.Common.{append_assoc, zero-add, ◌↔◌, length-drop}
-use Rattle.std.specs.Prelude.{All, Contains, ◌==◌, if◌then◌else◌, zip}
-use Rattle.linear_solve.proofs.Shared.{AllZip, enumerate_from, range_with_len, cases_eq, cases_lt, eq-eqb, ne_eqb, length-map, get_or-map, get_or_past, All-from_get_or, All-get_or}
-use Rattle.linear_solve.proofs.Shared.{length-enumerate_from, get_or-enumerate_from, length-map-range_with_len, get_or-map-range_with_len, AllZip-long, length-zip, get_or-zip, Assignment, Binding}
-use Rattle.linear_solve.proofs.Shared.{Gives, IsAssignment, Means, bound_names, surd_of, inverse_times_itself, negative_times, same_from_difference, one_meaning, surd_of_one, Same-Agree, Agree-sym}
-use Rattle.linear_solve.proofs.Shared.{Agree-trans, Same-refl, one_times, zero_times, zero_plus, plus_negative, Fraction, plus, times, negative, inverse, zero_fraction, one_fraction, plus_comm}
-use Rattle.linear_solve.proofs.Shared.{plus_assoc, undef, Rows, difference_of, equation_row, equation_rows, first_with, row_at, settled_up_to, unit, AreDistinct, Assigns, Equation, IsLinearIn, Solves}
-use Rattle.linear_solve.proofs.Shared.{SolvesAll, and_then, Answer, never, solved, Form, free, HasItsValue, HaveTheirValues, HoldLaterFreeNames, answer_of, differences, form_of, forms_of, IsFree}
-use Rattle.linear_solve.proofs.{Shared.{multiple_in, multipliers, Row, added, entry, negated, worth, Side, row_of, solving}, Arithmetic.{plus_both, plus_zero, times_one, negative_is, negative_plus}}
-use Rattle.linear_solve.proofs.{Arithmetic.{negative_zero, negative_twice, negative_plus_self, opposite_is, times_negative}, Calculations.{both, each_at, each_long, ok_is}}
-use Rattle.linear_solve.proofs.RowLists.{form_at, forms_long}
-use Rattle.linear_solve.proofs.{Meanings.{long_values, one_rational_meaning, row_means}, Steps.{AreZero, HasName, IsSettled, IsStep, first_has, none_has, pivot_at, settled_all, some_within}}
-use Rattle.linear_solve.proofs.Worths.{added_is, drop-nil, length-unit, negated_is, scaled_is, worth-append, worth-nil, worth_behind, worth_constant, worth_negated, worth_unit}
+use Rattle.linear_solve.proofs.Shared.{◌≡◌, ◌≢◌, ◌<◌, inl, inr, ℕ, zero, suc, ◌+◌, List, [], ◌∷◌, ◌++◌, length, drop, get_or, map, Option, Some, None, Ok, refl, sym, ap, ◌∙◌, subst, arith}
+use Rattle.linear_solve.proofs.Shared.{append_assoc, zero-add, ◌↔◌, length-drop, All, Contains, ◌==◌, zip, AllZip, enumerate_from, range_with_len, cases_eq, cases_lt, eq-eqb, ne_eqb, length-map}
+use Rattle.linear_solve.proofs.Shared.{get_or-map, get_or_past, All-from_get_or, All-get_or, length-enumerate_from, get_or-enumerate_from, length-map-range_with_len, get_or-map-range_with_len}
+use Rattle.linear_solve.proofs.Shared.{AllZip-long, length-zip, get_or-zip, Assignment, Binding, Gives, IsAssignment, Means, bound_names, surd_of, inverse_times_itself, negative_times}
+use Rattle.linear_solve.proofs.Shared.{same_from_difference, one_meaning, surd_of_one, Same-Agree, Agree-sym, Agree-trans, Same-refl, one_times, zero_times, zero_plus, plus_negative, Fraction, plus}
+use Rattle.linear_solve.proofs.Shared.{times, negative, inverse, zero_fraction, one_fraction, plus_comm, plus_assoc, undef, Rows, difference_of, equation_row, equation_rows, first_with, row_at}
+use Rattle.linear_solve.proofs.Shared.{settled_up_to, unit, AreDistinct, Assigns, Equation, IsLinearIn, Solves, SolvesAll, and_then, Answer, never, solved, Form, free, HasItsValue, HaveTheirValues}
+use Rattle.linear_solve.proofs.Shared.{HoldLaterFreeNames, answer_of, differences, form_of, forms_of, IsFree, multiple_in, multipliers, Row, added, entry, negated, worth, Side, row_of, solving}
+use Rattle.linear_solve.proofs.{Shared.{plus_both, times_one, plus_zero}, Arithmetic.{negative_is, negative_plus, negative_zero, negative_twice, negative_plus_self, opposite_is, times_negative}}
+use Rattle.linear_solve.proofs.{Calculations.{both, each_at, each_long, ok_is}, RowLists.{form_at, forms_long}, Meanings.{long_values, one_rational_meaning, row_means}, Steps.{AreZero, HasName}}
+use Rattle.linear_solve.proofs.{Steps.{IsSettled, IsStep, first_has, none_has, pivot_at, settled_all, some_within}, Worths.{added_is, drop-nil, length-unit, negated_is, scaled_is, worth-append}}
+use Rattle.linear_solve.proofs.Worths.{worth-nil, worth_behind, worth_constant, worth_negated, worth_unit}
+use Rattle.std.proofs.Common.{length-append}
+use Rattle.std.specs.Prelude.{if◌then◌else◌}
 
 -- ---- identities
 

@@ -1,6 +1,5 @@
 -- The children of a node as a list.
-use Rattle.std.proofs.Common.{◌≡◌, ◌<◌, ◌≤◌, ℕ, zero, suc, ◌+◌, List, [], ◌∷◌, length, get_or, refl, ap, arith}
-use Rattle.linear_solve.proofs.Shared.{Tree, undef, Trees, none, more, count, nodes, nodes_of, nth, children_of}
+use Rattle.linear_solve.proofs.Shared.{◌≡◌, ◌<◌, ◌≤◌, ℕ, zero, suc, ◌+◌, List, [], ◌∷◌, length, get_or, refl, ap, arith, Tree, undef, Trees, none, more, count, nodes, nodes_of, nth, children_of}
 
 abbrev pub listed : Trees → List Tree
 listed none = []

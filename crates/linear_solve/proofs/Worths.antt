@@ -1,9 +1,8 @@
 -- What rows are worth.
-use Rattle.std.proofs.Common.{◌≡◌, ◌<◌, ℕ, zero, suc, ◌+◌, List, [], ◌∷◌, ◌++◌, length, drop, map, Result, Ok, refl, sym, ap, ◌∙◌, subst, arith}
-use Rattle.std.specs.Prelude.{zip, replicate}
-use Rattle.linear_solve.proofs.Shared.{length-replicate, times_zero, add_op, mul_op, times_comm, zero_plus, zero_times, one_times, Fraction, plus, times, negative, zero_fraction, one_fraction}
-use Rattle.linear_solve.proofs.{Shared.{plus_assoc, unit, Misfit, and_then, each, sum_of, product_of, Row, added, entry, negated, scaled, without, worth}, Arithmetic.{plus_both, plus_zero, times_one}}
-use Rattle.linear_solve.proofs.{Arithmetic.{combined_entry, scaled_entry, negative_is, negative_zero, negative_plus, times_negative}, Calculations.{both, each_cons, each_pure, fitted_is, ok_is}}
+use Rattle.linear_solve.proofs.Shared.{◌≡◌, ◌<◌, ℕ, zero, suc, ◌+◌, List, [], ◌∷◌, ◌++◌, length, drop, map, Result, Ok, refl, sym, ap, ◌∙◌, subst, arith, zip, replicate, length-replicate, times_zero}
+use Rattle.linear_solve.proofs.Shared.{add_op, mul_op, times_comm, zero_plus, zero_times, one_times, Fraction, plus, times, negative, zero_fraction, one_fraction, plus_assoc, unit, Misfit, and_then}
+use Rattle.linear_solve.proofs.{Shared.{each, sum_of, product_of, Row, added, entry, negated, scaled, without, worth, plus_both, times_one, plus_zero}, Arithmetic.{combined_entry, scaled_entry}}
+use Rattle.linear_solve.proofs.{Arithmetic.{negative_is, negative_zero, negative_plus, times_negative}, Calculations.{both, each_cons, each_pure, fitted_is, ok_is}}
 
 pub worth-nil : (r : Row) → worth r [] ≡ zero_fraction
 worth-nil [] = refl

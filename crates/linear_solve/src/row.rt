@@ -166,7 +166,7 @@ impl<const LIMIT: usize> Row<LIMIT> {
 }
 
 /// 1 where the test holds, and else 0.
-#[tactic(auto, using(crate::proofs::Entries::zero_value, crate::proofs::Entries::one_value))]
+#[tactic(auto, using(calc_terms::proofs::SmallFractions::zero_value, calc_terms::proofs::SmallFractions::one_value))]
 pub(crate) fn one_where(test: bool) -> Rat
     ensures { value_of result ≡ (if test then one_fraction else zero_fraction) }
 {

@@ -108,7 +108,7 @@ fn multiples(row: &EquationRow, own: usize, names: usize) -> NameRow
 }
 
 /// The multiple of one name in the form of another.
-#[tactic(auto, using(crate::proofs::Entries::zero_value))]
+#[tactic(auto, using(calc_terms::proofs::SmallFractions::zero_value))]
 fn multiple(row: &EquationRow, own: usize, at: usize) -> Rat
     ensures { value_of result ≡ (if at == own then zero_fraction else negative (entry at (entries_of row.now))) }
 {

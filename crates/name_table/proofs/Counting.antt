@@ -1,8 +1,7 @@
 -- Forests whose roots get other counts.
-use Rattle.name_table.proofs.Shared.{◌≡◌, ◌≢◌, ℕ, suc, ◌+◌, ◌-◌, ◌≤◌, Bool, true, false, cond, eqb, ltb, refl, sym, ap, ◌∙◌, arith, eqb-true, eqb-false, eq-eqb}
-use Rattle.name_table.proofs.Shared.{ne_eqb, ltb-true, ltb-false, AreWritable, AllExpressions, plain, plains, Forest, Label, empty, tree, join, root_count, AllOnce, count_of, holds, released}
-use Rattle.name_table.proofs.Shared.{released_in, with_count_in, has_root, root_tree, Distinct, distinct_parts, tree_at-root, by_test, root_held, no_root, AreCountedBy, counted_by}
-use Rattle.tree_handles.proofs.Held.{released-once}
+use Rattle.name_table.proofs.Shared.{◌≡◌, ◌≢◌, ℕ, suc, ◌+◌, ◌-◌, ◌≤◌, Bool, true, false, cond, eqb, ltb, refl, sym, ap, ◌∙◌, arith, eqb-true, eqb-false, eq-eqb, ne_eqb, ltb-true, ltb-false}
+use Rattle.name_table.proofs.Shared.{AreWritable, AllExpressions, plain, plains, Forest, Label, empty, tree, join, root_count, AllOnce, count_of, holds, released, released_in, with_count_in, has_root}
+use Rattle.name_table.proofs.Shared.{root_tree, Distinct, distinct_parts, tree_at-root, by_test, root_held, no_root, AreCountedBy, counted_by, released-once}
 
 -- a unit more, or less, for one root
 abbrev pub one_more : ℕ → (ℕ → ℕ) → ℕ → ℕ

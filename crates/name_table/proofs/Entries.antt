@@ -1,13 +1,9 @@
 -- Entries among trees.
-use Rattle.name_table.proofs.Shared.{◌≡◌, List, [], ◌∷◌, sym, subst, AllExpressions, IsWhole, Forest, join, all-join, root-left, NamedTree, values, AreRoots, HasEntries}
-use Rattle.name_table.proofs.{Shared.{HoldLaterNames, IsHeld, Entry, Table, entries}, Later.values-left}
+use Rattle.name_table.proofs.Shared.{◌≡◌, List, [], ◌∷◌, sym, subst, AllExpressions, IsWhole, Forest, join, all-join, root-left, NamedTree, values, AreRoots, HasEntries, HoldLaterNames, IsHeld, Entry}
+use Rattle.name_table.proofs.{Shared.{Table, entries}, Later.{roots-left, values-left}}
 
 pub held_entries : (t : Table) (f : Forest) → IsHeld t f → HasEntries t f
 held_entries t f h = record { roots = h.roots; whole = h.whole; later = h.later }
-
-roots-left : (es : List Entry) (f g : Forest) → AreRoots es f → AreRoots es (join f g)
-roots-left [] f g r = tt
-roots-left (e ∷ es) f g r = (root-left e.tree f g r.0, roots-left es f g r.1)
 
 pub entries-left : (t : Table) (f g : Forest) → HasEntries t f → AllExpressions g → HasEntries t (join f g) × (values t (join f g) ≡ values t f)
 entries-left t f g h w =

@@ -2,10 +2,8 @@
 use Rattle.name_table.proofs.Shared.{◌≡◌, ℕ, suc, ◌+◌, ◌<◌, ◌≤◌, List, [], ◌∷◌, length, map, drop, get_or, codes, IsSome, true, refl, sym, ap, ◌∙◌, subst, arith, ⊤, drop_all, name_of, Tree, State}
 use Rattle.name_table.proofs.Shared.{free_of, plain, Forest, Gives, KeepsFront, tree_of, has_root, root_tree, without_root, KeepsRefusals, Stands, forest, keeps_after, keeps_none, given_rest}
 use Rattle.name_table.proofs.Shared.{given_told, gives_as, last_tree, replaced, FaultsFilling, LacksNames, NamedTree, filled, filling, filling_one, fills, refused_filling, value_in, values, AreRoots}
-use Rattle.name_table.proofs.{Shared.{HasEntries, AreUsed, entry_of, root_in, Entry, Table, entries, table_names, Slot}, FilledNames.entries_lack, Slots.used_at}
-use Rattle.std.proofs.Common.{drop-cons}
-use Rattle.tree_handles.proofs.Fronts.{IsBehind, front_after_one, front_same, not_first, starts_without}
-use Rattle.name_table.specs.declared.fault.FillFault.{FillFault}
+use Rattle.name_table.proofs.Shared.{HasEntries, AreUsed, entry_of, root_in, Entry, Table, entries, table_names, Slot, drop-cons, IsBehind, front_after_one, front_same, not_first, starts_without}
+use Rattle.name_table.proofs.{Shared.{FillFault}, FilledNames.{entries_lack}, Slots.{used_at}}
 
 -- the last tree is filled but for the rest of the entries
 pub record IsFilled (t : Table) (i0 : ℕ) (s0 : State) (rest : List Entry) (i : ℕ) (s : State) : Type 0 where

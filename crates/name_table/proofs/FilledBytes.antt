@@ -1,11 +1,7 @@
 -- What filling needs and leaves of the free bytes, and how deep and how large a filled tree becomes.
-use Rattle.std.proofs.{Common.{◌≡◌, ℕ, ◌+◌, ◌*◌, ◌≤◌, ◌<◌, List, [], ◌∷◌, cond, nat_lt, Result, Ok, Err, All, refl, subst, arith}, lemmas.List.Elements.{All-head, All-tail}}
-use Rattle.std.specs.Prelude.{IfOk, IfErr}
-use Rattle.calc_terms.proofs.Sizes.{root_most}
-use Rattle.calc_terms.specs.Trees.{add, div, more, mult, neg, nodes, nodes_of, none, num, power, root, sizes, sub, Trees}
-use Rattle.name_table.proofs.Shared.{ltb-true, Tree, depth, root_size, size, symbol, by_test, Full, Filling, NamedTree, fills, filled, filling, filling_one, lacks, too_deep, replaced, occurrences}
-use Rattle.name_table.proofs.{Shared.{replacing}, Growing.{copies_fit, copies_leave, grows, size_grows}}
-use Rattle.tree_walks.proofs.Composing.{bytes_of_replaced}
+use Rattle.name_table.proofs.Shared.{◌≡◌, ℕ, ◌+◌, ◌*◌, ◌≤◌, ◌<◌, List, [], ◌∷◌, cond, nat_lt, Result, Ok, Err, All, refl, subst, arith, All-head, All-tail, IfOk, IfErr, root_most, add, div, more}
+use Rattle.name_table.proofs.Shared.{mult, neg, nodes, nodes_of, none, num, power, root, sizes, sub, Trees, ltb-true, Tree, depth, root_size, size, symbol, by_test, Full, Filling, NamedTree, fills}
+use Rattle.name_table.proofs.{Shared.{filled, filling, filling_one, lacks, too_deep, replaced, occurrences, replacing, bytes_of_replaced}, Growing.{copies_fit, copies_leave, grows, size_grows}}
 
 -- ---- a filled tree is no smaller than before
 

@@ -1,9 +1,7 @@
 -- Names of filled trees.
-use Rattle.std.proofs.Common.{◌≡◌, ℕ, ◌⊎◌, inl, inr, List, [], ◌∷◌, map, refl, sym, ap, subst}
-use Rattle.std.specs.Prelude.{Contains}
-use Rattle.name_table.proofs.Shared.{Tree, Forest, replaced, LacksNames, NamedTree, filled, value_in, values, HasEntries, HoldLaterNames, IsHeld}
-use Rattle.name_table.proofs.{Shared.{Entry, Table, entries, table_names}, Later.{behind, in_front, names_of_entries, none_in, where_in}}
-use Rattle.tree_walks.proofs.Composing.{names_of_replaced}
+use Rattle.name_table.proofs.Shared.{◌≡◌, ℕ, ◌⊎◌, inl, inr, List, [], ◌∷◌, map, refl, sym, ap, subst, Contains, Tree, Forest, replaced, LacksNames, NamedTree, filled, value_in, values, HasEntries}
+use Rattle.name_table.proofs.{Shared.{HoldLaterNames, IsHeld, Entry, Table, entries, table_names, behind, in_front, where_in, names_of_replaced}, Later.{names_of_entries}}
+use Rattle.calc_terms.proofs.SmallLaws.{nobody as none_in}
 
 -- the names of the new tree
 still_lacks : (passed : List (List ℕ)) (v : NamedTree) (t : Tree) → LacksNames passed t → LacksNames (v.name ∷ passed) v.tree → LacksNames (v.name ∷ passed) (replaced v.name v.tree t)

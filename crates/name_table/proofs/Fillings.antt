@@ -1,9 +1,7 @@
 -- One stored tree in place of its name.
-use Rattle.name_table.proofs.Shared.{◌≡◌, ℕ, ◌<◌, List, true, refl, sym, ap, ◌∙◌, subst, arith, Tree, symbol, size, root_size, depth, Full, State, AllExpressions, IsExpression}
-use Rattle.name_table.proofs.Shared.{IsWhole, plain, Forest, Gives, tree_of, tree_at, has_root, root_tree, Stands, forest, gives_as, given_handed, given_root, given_told, expression_root}
-use Rattle.name_table.proofs.Shared.{other_root, other_tree, plain_root, tree_of_root, root_held, occurrences, replaced, replacing, NamedTree, filling_one, fills, lacks, too_deep}
-use Rattle.std.proofs.Common.{Ok, Err}
-use Rattle.tree_handles.proofs.Counted.{all-root_tree}
+use Rattle.name_table.proofs.Shared.{◌≡◌, ℕ, ◌<◌, List, true, refl, sym, ap, ◌∙◌, subst, arith, Tree, symbol, size, root_size, depth, Full, State, AllExpressions, IsExpression, IsWhole, plain, Forest}
+use Rattle.name_table.proofs.Shared.{Gives, tree_of, tree_at, has_root, root_tree, Stands, forest, gives_as, given_handed, given_root, given_told, expression_root, other_root, other_tree, plain_root}
+use Rattle.name_table.proofs.Shared.{tree_of_root, root_held, occurrences, replaced, replacing, NamedTree, filling_one, fills, lacks, too_deep, Ok, Err, all-root_tree}
 
 -- ---- a tree beside the last one
 

@@ -1,10 +1,7 @@
 -- A tree in which a name is replaced is no smaller than before, and what its copies need and leave of the free bytes.
-use Rattle.std.proofs.{Common.{◌≡◌, ℕ, zero, suc, ◌+◌, ◌-◌, ◌*◌, ◌≤◌, List, cond, leb, arith}, lemmas.Bool.{le-leb, leb-false, leb-true}, lemmas.Nat.{mul-le}}
-use Rattle.std.specs.{Prelude.{IfOk, IfErr}, Str.{bytes_eq}}
-use Rattle.calc_terms.specs.Trees.{Tree, num, symbol, add, mult, power, root, neg, sub, div, Trees, none, more, depth, depths, nodes, nodes_of, root_size, size}
-use Rattle.tree_walks.proofs.{Composing.{bytes_of_replaced}, Shallow.{depth_within}}
-use Rattle.tree_handles.proofs.Outcomes.{by_test}
-use Rattle.tree_walks.specs.Replacing.{replaced, replaced_in, replacing}
+use Rattle.name_table.proofs.Shared.{◌≡◌, ℕ, zero, suc, ◌+◌, ◌-◌, ◌*◌, ◌≤◌, List, cond, leb, arith, le-leb, leb-false, leb-true, mul-le, IfOk, IfErr, bytes_eq, Tree, num, symbol, add, mult, power}
+use Rattle.name_table.proofs.Shared.{root, neg, sub, div, Trees, none, more, depth, depths, nodes, nodes_of, root_size, size, bytes_of_replaced, depth_within, by_test, replaced, replaced_in}
+use Rattle.name_table.proofs.Shared.{replacing}
 
 -- ---- its nodes, and its depth
 

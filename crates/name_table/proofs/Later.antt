@@ -1,23 +1,11 @@
 -- Names of trees, and where they stand in a table.
-use Rattle.name_table.proofs.Shared.{◌≡◌, ℕ, suc, ◌<◌, ◌≤◌, ◌⊎◌, inl, inr, List, [], ◌∷◌, ◌++◌, length, map, Bool, true, false, cond, Some, refl, sym, ap}
-use Rattle.name_table.proofs.Shared.{◌∙◌, subst, arith, Contains, bytes_eq, map-append, bytes_eq-Decides, Tree, Forest, join, has_root, root_tree, plain, by_test, root-left, tree-left}
-use Rattle.name_table.proofs.Shared.{LacksNames, NamedTree, value_in, AreDistinctNames, AreRoots, HoldLaterNames, counted_by, Entry, Table, has_entry, has_room_for, name_limit, tree_under}
-use Rattle.name_table.proofs.{Shared.without_entry, Counting.{plain-counted, root-counted}, Holders.AreTold}
-use Rattle.std.proofs.lemmas.List.Elements.{Contains-append_cases}
+use Rattle.name_table.proofs.Shared.{in_front, behind, where_in, ◌≡◌, ℕ, suc, ◌<◌, ◌≤◌, ◌⊎◌, inl, inr, List, [], ◌∷◌, ◌++◌, length, map, Bool, true, false, cond, Some, refl, sym, ap, ◌∙◌, subst}
+use Rattle.name_table.proofs.Shared.{arith, Contains, bytes_eq, map-append, bytes_eq-Decides, Tree, Forest, join, has_root, root_tree, plain, by_test, root-left, tree-left, LacksNames, NamedTree}
+use Rattle.name_table.proofs.Shared.{value_in, AreDistinctNames, AreRoots, HoldLaterNames, counted_by, Entry, Table, has_entry, has_room_for, name_limit, tree_under, without_entry}
+use Rattle.name_table.proofs.{Shared.{Contains-append_cases}, Counting.{plain-counted, root-counted}, Holders.{AreTold}}
+use Rattle.calc_terms.proofs.SmallLaws.{nobody as none_in}
 
 -- ---- lists of names
-
-pub in_front : (x : List ℕ) (xs : List (List ℕ)) → Contains (x ∷ xs) x
-in_front x xs = (0, omega arith, refl)
-
-pub behind : (x y : List ℕ) (xs : List (List ℕ)) → Contains xs y → Contains (x ∷ xs) y
-behind x y xs c = let h : c.0 < length xs = c.1 in (suc c.0, omega arith, c.2)
-
-pub where_in : (x y : List ℕ) (xs : List (List ℕ)) → Contains (x ∷ xs) y → (x ≡ y) ⊎ Contains xs y
-where_in x y xs h = grind arith
-
-pub none_in : (y : List ℕ) → Contains [] y → ⊥
-none_in y (k, h, e) = absurd (omega arith)
 
 abbrev pub AreAmong : List (List ℕ) → List (List ℕ) → Type 0
 AreAmong xs ys = (y : List ℕ) → Contains xs y → Contains ys y

@@ -10,5 +10,4 @@ pub mod FilledBytes
 pub mod FilledNames
 pub mod Entries
 pub mod Filled
-pub mod Tested
 pub mod Shared

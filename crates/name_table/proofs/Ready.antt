@@ -1,13 +1,13 @@
 -- A forest that holds the trees of a table, among others and with other counts.
-use Rattle.name_table.proofs.Shared.{◌≡◌, ℕ, suc, ◌<◌, ◌≤◌, inl, inr, List, [], ◌∷◌, ◌++◌, length, map, Bool, true, false, cond, Option, Some, None, refl, sym, ap}
-use Rattle.name_table.proofs.Shared.{◌∙◌, subst, arith, codes, Contains, bytes_eq, eq-eqb, length-append, bytes_eq-Decides, AreWritable, Tree, Trees, none, more, append, AllExpressions}
-use Rattle.name_table.proofs.Shared.{IsWhole, plain, plains, Forest, empty, tree, arity, join, root_id, AllOnce, Gives, has_root, root_tree, all-join, last_root, last_tree, LacksNames, value_in}
-use Rattle.name_table.proofs.Shared.{values, AreCountedBy, AreDistinctNames, AreRoots, HoldLaterNames, IsHeld, held_by, holders_in, IsKeepable, names_with, Entry, Table, entries, first_table}
-use Rattle.name_table.proofs.Shared.{has_room_for, name_limit, table_names, with_answer, without_entry, without_name}
-use Rattle.name_table.proofs.{Counting.{counted-are, counts_beside, one_more, plain-counted, whole-counted, writable-counted}, Holders.{holders-no_root, holders-told}, Later.AreAmong}
-use Rattle.name_table.proofs.Later.{among_with, behind, distinct-last, distinct-without, gone, in_front, lacks-among, later-last, later-without, length-without, names-last, names-without}
-use Rattle.name_table.proofs.Later.{names_of_entries, none_in, room-without, roots-counted, roots-last, roots-left, roots-without, values-counted, values-left, where_in}
-use Rattle.tree_handles.proofs.Plains.{alone, plains-join}
+use Rattle.name_table.proofs.Shared.{◌≡◌, ℕ, suc, ◌<◌, ◌≤◌, inl, inr, List, [], ◌∷◌, ◌++◌, length, map, Bool, true, false, cond, Option, Some, None, refl, sym, ap, ◌∙◌, subst, arith, codes, Contains}
+use Rattle.name_table.proofs.Shared.{bytes_eq, eq-eqb, length-append, bytes_eq-Decides, AreWritable, Tree, Trees, none, more, append, AllExpressions, IsWhole, plain, plains, Forest, empty, tree}
+use Rattle.name_table.proofs.Shared.{arity, join, root_id, AllOnce, Gives, has_root, root_tree, all-join, last_root, last_tree, LacksNames, value_in, values, AreCountedBy, AreDistinctNames, AreRoots}
+use Rattle.name_table.proofs.Shared.{HoldLaterNames, IsHeld, held_by, holders_in, IsKeepable, names_with, Entry, Table, entries, first_table, has_room_for, name_limit, table_names, with_answer}
+use Rattle.name_table.proofs.{Shared.{without_entry, without_name, behind, in_front, where_in, alone, plains-join}, Counting.{counted-are, counts_beside, one_more, plain-counted, whole-counted}}
+use Rattle.name_table.proofs.{Counting.{writable-counted}, Holders.{holders-no_root, holders-told}, Later.{AreAmong, among_with, distinct-last, distinct-without, gone, lacks-among, later-last}}
+use Rattle.name_table.proofs.Later.{later-without, length-without, names-last, names-without, names_of_entries, room-without, roots-counted, roots-last, roots-left, roots-without, values-counted}
+use Rattle.name_table.proofs.Later.{values-left}
+use Rattle.calc_terms.proofs.SmallLaws.{nobody as none_in}
 
 -- all but the counts
 pub record IsReady (t : Table) (f : Forest) : Type 0 where

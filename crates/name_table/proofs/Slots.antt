@@ -1,9 +1,7 @@
 -- Slots of the code, and the entries that they are.
-use Rattle.name_table.proofs.Shared.{◌≡◌, ℕ, suc, ◌+◌, ◌<◌, ◌≤◌, List, [], ◌∷◌, ◌++◌, length, map, get_or, Bool, true, false, cond, eqb, ltb, Option, Some, None}
-use Rattle.name_table.proofs.Shared.{IsSome, refl, sym, ap, ◌∙◌, subst, arith, is_some, bytes_eq, length-map, name_of, by_test, Slot, AreUsed, entry_of, root_in, Entry, Table, has_entry}
-use Rattle.name_table.proofs.Shared.{has_room_for, name_limit, tree_under, without_entry}
-use Rattle.std.proofs.{Common.{zero, slice_get}, lemmas.List.Quantifiers.position-Some, lemmas.Iterator.Adapters.position_from-zero}
-use Rattle.std.specs.{Prelude.{◌||◌, not, position, remove}, List.position_from}
+use Rattle.name_table.proofs.Shared.{◌≡◌, ℕ, suc, ◌+◌, ◌<◌, ◌≤◌, List, [], ◌∷◌, ◌++◌, length, map, get_or, Bool, true, false, cond, eqb, ltb, Option, Some, None, IsSome, refl, sym, ap, ◌∙◌, subst}
+use Rattle.name_table.proofs.Shared.{arith, is_some, bytes_eq, length-map, name_of, by_test, Slot, AreUsed, entry_of, root_in, Entry, Table, has_entry, has_room_for, name_limit, tree_under}
+use Rattle.name_table.proofs.Shared.{without_entry, zero, slice_get, position-Some, position_from-zero, ◌||◌, not, position, remove, position_from}
 
 -- the slot is that of the name
 abbrev pub is_slot : List ℕ → Slot → Bool

@@ -1,11 +1,10 @@
 -- Pools whose roots are counted, from call to call.
-use Rattle.name_table.proofs.Shared.{◌≡◌, ◌≢◌, ℕ, suc, ◌+◌, ◌-◌, ◌<◌, ◌≤◌, List, [], ◌∷◌, ◌++◌, Bool, true, cond, eqb, Option, Some, None, refl}
-use Rattle.name_table.proofs.Shared.{sym, ap, ◌∙◌, subst, arith, bytes_eq, eq-eqb, Tree, State, Forest, Gives, count_of, released_in, with_count_in, has_root, Stands, forest, distinct}
-use Rattle.name_table.proofs.Shared.{last_root, by_test, AreCountedBy, AreRoots, IsHeld, counted_by, held_by, holders_in, released_under, IsKeepable, IsStorable, Entry, Table, entries, holders}
-use Rattle.name_table.proofs.{Shared.{tree_under, with_answer, without_entry, without_name}, Counting.{count_of-counted, counted-are, counted-by_same, counted-same, counted-twice, one_less}}
-use Rattle.name_table.proofs.{Counting.{one_more, one_released, retained, root-counted, told_root}, Holders.{holders-last, holders-no_root, holders-without, less_below}}
-use Rattle.name_table.proofs.{Ready.{IsReady, ready_answer, ready_held, ready_named, ready_without, start_counts}, Later.{root-under, roots-left}}
-use Rattle.std.specs.Prelude.{IfSome}
+use Rattle.name_table.proofs.Shared.{◌≡◌, ◌≢◌, ℕ, suc, ◌+◌, ◌-◌, ◌<◌, ◌≤◌, List, [], ◌∷◌, ◌++◌, Bool, true, cond, eqb, Option, Some, None, refl, sym, ap, ◌∙◌, subst, arith, bytes_eq, eq-eqb, Tree}
+use Rattle.name_table.proofs.Shared.{State, Forest, Gives, count_of, released_in, with_count_in, has_root, Stands, forest, distinct, last_root, by_test, AreCountedBy, AreRoots, IsHeld, counted_by}
+use Rattle.name_table.proofs.Shared.{held_by, holders_in, released_under, IsKeepable, IsStorable, Entry, Table, entries, holders, tree_under, with_answer, without_entry, without_name, IfSome}
+use Rattle.name_table.proofs.Counting.{count_of-counted, counted-are, counted-by_same, counted-same, counted-twice, one_less, one_more, one_released, retained, root-counted, told_root}
+use Rattle.name_table.proofs.{Holders.{holders-last, holders-no_root, holders-without, less_below}, Ready.{IsReady, ready_answer, ready_held, ready_named, ready_without, start_counts}}
+use Rattle.name_table.proofs.Later.{root-under, roots-left}
 
 -- the pool stands for the trees with the counts that are told of their roots
 pub record HasCounts (told : ℕ → ℕ) (f : Forest) (s : State) : Type 0 where

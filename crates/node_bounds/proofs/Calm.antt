@@ -1,10 +1,8 @@
 -- Calm trees, part by part, and what all parts of a tree have.
-use Rattle.std.proofs.Common.{◌≡◌, ℕ, zero, suc, ◌<◌, List, Bool, true, false, if◌then◌else◌, ap, ◌∙◌, arith}
-use Rattle.node_bounds.proofs.Shared.{Assignment, IsAssignment, is_number, IsNumber, value, is_opaque_exponent, is_whole_num, is_half_num, num_one, base_of, KeepsMeanings, surd_of, one_meaning}
-use Rattle.node_bounds.proofs.Shared.{number_rational, number_words, whole_fraction, Tree, mult, power, Trees, none, more, count, AllParts, AllPartsOf, IsCalmAtZero, set_tree, removed, whole_is}
-use Rattle.node_bounds.proofs.Shared.{exponent_of, joint, IsPairAt, joined_pair, nth, IsCalm, AreCalm, MeansWhole, zeros, sum_whole, whole_number}
-use Rattle.calc_algebra.proofs.{NumberValues.{number_means}, SurdLaws.{Agree-Same}}
-use Rattle.tree_room.proofs.Calm.{no_half}
+use Rattle.node_bounds.proofs.Shared.{◌≡◌, ℕ, zero, suc, ◌<◌, List, Bool, true, false, if◌then◌else◌, ap, ◌∙◌, arith, Assignment, IsAssignment, is_number, IsNumber, value, is_opaque_exponent}
+use Rattle.node_bounds.proofs.Shared.{is_whole_num, is_half_num, num_one, base_of, KeepsMeanings, surd_of, one_meaning, number_rational, number_words, whole_fraction, Tree, mult, power, Trees, none}
+use Rattle.node_bounds.proofs.Shared.{more, count, AllParts, AllPartsOf, IsCalmAtZero, set_tree, removed, whole_is, exponent_of, joint, IsPairAt, joined_pair, nth, IsCalm, AreCalm, MeansWhole, zeros}
+use Rattle.node_bounds.proofs.Shared.{sum_whole, whole_number, number_means, Agree-Same, no_half}
 pub use Rattle.power_reduce.proofs.Counted.{one_is_whole as one_whole}
 
 -- ---- parts of lists

@@ -4,7 +4,7 @@ use Rattle.node_bounds.proofs.Shared.{Tree, undef, is_undef, power, Trees, HasTw
 pub use Rattle.calc_algebra.proofs.ReducedLaws.{undef_words}
 pub use Rattle.tree_bits.proofs.{ExponentBits.{clash, unclear}, Rows.{rational_is_number as rational_number}}
 pub use Rattle.tree_room.proofs.PowerCounts.{power_no_number}
-pub use Rattle.power_reduce.proofs.Written.{clash as contrary}
+pub use Rattle.calc_terms.proofs.SmallLaws.{contradiction as contrary}
 pub use Rattle.product_reduce.proofs.Finished.{zero_words}
 
 -- where one of two holds, and the first does not
@@ -20,9 +20,6 @@ undef_test t e = ap is_undef e
 
 pub undef_has_none : (b e : Tree) → is_undef b ≡ true → has_no_power b e ≡ true
 undef_has_none b e h = grind arith
-
-pub two_terms : (ts : Trees) → HasTwo ts → 2 ≤ length (terms_of ts)
-two_terms ts h = grind arith
 
 pub base_reduced : (b e : Tree) → is_reduced (power b e) ≡ true → is_reduced b ≡ true
 base_reduced b e h = parts_reduced b (reduced_parts (power b e) h refl).1

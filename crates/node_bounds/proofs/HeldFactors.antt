@@ -1,17 +1,14 @@
 -- Reduced trees as factors: what holds a tree holds it as a factor, and the parts of a product are held by bits of their own.
-use Rattle.std.proofs.Common.{pos, ◌≡◌, ◌≢◌, ℕ, zero, suc, ◌+◌, ◌-◌, ◌*◌, ◌^◌, ◌≤◌, ◌⊎◌, inl, inr, List, [], ◌∷◌, Bool, true, false, if◌then◌else◌, refl, sym, ap, ◌∙◌, subst, arith}
-use Rattle.node_bounds.proofs.Shared.{mul-le, pow-le-pow_right, zero_fraction, one_fraction, Tree, num, undef, add, mult, power, Trees, none, more, count, is_undef, is_mult, AllParts, AllPartsOf}
+use Rattle.node_bounds.proofs.Shared.{pos, ◌≡◌, ◌≢◌, ℕ, zero, suc, ◌+◌, ◌-◌, ◌*◌, ◌^◌, ◌≤◌, ◌⊎◌, inl, inr, List, [], ◌∷◌, Bool, true, false, if◌then◌else◌, refl, sym, ap, ◌∙◌, subst, arith, mul-le}
+use Rattle.node_bounds.proofs.Shared.{pow-le-pow_right, zero_fraction, one_fraction, Tree, num, undef, add, mult, power, Trees, none, more, count, is_undef, is_mult, AllParts, AllPartsOf}
 use Rattle.node_bounds.proofs.Shared.{whole_denominator, AreTerms, Rises, is_number, value, terms_of, Split, split_product, num_one, is_num_one, is_reduced, HasForm, NoneIs, IsProductForm, IsSumForm}
 use Rattle.node_bounds.proofs.Shared.{number_terms, other_terms, Surd, term, surd_one, one_not_zero, number_test, term_words, mass, mass_from, IsHeld, has_coefficient, product_form_of, no_split}
 use Rattle.node_bounds.proofs.Shared.{reduced_parts, parts_reduced, Leads, in_front, parts_of, HasFactors, product_factors, IsFactorHeld, single_part, part_single, number_as_factor, IsSumHeld, Counts}
 use Rattle.node_bounds.proofs.Shared.{counts, counts_of, is_counted, Addend, addend, addend_of, addends_of, power_high, power_low, IsTreeHeld, undef_held, AreWeighted, none_weighted, more_weighted}
 use Rattle.node_bounds.proofs.Shared.{IsPartHeld, no_factor_held, factor_held, IsBaseHeld, symbol_held, tree_held, Weighted, AreHeld, tree_as_sum, factor_is_held, factor_as_tree, addend_left_out}
-use Rattle.node_bounds.proofs.Shared.{addend_to_front, exponents_within, held_number, one_counted, one_counts, symbol_is_held, root_is_held, tree_wider, parts_defined, cases_Bool}
-use Rattle.node_bounds.proofs.Clashes.{clash, undef_words, two_terms, power_no_number}
-use Rattle.coefficients.proofs.Lengths.{some_factors}
-use Rattle.tree_bits.proofs.{ExponentBits.{some_counts}, Weighted.{split_off}, Numbers.{base_positive}}
-use Rattle.tree_bits.specs.{Factors.{as_factor}, HeldTrees.{exponent_in, root_held}}
-use Rattle.product_reduce.proofs.HeldFactors.{no_terms, rational_some, number_some}
+use Rattle.node_bounds.proofs.Shared.{addend_to_front, exponents_within, held_number, one_counted, one_counts, symbol_is_held, root_is_held, tree_wider, parts_defined, cases_Bool, two_terms}
+use Rattle.node_bounds.proofs.{Shared.{some_factors, some_counts, split_off, base_positive, as_factor, root_held, no_terms, rational_some, number_some}, Clashes.{clash, undef_words, power_no_number}}
+use Rattle.tree_bits.specs.HeldTrees.{exponent_in}
 pub use Rattle.product_reduce.proofs.HeldProducts.{factor_wider}
 
 -- ---- Undef, bases and powers

@@ -1,14 +1,11 @@
 -- What holds factors holds them with two of one base joined, and the exponents of these are added within few bits.
-use Rattle.std.proofs.Common.{◌≡◌, ℕ, zero, suc, ◌+◌, ◌≤◌, ◌<◌, [], ◌∷◌, Bool, true, false, ◌&&◌, not, refl, sym, ap, ◌∙◌, subst, arith, inl, inr}
-use Rattle.node_bounds.proofs.Shared.{and_from, is_number, is_reduced, are_reduced, is_whole_num, is_opaque_exponent, base_of, number_words, HighLow, Tree, power, Trees, none, more, count, is_undef}
-use Rattle.node_bounds.proofs.Shared.{reduced_parts, IsReducedPower, AreFewBits, AddsCounts, IsCountedWithin, set_tree, removed, whole_is, IsFactorHeld, AreFactorsHeld, exponent_of, is_partner}
-use Rattle.node_bounds.proofs.Shared.{IsPairAt, joined_pair, partners_of_pair, IsSumHeld, addends_of_each, counts_of, counts_of_all, is_counted, IsPartHeld, trees_together, factors_joined}
-use Rattle.node_bounds.proofs.{Shared.{factor_left_out, exponents_within, one_counts, nth, inserted, reduced_nth, one_base, cases_Bool}, Clashes.{undef_words}}
+use Rattle.node_bounds.proofs.Shared.{◌≡◌, ℕ, zero, suc, ◌+◌, ◌≤◌, ◌<◌, [], ◌∷◌, Bool, true, false, ◌&&◌, not, refl, sym, ap, ◌∙◌, subst, arith, inl, inr, and_from, is_number, is_reduced, are_reduced}
+use Rattle.node_bounds.proofs.Shared.{is_whole_num, is_opaque_exponent, base_of, number_words, HighLow, Tree, power, Trees, none, more, count, is_undef, reduced_parts, IsReducedPower, AreFewBits}
+use Rattle.node_bounds.proofs.Shared.{AddsCounts, IsCountedWithin, set_tree, removed, whole_is, IsFactorHeld, AreFactorsHeld, exponent_of, is_partner, IsPairAt, joined_pair, partners_of_pair}
+use Rattle.node_bounds.proofs.Shared.{IsSumHeld, addends_of_each, counts_of, counts_of_all, is_counted, IsPartHeld, trees_together, factors_joined, factor_left_out, exponents_within, one_counts, nth}
+use Rattle.node_bounds.proofs.{Shared.{inserted, reduced_nth, one_base, cases_Bool, counted_defined, exponent_is_held, neighbours_held, IsJoint}, Clashes.{undef_words}}
 use Rattle.node_bounds.proofs.{HeldFactors.{undef_factor, first_counted, part_high}, HeldParts.{part_answer}}
-use Rattle.tree_bits.proofs.ExponentBits.{counted_defined, exponent_is_held}
-use Rattle.product_reduce.proofs.HeldPairs.{neighbours_held}
 use Rattle.sum_reduce.proofs.CollectedExponents.{whole_number}
-use Rattle.tree_bits.specs.Joined.{IsJoint}
 use Rattle.tree_bits.specs.HeldTrees as part
 
 -- ---- one factor

@@ -1,9 +1,8 @@
 -- A power as a factor: what holds it holds its answer, and within few bits it fits.
-use Rattle.std.proofs.Common.{◌≡◌, ℕ, ◌*◌, ◌≤◌, ℤ, Bool, true, false, None, Result, refl, sym, ap, ◌∙◌, subst, arith, IfErr, IsOk, nat_abs, inl, inr}
-use Rattle.node_bounds.proofs.Shared.{eqb-true, mul-le, whole_fraction, Tree, num, power, none, more, is_undef, is_reduced, is_half_num, is_whole_num, IsReducedPower, lacks_power, AreFewBits}
-use Rattle.node_bounds.proofs.Shared.{HasFewBitsRaised, has_number_power, is_zero_or_one, rewritten, IsFactorHeld, is_counted, IsPartHeld, factor_held, raised_high, raised_low, OfOverflow}
-use Rattle.node_bounds.proofs.{Shared.{NumberFault, whole_exponent, cases_Bool}, Clashes.{clash}, HeldFactors.{factor_wider, power_factor, base_factor}, Rewritten.{is_rewritten}}
-use Rattle.tree_bits.proofs.RaisedBits.{raised_most, counted_bits}
+use Rattle.node_bounds.proofs.Shared.{◌≡◌, ℕ, ◌*◌, ◌≤◌, ℤ, Bool, true, false, None, Result, refl, sym, ap, ◌∙◌, subst, arith, IfErr, IsOk, nat_abs, inl, inr, eqb-true, mul-le, whole_fraction, Tree}
+use Rattle.node_bounds.proofs.Shared.{num, power, none, more, is_undef, is_reduced, is_half_num, is_whole_num, IsReducedPower, lacks_power, AreFewBits, HasFewBitsRaised, has_number_power}
+use Rattle.node_bounds.proofs.Shared.{is_zero_or_one, rewritten, IsFactorHeld, is_counted, IsPartHeld, factor_held, raised_high, raised_low, OfOverflow, NumberFault, whole_exponent, cases_Bool}
+use Rattle.node_bounds.proofs.{Shared.{raised_most, counted_bits}, Clashes.{clash}, HeldFactors.{factor_wider, power_factor, base_factor}, Rewritten.{is_rewritten}}
 
 -- ---- bits of powers
 

@@ -1,14 +1,12 @@
 -- Powers are held by the bits of their bases, also those that are rewritten.
-use Rattle.std.proofs.Common.{neg_ℤ, ◌≡◌, ℕ, zero, suc, ◌+◌, ◌*◌, ◌≤◌, inr, ℤ, pos, negsuc, true, false, not, Some, refl, sym, ap, ◌∙◌, subst, arith, ◌/◌}
-use Rattle.node_bounds.proofs.Shared.{mul-le, Fraction, whole_fraction, whole_numerator, Tree, num, mult, power, root, Trees, none, more, is_mult, is_undef, has_undef, is_number, is_reduced}
-use Rattle.node_bounds.proofs.Shared.{IsReducedProduct, IsReducedPower, IsCountedWithin, IsRewritten, AreReducedPowers, IsLifted, IsProductOfPowers, IsHeldAsPowerOf, base_in, exponent_in, half}
-use Rattle.node_bounds.proofs.Shared.{parts_of, raised, rewritten_whole, as_whole, whole_no_half, chosen, IsFactorHeld, AreFactorsHeld, none_held, Counts, counts, multiple, counts_of, is_counted}
-use Rattle.node_bounds.proofs.Shared.{power_high, power_low, IsPartHeld, factor_held, IsBaseHeld, tree_held, IsFactorPower, raised_high, raised_low, single_part, tree_as_base, one_counts, children_of}
-use Rattle.node_bounds.proofs.{Shared.{or_parts}, Clashes.{clash, base_reduced}, HeldFactors.{parts_each, factor_wider, factor_power, base_factor, EachHeld, more_each}}
+use Rattle.node_bounds.proofs.Shared.{neg_ℤ, ◌≡◌, ℕ, zero, suc, ◌+◌, ◌*◌, ◌≤◌, inr, ℤ, pos, negsuc, true, false, not, Some, refl, sym, ap, ◌∙◌, subst, arith, ◌/◌, mul-le, Fraction, whole_fraction}
+use Rattle.node_bounds.proofs.Shared.{whole_numerator, Tree, num, mult, power, root, Trees, none, more, is_mult, is_undef, has_undef, is_number, is_reduced, IsReducedProduct, IsReducedPower}
+use Rattle.node_bounds.proofs.Shared.{IsCountedWithin, IsRewritten, AreReducedPowers, IsLifted, IsProductOfPowers, IsHeldAsPowerOf, base_in, exponent_in, half, parts_of, raised, rewritten_whole}
+use Rattle.node_bounds.proofs.Shared.{as_whole, whole_no_half, chosen, IsFactorHeld, AreFactorsHeld, none_held, Counts, counts, multiple, counts_of, is_counted, power_high, power_low, IsPartHeld}
+use Rattle.node_bounds.proofs.Shared.{factor_held, IsBaseHeld, tree_held, IsFactorPower, raised_high, raised_low, single_part, tree_as_base, one_counts, children_of, or_parts, root_held, part_raised}
+use Rattle.node_bounds.proofs.{Shared.{part_turned, raised_most, raised_both}, Clashes.{clash, base_reduced}, HeldFactors.{parts_each, factor_wider, factor_power, base_factor, EachHeld, more_each}}
 use Rattle.node_bounds.proofs.{Rewritten.{by_product, by_power}, HeldParts.{counted_exponent, part_answer}}
 use Rattle.product_reduce.specs.Bits.{factor_held as factors_held}
-use Rattle.tree_bits.specs.HeldTrees.{root_held}
-use Rattle.tree_bits.proofs.{Powers.{part_raised, part_turned}, RaisedBits.{raised_most, raised_both}}
 
 -- ---- even powers of roots
 

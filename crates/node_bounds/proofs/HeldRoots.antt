@@ -1,10 +1,9 @@
 -- Roots, and powers with half of an odd number as the exponent, are held by the bits of their bases.
-use Rattle.std.proofs.Common.{◌≡◌, ℕ, zero, suc, ◌≤◌, ℤ, Bool, true, false, ◌&&◌, ◌==◌, Err, refl, sym, ap, ◌∙◌, subst, arith, inl, inr}
-use Rattle.node_bounds.proofs.Shared.{and_parts, eqb-true, whole_fraction, int_is_negative, Tree, num, undef, root, is_num, is_undef, is_number, value, is_reduced, is_half_num, number_words, IsHeld}
-use Rattle.node_bounds.proofs.Shared.{reduced_parts, AreFewBits, IsHeldAsRootPower, numerator, IsHeldAsPowerOf, has_number_power, IsPowerAnswer, IsPowerMisfit, whole_no_half, whole_is, IsFactorHeld}
-use Rattle.node_bounds.proofs.Shared.{value_held, number_as_factor, IfRational, IsRootAnswer, has_no_root, HasWideRoot, IsOverflow, Overflow, OfOverflow, NumberFault, IsNoLargerThanRoot}
-use Rattle.node_bounds.proofs.{Shared.{factor_is_held, root_is_held, cases_Bool}, Clashes.{clash, rational_number, undef_has_none}, HeldFactors.{tree_high, factor_tree}}
-use Rattle.radical_forms.proofs.HeldRationals.{rational_without}
+use Rattle.node_bounds.proofs.Shared.{◌≡◌, ℕ, zero, suc, ◌≤◌, ℤ, Bool, true, false, ◌&&◌, ◌==◌, Err, refl, sym, ap, ◌∙◌, subst, arith, inl, inr, and_parts, eqb-true, whole_fraction, int_is_negative}
+use Rattle.node_bounds.proofs.Shared.{Tree, num, undef, root, is_num, is_undef, is_number, value, is_reduced, is_half_num, number_words, IsHeld, reduced_parts, AreFewBits, IsHeldAsRootPower}
+use Rattle.node_bounds.proofs.Shared.{numerator, IsHeldAsPowerOf, has_number_power, IsPowerAnswer, IsPowerMisfit, whole_no_half, whole_is, IsFactorHeld, value_held, number_as_factor, IfRational}
+use Rattle.node_bounds.proofs.Shared.{IsRootAnswer, has_no_root, HasWideRoot, IsOverflow, Overflow, OfOverflow, NumberFault, IsNoLargerThanRoot, factor_is_held, root_is_held, cases_Bool}
+use Rattle.node_bounds.proofs.{Shared.{rational_without}, Clashes.{clash, rational_number, undef_has_none}, HeldFactors.{tree_high, factor_tree}}
 use Rattle.calc_bits.specs.Bounds as few
 
 -- ---- roots

@@ -1,12 +1,10 @@
 -- How many bytes suffice where two factors of a product are joined and their joint is reduced.
-use Rattle.std.proofs.Common.{◌≡◌, ℕ, zero, suc, ◌+◌, ◌*◌, ◌^◌, ◌≤◌, ◌<◌, List, length, inl, inr, Bool, true, false, not, ◌&&◌, if◌then◌else◌, refl, sym, ap, subst, arith, ◌-◌, max}
-use Rattle.node_bounds.proofs.Shared.{and_parts, eqb-true, pow_pos, is_number, is_reduced, are_reduced, is_whole_num, base_of, reduced_words, counted, counted_among, SpansRoot, SpansTrees, tree_bytes}
+use Rattle.node_bounds.proofs.Shared.{◌≡◌, ℕ, zero, suc, ◌+◌, ◌*◌, ◌^◌, ◌≤◌, ◌<◌, List, length, inl, inr, Bool, true, false, not, ◌&&◌, if◌then◌else◌, refl, sym, ap, subst, arith, ◌-◌, max, and_parts}
+use Rattle.node_bounds.proofs.Shared.{eqb-true, pow_pos, is_number, is_reduced, are_reduced, is_whole_num, base_of, reduced_words, counted, counted_among, SpansRoot, SpansTrees, tree_bytes}
 use Rattle.node_bounds.proofs.Shared.{counted_number, counted_other, Tree, num, mult, power, Trees, none, more, count, is_mult, size, sizes, reduced_parts, IsJoinedFrom, whole_power_room, removed}
 use Rattle.node_bounds.proofs.Shared.{exponent_of, joint, is_single, nth, exponent_count, numbers_among, product_count, sum_count, sum_room, product_room, power_room, product_power_room, counts_one}
-use Rattle.node_bounds.proofs.{Shared.{product_bytes, scaled, exponents_added, not-true, reduced_nth, neighbours_joint, joint_there, base_is_reduced}, Calm.{all_nth, all_removed, all_base}}
-use Rattle.node_bounds.proofs.{JointCounts.{joint_count, pair_joined_count, numbers_one}, JointRooms.{joined_spans}}
-use Rattle.number_forms.proofs.Rooms.{number_size}
-use Rattle.like_children.proofs.Kids.{sizes_taken}
+use Rattle.node_bounds.proofs.Shared.{product_bytes, scaled, exponents_added, not-true, reduced_nth, neighbours_joint, joint_there, base_is_reduced, number_size, sizes_taken}
+use Rattle.node_bounds.proofs.{Calm.{all_nth, all_removed, all_base}, JointCounts.{joint_count, pair_joined_count, numbers_one}, JointRooms.{joined_spans}}
 use Rattle.tree_room.proofs.Counts.{no_number as numbers_other}
 
 -- ---- the other factors

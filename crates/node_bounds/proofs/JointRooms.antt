@@ -1,11 +1,9 @@
 -- Two factors joined, and their joint reduced: what counts, what is calm and spanned, and how many bytes suffice.
-use Rattle.std.proofs.Common.{◌≡◌, ℕ, suc, ◌+◌, ◌*◌, ◌≤◌, ◌<◌, List, Bool, true, false, if◌then◌else◌, refl, sym, ap, subst, arith}
-use Rattle.node_bounds.proofs.Shared.{is_whole_num, counted, counted_among, HasPowersOf, SpansRoot, SpansTree, SpansTrees, Tree, add, mult, power, Trees, none, more, count, IsCalmAtZero, KeepsRoom}
-use Rattle.node_bounds.proofs.Shared.{KeepsSumRoom, whole_power_count, power_count, set_tree, HandsOn, removed, AreFactorsHeld, joint, IsPairAt, joined_pair, IsSumAnswer, nth, children_of}
-use Rattle.node_bounds.proofs.{Shared.{HasCalmExponent, IsCalm, zeros, exponent_count, product_count, parts_calm, counts_one, KeepsFactorBounds, KeepsProductBounds, has_undef}, Calm.{all_nth}}
-use Rattle.node_bounds.proofs.{Calm.{all_replaced, all_base, all_exponent, all_joined, calm_children, calm_product, joint_calm, whole_kept, whole_of_number}, JointCounts.{joint_count, pair_counts}}
-use Rattle.node_bounds.proofs.JointCounts.{pair_joined_count, replaced_count_is}
-use Rattle.tree_room.proofs.PowerCounts.{joined}
+use Rattle.node_bounds.proofs.Shared.{◌≡◌, ℕ, suc, ◌+◌, ◌*◌, ◌≤◌, ◌<◌, List, Bool, true, false, if◌then◌else◌, refl, sym, ap, subst, arith, is_whole_num, counted, counted_among, HasPowersOf}
+use Rattle.node_bounds.proofs.Shared.{SpansRoot, SpansTree, SpansTrees, Tree, add, mult, power, Trees, none, more, count, IsCalmAtZero, KeepsRoom, KeepsSumRoom, whole_power_count, power_count}
+use Rattle.node_bounds.proofs.Shared.{set_tree, HandsOn, removed, AreFactorsHeld, joint, IsPairAt, joined_pair, IsSumAnswer, nth, children_of, HasCalmExponent, IsCalm, zeros, exponent_count}
+use Rattle.node_bounds.proofs.{Shared.{product_count, parts_calm, counts_one, KeepsFactorBounds, KeepsProductBounds, has_undef, joined}, Calm.{all_nth, all_replaced, all_base, all_exponent}}
+use Rattle.node_bounds.proofs.{Calm.{all_joined, calm_children, calm_product, joint_calm, whole_kept, whole_of_number}, JointCounts.{joint_count, pair_counts, pair_joined_count, replaced_count_is}}
 pub use Rattle.product_reduce.proofs.GatheredCounts.{whole_number as whole_numbers}
 
 -- ---- from tree to tree

@@ -1,12 +1,11 @@
 -- What holds a node over reduced children holds its answer.
-use Rattle.std.proofs.Common.{◌≡◌, ◌≢◌, ℕ, suc, ◌+◌, ◌*◌, ◌^◌, ◌≤◌, [], ◌∷◌, ℤ, Bool, true, false, ◌||◌, if◌then◌else◌, Option, Some, None, Result, Ok, Err, refl, sym, ap, ◌∙◌, subst, arith, inl, inr}
-use Rattle.std.proofs.Common.{IfOk, IfErr, IsOk}
-use Rattle.node_bounds.proofs.Shared.{pow_pos, pow-add, pow-le-pow_right, value, is_half_num, is_whole_num, num_one, Surd, surd_of, one_not_zero, IsHeld, HighLow, zero_fraction, one_fraction}
-use Rattle.node_bounds.proofs.Shared.{minus_one_fraction, whole_fraction, zero_test, whole_numerator, Tree, num, undef, power, Trees, none, more, is_num, is_undef, has_undef, IsReducedPower}
-use Rattle.node_bounds.proofs.Shared.{lacks_power, AreFewBits, HoldsPower, HoldsDifference, HoldsNode, numerator, has_number_power, HasFewBitsRaised, HasWideRoot, IsOverflow, IfRational}
-use Rattle.node_bounds.proofs.Shared.{IsNoLargerThanRoot, int_is_negative, is_zero_or_one, rewritten, as_whole, IsFactorHeld, AreFactorsHeld, none_held, number_as_factor, no_factors_held, IsSumHeld}
-use Rattle.node_bounds.proofs.{Shared.{addends_of_each, trees_together, minus_one_held, nothing_held, IfOverflow, OfOverflow, NumberFault, or_parts, cases_Bool}, Clashes.{clash, rational_number}}
-use Rattle.node_bounds.proofs.{HeldFactors.{factor_wider, factor_tree}, HeldParts.{fine}, HeldRoots.{root_fits}, Rewritten.{whole_rewriting}}
+use Rattle.node_bounds.proofs.Shared.{◌≡◌, ◌≢◌, ℕ, suc, ◌+◌, ◌*◌, ◌^◌, ◌≤◌, [], ◌∷◌, ℤ, Bool, true, false, ◌||◌, if◌then◌else◌, Option, Some, None, Result, Ok, Err, refl, sym, ap, ◌∙◌, subst, arith}
+use Rattle.node_bounds.proofs.Shared.{inl, inr, IfOk, IfErr, IsOk, pow_pos, pow-add, pow-le-pow_right, value, is_half_num, is_whole_num, num_one, Surd, surd_of, one_not_zero, IsHeld, HighLow}
+use Rattle.node_bounds.proofs.Shared.{zero_fraction, one_fraction, minus_one_fraction, whole_fraction, zero_test, whole_numerator, Tree, num, undef, power, Trees, none, more, is_num, is_undef}
+use Rattle.node_bounds.proofs.Shared.{has_undef, IsReducedPower, lacks_power, AreFewBits, HoldsPower, HoldsDifference, HoldsNode, numerator, has_number_power, HasFewBitsRaised, HasWideRoot}
+use Rattle.node_bounds.proofs.Shared.{IsOverflow, IfRational, IsNoLargerThanRoot, int_is_negative, is_zero_or_one, rewritten, as_whole, IsFactorHeld, AreFactorsHeld, none_held, number_as_factor}
+use Rattle.node_bounds.proofs.Shared.{no_factors_held, IsSumHeld, addends_of_each, trees_together, minus_one_held, nothing_held, IfOverflow, OfOverflow, NumberFault, or_parts, cases_Bool}
+use Rattle.node_bounds.proofs.{Clashes.{clash, rational_number}, HeldFactors.{factor_wider, factor_tree}, HeldParts.{fine}, HeldRoots.{root_fits}, Rewritten.{whole_rewriting}}
 use Rattle.product_reduce.specs.Bits.{factor_held}
 use Rattle.calc_bits.specs.Bounds as few
 

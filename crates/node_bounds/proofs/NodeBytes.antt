@@ -1,10 +1,9 @@
 -- How many bytes suffice for the node of a tree over reduced children.
-use Rattle.std.proofs.Common.{◌≡◌, ◌||◌, ℕ, negsuc, ◌+◌, ◌*◌, ◌^◌, ◌≤◌, ◌<◌, List, length, true, Result, arith, IfErr}
-use Rattle.node_bounds.proofs.Shared.{pow_pos, IsAssignment, is_reduced, is_half_num, reduced_words, counted, SpansTree, num_bytes, tree_bytes, minus_one_fraction, Tree, num, mult, power, neg, Trees}
-use Rattle.node_bounds.proofs.Shared.{none, more, count, is_add, is_mult, is_root, is_num, is_sub, is_div, root_kind, size, Kind, HasNodesFor, SpansNode, factors_room, IsCalmAtZero, whole_power_room}
-use Rattle.node_bounds.proofs.Shared.{base_in, exponent_in, whole_is, IsFull, argument_of, LacksBelow, nth, children_of, NumberFault, IsCalm, zeros, product_count, sum_count, sum_room, product_room}
-use Rattle.node_bounds.proofs.{Shared.{power_room, product_power_room, simple_room, whole_number, counts_one, product_at_most, scaled, numbers_and_others}, Clashes.{rational_number}}
-use Rattle.node_bounds.proofs.{Calm.{calm_power}, JointCounts.{numbers_one}, PowerBytes.{needs_most}}
+use Rattle.node_bounds.proofs.Shared.{◌≡◌, ◌||◌, ℕ, negsuc, ◌+◌, ◌*◌, ◌^◌, ◌≤◌, ◌<◌, List, length, true, Result, arith, IfErr, pow_pos, IsAssignment, is_reduced, is_half_num, reduced_words, counted}
+use Rattle.node_bounds.proofs.Shared.{SpansTree, num_bytes, tree_bytes, minus_one_fraction, Tree, num, mult, power, neg, Trees, none, more, count, is_add, is_mult, is_root, is_num, is_sub, is_div}
+use Rattle.node_bounds.proofs.Shared.{root_kind, size, Kind, HasNodesFor, SpansNode, factors_room, IsCalmAtZero, whole_power_room, base_in, exponent_in, whole_is, IsFull, argument_of, LacksBelow, nth}
+use Rattle.node_bounds.proofs.Shared.{children_of, NumberFault, IsCalm, zeros, product_count, sum_count, sum_room, product_room, power_room, product_power_room, simple_room, whole_number, counts_one}
+use Rattle.node_bounds.proofs.{Shared.{product_at_most, scaled, numbers_and_others}, Clashes.{rational_number}, Calm.{calm_power}, JointCounts.{numbers_one}, PowerBytes.{needs_most}}
 use Rattle.calc_terms.specs.declared.kind.Kind.TheVariants as kind
 
 -- ---- sums and products

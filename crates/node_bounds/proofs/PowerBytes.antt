@@ -1,14 +1,13 @@
 -- How many bytes suffice for the calls on a whole power that is rewritten.
-use Rattle.std.proofs.Common.{◌≡◌, ℕ, ◌+◌, ◌*◌, ◌^◌, ◌≤◌, ◌<◌, List, length, Bool, true, false, not, ◌&&◌, if◌then◌else◌, refl, sym, ap, subst, arith, inl, inr}
-use Rattle.node_bounds.proofs.Shared.{and_parts, pow_pos, is_number, is_reduced, are_reduced, is_num_one, is_whole_num, split_product, HasForm, reduced_words, counted, counted_among, SpansRoot}
-use Rattle.node_bounds.proofs.Shared.{SpansTree, SpansTrees, tree_bytes, counted_number, counted_other, Tree, mult, power, root, Trees, none, more, append, is_mult, size, sizes, AllPartsOf}
-use Rattle.node_bounds.proofs.Shared.{reduced_parts, parts_reduced, IsCalmAtZero, whole_power_room, AreReducedPowers, removed, parts_of, raised, parts_counted, HasFactors, product_factors, parts_span}
-use Rattle.node_bounds.proofs.Shared.{product_parts, nth, HasCalmExponent, AreCalm, zeros, counted_in_all, numbers_among, product_count, exponent_count, product_room, power_room, product_power_room}
-use Rattle.node_bounds.proofs.Shared.{counts_one, number_counts_one, product_at_most, raised_factor, raised_number, scaled, power_counts, exponents_multiplied, cases_Bool, appended, sizes_append}
-use Rattle.node_bounds.proofs.{Shared.{and_cases, not-false}, Clashes.{contrary}, Calm.{calm_exponent}, JointBytes.{product_base}, JointCounts.{numbers_one}, Rewritten.{AreSingle, parts_calm}}
-use Rattle.node_bounds.proofs.Rewritten.{parts_single, powers_raised, root_counts}
-use Rattle.tree_room.proofs.{Coefficients.{split_counts}, Counts.{numbers_appended as numbers_append, no_number as numbers_other}}
-use Rattle.coefficients.proofs.Rooms.{no_numbers}
+use Rattle.node_bounds.proofs.Shared.{formed_reduced, ◌≡◌, ℕ, ◌+◌, ◌*◌, ◌^◌, ◌≤◌, ◌<◌, List, length, Bool, true, false, not, ◌&&◌, if◌then◌else◌, refl, sym, ap, subst, arith, inl, inr, and_parts}
+use Rattle.node_bounds.proofs.Shared.{pow_pos, is_number, is_reduced, are_reduced, is_num_one, is_whole_num, split_product, HasForm, reduced_words, counted, counted_among, SpansRoot, SpansTree}
+use Rattle.node_bounds.proofs.Shared.{SpansTrees, tree_bytes, counted_number, counted_other, Tree, mult, power, root, Trees, none, more, append, is_mult, size, sizes, AllPartsOf, reduced_parts}
+use Rattle.node_bounds.proofs.Shared.{parts_reduced, IsCalmAtZero, whole_power_room, AreReducedPowers, removed, parts_of, raised, parts_counted, HasFactors, product_factors, parts_span, product_parts}
+use Rattle.node_bounds.proofs.Shared.{nth, HasCalmExponent, AreCalm, zeros, counted_in_all, numbers_among, product_count, exponent_count, product_room, power_room, product_power_room, counts_one}
+use Rattle.node_bounds.proofs.Shared.{number_counts_one, product_at_most, raised_factor, raised_number, scaled, power_counts, exponents_multiplied, cases_Bool, appended, sizes_append, and_cases}
+use Rattle.node_bounds.proofs.{Shared.{not-false, split_counts, no_numbers}, Clashes.{contrary}, Calm.{calm_exponent}, JointBytes.{product_base}, JointCounts.{numbers_one}, Rewritten.{AreSingle}}
+use Rattle.node_bounds.proofs.Rewritten.{parts_calm, parts_single, powers_raised, root_counts}
+use Rattle.tree_room.proofs.Counts.{numbers_appended as numbers_append, no_number as numbers_other}
 pub use Rattle.like_children.proofs.Parts.{first_parts}
 pub use Rattle.coefficients.proofs.TermMultiples.{behind_parts as last_parts}
 
@@ -142,10 +141,6 @@ part_fits c g o k m s hm hk l u = let p : (g + o) * m ≤ c * m = scaled (g + o)
 
 number_fits : (c o m s : ℕ) → 1 ≤ m → 1 ≤ c → o ≤ c → s ≤ 204 * o * m → 8 + s + power_room 1 m ≤ product_power_room c m
 number_fits c o m s hm hc l u = let p : o * m ≤ c * m = scaled o c m l in let q : 1 * m ≤ c * m = scaled 1 c m hc in omega (arith, p, q, u)
-
-formed_reduced : (ts : Trees) → AllPartsOf HasForm ts → are_reduced ts ≡ true
-formed_reduced none h = refl
-formed_reduced (more t ts) h = rw (parts_reduced t h.0, formed_reduced ts h.1) refl
 
 module _ (gs : List ℕ) (ns : List (List ℕ)) (fs : Trees) (e : Tree) (h : is_reduced (mult fs) ≡ true) (n : is_number (mult fs) ≡ false) (w : is_whole_num e ≡ true) (c : IsCalmAtZero ns (power (mult fs) e)) (spans : SpansTrees gs fs) where
   parts_formed : AllPartsOf HasForm (parts_of fs)

@@ -1,10 +1,8 @@
 -- What reduced powers count, and that they are calm and spanned.
-use Rattle.std.proofs.Common.{◌≡◌, ℕ, ℤ, ◌+◌, ◌≤◌, List, Bool, true, false, None, refl, sym, ◌∙◌, subst, arith}
-use Rattle.node_bounds.proofs.Shared.{is_number, number_words, counted, SpansTree, Fraction, whole_fraction, int_is_negative, Tree, num, undef, power, root, is_num, is_undef, zero_is, one_is}
-use Rattle.node_bounds.proofs.Shared.{IsCalmAtZero, KeepsRoom, KeepsRootRoom, SpansRootOf, power_count, has_no_power, has_number_power, IsPowerAnswer, IsWrittenPower, is_zero_or_one, rewritten}
-use Rattle.node_bounds.proofs.Shared.{answer_counts, whole_power_counts, answer_spans, whole_is, has_no_root, IsRootAnswer, zeros, number_calm, whole_number, counts_one, number_counts_one}
-use Rattle.node_bounds.proofs.{Clashes.{undef_words}, Calm.{calm_base, calm_power}}
-use Rattle.radical_forms.proofs.RootValues.{root_of_zero}
+use Rattle.node_bounds.proofs.Shared.{◌≡◌, ℕ, ℤ, ◌+◌, ◌≤◌, List, Bool, true, false, None, refl, sym, ◌∙◌, subst, arith, is_number, number_words, counted, SpansTree, Fraction, whole_fraction}
+use Rattle.node_bounds.proofs.Shared.{int_is_negative, Tree, num, undef, power, root, is_num, is_undef, zero_is, one_is, IsCalmAtZero, KeepsRoom, KeepsRootRoom, SpansRootOf, power_count, has_no_power}
+use Rattle.node_bounds.proofs.Shared.{has_number_power, IsPowerAnswer, IsWrittenPower, is_zero_or_one, rewritten, answer_counts, whole_power_counts, answer_spans, whole_is, has_no_root, IsRootAnswer}
+use Rattle.node_bounds.proofs.{Shared.{zeros, number_calm, whole_number, counts_one, number_counts_one, root_of_zero}, Clashes.{undef_words}, Calm.{calm_base, calm_power}}
 
 -- ---- counts
 

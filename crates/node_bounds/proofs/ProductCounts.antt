@@ -1,15 +1,11 @@
 -- The product of an exponent that counts its base and of a whole number counts it as often as both together.
-use Rattle.std.proofs.{Common.{◌≡◌, ℕ, ℤ, ◌*ℤ◌, Bool, true, false, ◌||◌, ◌==◌, List, refl, sym, ap, ◌∙◌, subst, arith, inl, inr}, Math.IntN.{*ℤ_comm}}
-use Rattle.node_bounds.proofs.Shared.{and_parts, is_number, value, are_reduced, is_reduced, product_tree, Same, surd_of, number_words, Same-trans, Same-eq, Same-surd_times, Fraction, whole_fraction}
-use Rattle.node_bounds.proofs.Shared.{one_fraction, Tree, num, symbol, add, mult, Trees, none, more, has_undef, with_coefficient, IsMonic, reduced_parts, IsCountedWithin, MultipliesCounts, is_zero}
-use Rattle.node_bounds.proofs.Shared.{IsFinished, IsWrittenProduct, opened, numbers_in, others_in, product_of_values, coefficient_times, have_partners, whole_of, num_value, num_counted, zero_counted}
-use Rattle.node_bounds.proofs.Shared.{put_counted, Counts, counts, multiple, counts_of, is_counted, IsWithin, symbol_monic, permuted_none_is, cases_Bool}
-use Rattle.node_bounds.proofs.Clashes.{clash, unclear, rational_number, zero_words}
-use Rattle.calc_algebra.proofs.ExponentLaws.{whole_times}
-use Rattle.tree_bits.proofs.ExponentBits.{counted_defined, multiple_of}
-use Rattle.product_reduce.proofs.Misfits.{permuted_one_is}
-use Rattle.like_children.proofs.Permutations.{of_lists}
-use Rattle.sum_reduce.proofs.{CollectedExponents.{whole_number, as_whole}, CountedMultiples.{within_after, product_within}}
+use Rattle.node_bounds.proofs.Shared.{◌≡◌, ℕ, ℤ, ◌*ℤ◌, Bool, true, false, ◌||◌, ◌==◌, List, refl, sym, ap, ◌∙◌, subst, arith, inl, inr, *ℤ_comm, and_parts, is_number, value, are_reduced, is_reduced}
+use Rattle.node_bounds.proofs.Shared.{product_tree, Same, surd_of, number_words, Same-trans, Same-eq, Same-surd_times, Fraction, whole_fraction, one_fraction, Tree, num, symbol, add, mult, Trees}
+use Rattle.node_bounds.proofs.Shared.{none, more, has_undef, with_coefficient, IsMonic, reduced_parts, IsCountedWithin, MultipliesCounts, is_zero, IsFinished, IsWrittenProduct, opened, numbers_in}
+use Rattle.node_bounds.proofs.Shared.{others_in, product_of_values, coefficient_times, have_partners, whole_of, num_value, num_counted, zero_counted, put_counted, Counts, counts, multiple, counts_of}
+use Rattle.node_bounds.proofs.Shared.{is_counted, IsWithin, symbol_monic, permuted_none_is, cases_Bool, whole_times, counted_defined, multiple_of, permuted_one_is, of_lists, within_after}
+use Rattle.node_bounds.proofs.{Shared.{product_within}, Clashes.{clash, unclear, rational_number, zero_words}}
+use Rattle.sum_reduce.proofs.CollectedExponents.{whole_number, as_whole}
 
 -- ---- the factors
 

@@ -1,13 +1,12 @@
 -- Whole powers that are rewritten: by which rule, and what the trees for them count.
-use Rattle.std.proofs.Common.{rules, ◌≡◌, ℕ, ℤ, suc, ◌+◌, ◌≤◌, List, inl, inr, Bool, true, false, not, ◌&&◌, if◌then◌else◌, Some, refl, sym, ap, ◌∙◌, subst, arith}
-use Rattle.node_bounds.proofs.Shared.{and_parts, true≢false, Assignment, is_number, is_reduced, is_whole_num, is_num_one, split_product, NoneIs, number_test, counted, SpansTree, SpansTrees}
-use Rattle.node_bounds.proofs.Shared.{whole_fraction, Tree, num, mult, power, root, Trees, none, more, count, is_mult, is_num, reduced_parts, IsReducedProduct, IsReducedPower, IsCalmAtZero, KeepsRoom}
-use Rattle.node_bounds.proofs.Shared.{IsRewritten, whole_power_count, power_count, AreReducedPowers, IsLifted, IsMultiplied, IsProductOfPowers, base_in, exponent_in, half, parts_of, raised}
-use Rattle.node_bounds.proofs.Shared.{rewritten_whole, parts_counted, whole_power_counts, as_whole, whole_no_half, HasFactors, product_factors, chosen, parts_span, whole_is, children_of, IsCalm}
-use Rattle.node_bounds.proofs.Shared.{AreCalm, zeros, counted_in_all, product_whole, whole_number, counts_one, numbers_and_others, power_counts, of_a_power, of_a_root, not-true, and_right}
-use Rattle.node_bounds.proofs.{Shared.{not_from_true, is_half_num, rewritten}, Calm.{calm_base, calm_exponent, calm_product, calm_power, calm_whole, whole_kept, whole_of_number}}
-use Rattle.node_bounds.proofs.{JointBytes.{product_base}, JointRooms.{whole_numbers, whole_count_most}}
-use Rattle.power_reduce.proofs.Rules.{nothing}
+use Rattle.node_bounds.proofs.Shared.{rules, ◌≡◌, ℕ, ℤ, suc, ◌+◌, ◌≤◌, List, inl, inr, Bool, true, false, not, ◌&&◌, if◌then◌else◌, Some, refl, sym, ap, ◌∙◌, subst, arith, and_parts, true≢false}
+use Rattle.node_bounds.proofs.Shared.{Assignment, is_number, is_reduced, is_whole_num, is_num_one, split_product, NoneIs, number_test, counted, SpansTree, SpansTrees, whole_fraction, Tree, num, mult}
+use Rattle.node_bounds.proofs.Shared.{power, root, Trees, none, more, count, is_mult, is_num, reduced_parts, IsReducedProduct, IsReducedPower, IsCalmAtZero, KeepsRoom, IsRewritten, whole_power_count}
+use Rattle.node_bounds.proofs.Shared.{power_count, AreReducedPowers, IsLifted, IsMultiplied, IsProductOfPowers, base_in, exponent_in, half, parts_of, raised, rewritten_whole, parts_counted}
+use Rattle.node_bounds.proofs.Shared.{whole_power_counts, as_whole, whole_no_half, HasFactors, product_factors, chosen, parts_span, whole_is, children_of, IsCalm, AreCalm, zeros, counted_in_all}
+use Rattle.node_bounds.proofs.Shared.{product_whole, whole_number, counts_one, numbers_and_others, power_counts, of_a_power, of_a_root, not-true, and_right, not_from_true, is_half_num, rewritten}
+use Rattle.node_bounds.proofs.{Shared.{nothing}, Calm.{calm_base, calm_exponent, calm_product, calm_power, calm_whole, whole_kept, whole_of_number}, JointBytes.{product_base}}
+use Rattle.node_bounds.proofs.JointRooms.{whole_numbers, whole_count_most}
 
 -- ---- rules
 

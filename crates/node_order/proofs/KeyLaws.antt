@@ -1,9 +1,8 @@
 -- Keys, and the fronts of their trees.
-use Rattle.node_order.proofs.Shared.{◌≡◌, ◌≢◌, ℕ, suc, ◌-◌, ◌^◌, ◌<◌, ◌≤◌, [], ◌∷◌, length, eqb, cond, refl, sym, ap, ◌∙◌, arith, append-nil, true, ne_eqb, Payload, bare, Tree, mult}
-use Rattle.node_order.proofs.Shared.{Trees, count, is_mult, Front, Key, Shows, trees_behind, key_tree, IsKey, State, Visit, grown, plains, plain, takes, children_of, IsWhole, IsExpression, Forest}
-use Rattle.node_order.proofs.Shared.{empty, tree, arity, rest_trees, kids, nodes_in, holds, tree_at, kids_of, payload_in, Stands, forest, visits_of, arity-rest_trees, all-rest_trees, few_in}
-use Rattle.node_order.proofs.{Shared.{children_of-plain, count-plains, whole_kids, expression_children, found, found-kids, found-rest_trees, visits_length, product_tree}, Pairs.{shows_first}}
-use Rattle.node_order.proofs.Roots.{is_grown}
+use Rattle.node_order.proofs.Shared.{◌≡◌, ◌≢◌, ℕ, suc, ◌-◌, ◌^◌, ◌<◌, ◌≤◌, [], ◌∷◌, length, eqb, cond, refl, sym, ap, ◌∙◌, arith, append-nil, true, ne_eqb, Payload, bare, Tree, mult, Trees, count}
+use Rattle.node_order.proofs.Shared.{is_mult, Front, Key, Shows, trees_behind, key_tree, IsKey, State, Visit, grown, plains, plain, takes, children_of, IsWhole, IsExpression, Forest, empty, tree}
+use Rattle.node_order.proofs.Shared.{arity, rest_trees, kids, nodes_in, holds, tree_at, kids_of, payload_in, Stands, forest, visits_of, arity-rest_trees, all-rest_trees, few_in, children_of-plain}
+use Rattle.node_order.proofs.{Shared.{count-plains, whole_kids, expression_children, found, found-kids, found-rest_trees, visits_length, product_tree}, Pairs.{shows_first}, Roots.{is_grown}}
 use Rattle.calc_terms.specs.declared.kind.Kind.TheVariants as kind
 
 -- where factors are left out, some are not

@@ -10,5 +10,4 @@ pub mod Listing
 pub mod Picks
 pub mod SortLaws
 pub mod Arranged
-pub mod Tested
 pub mod Shared

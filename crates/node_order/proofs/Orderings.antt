@@ -1,9 +1,6 @@
 -- Answers of comparisons, one after another.
 use Rattle.node_order.proofs.Shared.{◌≡◌, ◌≢◌, ℕ, suc, ◌<◌, arith, Ordering, Less, Equal, Greater, nat_cmp, ordering_then}
 
-pub then-equal : (a : Ordering) → ordering_then a Equal ≡ a
-then-equal a = grind arith
-
 pub then_assoc : (a b c : Ordering) → ordering_then (ordering_then a b) c ≡ ordering_then a (ordering_then b c)
 then_assoc a b c = grind arith
 

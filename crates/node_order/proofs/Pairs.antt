@@ -2,10 +2,9 @@
 use Rattle.node_order.proofs.Shared.{Bool, not, ◌==◌, ◌≡◌, ◌≢◌, ℕ, zero, suc, ◌+◌, ◌-◌, ◌^◌, ◌<◌, ◌≤◌, min, List, [], ◌∷◌, ◌++◌, length, refl, sym, ap, ◌∙◌, subst, arith, append_assoc, append-nil}
 use Rattle.node_order.proofs.Shared.{⊎_elim, true, false, Ordering, Equal, nat_cmp, ordering_then, ordering_index, cases_eq, map-append, length-append, Payload, tree_cmp, trees_cmp, Tree, Front}
 use Rattle.node_order.proofs.Shared.{IsFront, Shows, payload_cmp, State, Visit, grown, plain, plains, IsWhole, IsExpression, AllExpressions, Label, Forest, empty, tree, join, arity, node_of}
-use Rattle.node_order.proofs.Shared.{first_trees, rest_trees, nodes_in, tree_at, payload_in, Stands, forest, visits_of, AreFound, arity-join, arity-first_trees, all-join}
-use Rattle.node_order.proofs.Shared.{all-first_trees, nodes-flatten, arity_le, few_in, one_at, found, found-join, found-first_trees, seen, visits-join, visits-first_rest, visits_length, Pairs}
-use Rattle.calc_terms.specs.Trees.{more}
-use Rattle.node_order.proofs.{Orderings.{then-equal, then_assoc, then_decided, nat_cmp_less, nat_cmp_greater, nat_cmp_equal, nat_cmp-suc}, Roots.{by_roots}}
+use Rattle.node_order.proofs.Shared.{first_trees, rest_trees, nodes_in, tree_at, payload_in, Stands, forest, visits_of, AreFound, arity-join, arity-first_trees, all-join, all-first_trees}
+use Rattle.node_order.proofs.Shared.{nodes-flatten, arity_le, few_in, one_at, found, found-join, found-first_trees, seen, visits-join, visits-first_rest, visits_length, Pairs, more, then-equal}
+use Rattle.node_order.proofs.{Orderings.{then_assoc, then_decided, nat_cmp_less, nat_cmp_greater, nat_cmp_equal, nat_cmp-suc}, Roots.{by_roots}}
 
 -- ---- lists of trees
 

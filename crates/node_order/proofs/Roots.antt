@@ -1,7 +1,7 @@
 -- The order of trees is that of their roots, and then that of their children.
 use Rattle.node_order.proofs.Shared.{arith, ◌≡◌, refl, sym, ap, true, Ordering, Equal, nat_cmp, ordering_then, Payload, tree_cmp, trees_cmp, Tree, num, symbol, undef, add, mult, power, root, neg, sub}
 use Rattle.node_order.proofs.Shared.{div, Trees, root_code, value_cmp, payload_cmp, grown, plains, takes, children_of, AllExpressions, Label, Forest, empty, arity, IsGrown, grown_whole, slice_cmp}
-use Rattle.node_order.proofs.{Shared.{fraction_cmp}, Orderings.{then-equal, then_assoc}}
+use Rattle.node_order.proofs.{Shared.{fraction_cmp, then-equal}, Orderings.{then_assoc}}
 
 -- leaves of one kind by what they hold
 abbrev leaf_cmp : Tree → Tree → Ordering

@@ -1,6 +1,7 @@
 -- The names that the proofs share.
 pub use Rattle.calc_algebra.proofs.TreeOrderLaws.{tree_cmp_equal, tree_cmp_refl, tree_cmp_same, tree_cmp_total}
 pub use Rattle.calc_algebra.specs.{Reduced.{product_tree}, TreeOrder.{tree_cmp, trees_cmp}}
+pub use Rattle.calc_terms.proofs.SmallLaws.{then-equal}
 pub use Rattle.calc_terms.specs.{Fractions.{fraction_cmp}, Leaf.{name_of}, Name.{before_zero}, Payload.{Payload, bare, kind_of_payload}, Rat.{ratio_of, value_of}, Ratio.{IsRat}, Trees.{Tree, Trees}}
 pub use Rattle.calc_terms.specs.{Trees.{add, append, count, div, is_mult, more, mult, neg, none, num, power, root, root_code, sub, symbol, undef}, declared.rat.Rat.{Rat}}
 pub use Rattle.node_order.specs.{Fronts.{IsFront, Shows}, Keys.{IsKey, key_tree, trees_behind}, Picking.{picked, picked_behind}, Ranking.{place_cmp, ranked_tree}, Roots.{payload_cmp, value_cmp}}
@@ -21,15 +22,14 @@ pub use Rattle.std.specs.{Cmp.{IsStrictWeakOrder, IsTotalOrder, nat_cmp_total, o
 pub use Rattle.std.specs.{Iterator.{Yields, YieldsFirst}, Iterator.Adapters.{enumerate_count, enumerate_source, enumerate_steps}, List.{enumerate_from, filter, range_with_len, swap}}
 pub use Rattle.std.specs.{List.Sorted.{IsSorted, IsSortedBy, IsSortedByKey, IsStableByKey}, Ordering.{int_cmp, is_lt, nat_cmp, ordering_index, ordering_reverse, ordering_then}}
 pub use Rattle.std.specs.{declared.cmp.Ordering.{Ordering}, declared.cmp.Ordering.TheVariants.{Equal, Greater, Less}, declared.iter.Enumerate.{Enumerate}}
-pub use Rattle.tree_handles.proofs.{ChildPlaces.{IsSeenChild, seen_child}, Counted.{all-kids, all-tree_nth, all-with_nth}, ForestLists.{length-root_ids, rest-once_more, rest-rest, root_ids-nth}}
-pub use Rattle.tree_handles.proofs.Forests.{all-first_trees, all-join, all-rest_trees, arity-first_trees, arity-join, arity-rest_trees, arity-tree_nth, first-rest, join_assoc, keeps_after, keeps_none}
-pub use Rattle.tree_handles.proofs.{Forests.{nodes-flatten}, Given.{given_apart, given_handed, given_other, given_rest, given_root, given_same, given_told, given_without, gives_as}, Lasts.{apart}}
-pub use Rattle.tree_handles.proofs.{Lasts.{expression_root, kids_of_root, last_tree, plain_root}, Measures.{few_in, one_at}, Nths.{first_trees-behind, set_nth-behind, swapped_nth-same}}
-pub use Rattle.tree_handles.proofs.{Nths.{tree_nth-behind}, Outcomes.{by_test, eqb-sym}, Plains.{IsGrown, alone, children_of-plain, count-plains, grown_whole, plain-tree_nth, plains-join, whole_kids}}
-pub use Rattle.tree_handles.proofs.{Readings.{expression_children, number_seen, symbol_seen}, Releases.{arity_le, rest_trees-add}, Roots.{kids-put, put-put, put-same, root-put, root_arity, root_held}}
-pub use Rattle.tree_handles.proofs.Visiting.{found, found-first_trees, found-join, found-kids, found-rest_trees, next_is, seen, some_next, visits-first_rest, visits-join, visits_length}
+pub use Rattle.tree_handles.proofs.{ChildPlaces.{IsSeenChild, seen_child}, Counted.{all-kids, all-tree_nth}, ForestLists.{length-root_ids, rest-once_more, rest-rest, root_ids-nth}}
+pub use Rattle.tree_handles.proofs.Forests.{all-first_trees, all-join, all-rest_trees, arity-first_trees, arity-join, arity-rest_trees, arity-tree_nth, first-rest, join_assoc, keeps_after}
+pub use Rattle.tree_handles.proofs.{Forests.{nodes-flatten}, Refused.{kept_same as keeps_none}, Lasts.{expression_root, kids_of_root}, Measures.{few_in, one_at}, Nths.{first_trees-behind}}
+pub use Rattle.tree_handles.proofs.{Nths.{set_nth-behind, swapped_nth-same, tree_nth-behind}, Plains.{IsGrown, alone, children_of-plain, count-plains, grown_whole, plain-tree_nth, plains-join}}
+pub use Rattle.tree_handles.proofs.{Plains.{whole_kids}, Readings.{expression_children}, Releases.{arity_le, rest_trees-add}, Roots.{kids-put, put-put, put-same, root-put}, Visiting.{found}}
+pub use Rattle.tree_handles.proofs.Visiting.{found-first_trees, found-join, found-kids, found-rest_trees, seen, visits-first_rest, visits-join, visits_length}
 pub use Rattle.tree_handles.specs.{Children.{AreSiblings, IsChildAt, root_ids}, Expressions.{AllExpressions, IsExpression, IsWhole, children_of, grown, nth, plain, plains, takes}, Forest.{AllNodes}}
-pub use Rattle.tree_handles.specs.Forest.{Forest, Label, arity, empty, first_trees, flatten, join, kids, node_of, nodes_in, rest_trees, root_id, root_payload, set_nth, swapped_nth, tree, tree_nth}
-pub use Rattle.tree_handles.specs.{Forest.{with_nth, with_root_kids}, Handed.{AllOnce, Gives, IsHanded, IsOnce}, Inside.{holds, kids_of, payload_in, tree_at}}
-pub use Rattle.tree_handles.specs.{Roots.{has_root, put, root_tree, without_root}, Standing.{KeepsRefusals, Stands, forest}, Visits.{AreFound, visit_of, visits_of}, declared.visits.Visit.{Visit}}
+pub use Rattle.tree_handles.specs.Forest.{Forest, Label, arity, empty, first_trees, join, kids, node_of, nodes_in, rest_trees, root_id, set_nth, swapped_nth, tree, tree_nth}
+pub use Rattle.tree_handles.specs.{Handed.{AllOnce, IsOnce}, Inside.{holds, kids_of, payload_in, tree_at}, Roots.{has_root, put, root_tree}, Standing.{KeepsRefusals, Stands, forest}}
+pub use Rattle.tree_handles.specs.{Visits.{AreFound, visits_of}, declared.visits.Visit.{Visit}}
 pub use denote.Param.Members.{Mut}

@@ -1,13 +1,12 @@
 -- What a change of the bytes leaves.
-use Rattle.node_pool.proofs.Shared.{List, [], ap, append-nil, append_assoc, arith, drop, false, length, refl, replicate, subst, sym, take, true, ℕ, ◌++◌, ◌+◌, ◌-◌, ◌<◌}
-use Rattle.node_pool.proofs.Shared.{◌^◌, ◌∙◌, ◌∷◌, ◌≡◌, ◌≤◌, Header, Kind, header_of, is_bare, parent, put_before, drop-drop, drop-replicate, drop_at, length-append}
-use Rattle.node_pool.proofs.Shared.{length-replicate, replicate-append-replicate, take_at, code_of, form_of, IsNode, Node, encoding, fresh, header_bytes, low_bytes, payload_bytes, size_of}
-use Rattle.node_pool.proofs.Shared.{has_short_form, IsPayload, Payload, kind_of_payload, size_of_payload, length-encoding, length-low_bytes, cleared, put, rotated, slid, switched, Contents}
-use Rattle.node_pool.proofs.Shared.{contents_of, AreNodes, encodings, has, place_of, used, with_children, with_count, IsBoundary, between, exchanged, since, swapped, until, without}
+use Rattle.node_pool.proofs.Shared.{List, [], ap, append-nil, append_assoc, arith, drop, false, length, refl, replicate, subst, sym, take, true, ℕ, ◌++◌, ◌+◌, ◌-◌, ◌<◌, ◌^◌, ◌∙◌, ◌∷◌, ◌≡◌, ◌≤◌}
+use Rattle.node_pool.proofs.Shared.{Header, Kind, header_of, is_bare, parent, put_before, drop-drop, drop-replicate, drop_at, length-append, length-replicate, replicate-append-replicate, take_at}
+use Rattle.node_pool.proofs.Shared.{code_of, form_of, IsNode, Node, encoding, fresh, header_bytes, low_bytes, payload_bytes, size_of, has_short_form, IsPayload, Payload, kind_of_payload}
+use Rattle.node_pool.proofs.Shared.{size_of_payload, length-encoding, length-low_bytes, cleared, put, rotated, slid, switched, Contents, contents_of, AreNodes, encodings, has, place_of, used}
+use Rattle.node_pool.proofs.Shared.{with_children, with_count, IsBoundary, between, exchanged, since, swapped, until, without, bare_size}
 use Rattle.node_pool.proofs.{Cuts.{AreNodes-swap, AreNodes-without, cut, cut3, until-since}, Exchanges.{AreBlocks, cut4}, Fields.{IsDone, IsOf, contents_are}, Found.{IsFound, found}}
 use Rattle.node_pool.proofs.{Sizes.{AreNodes-append, AreNodes-left, AreNodes-right, encodings-append, length-encodings, used-append}, Slides.{closed_up, opened_up, switched_parts, turned}}
 use Rattle.node_pool.specs.declared.buffer.Buffer.TheInside.{Inside}
-use Rattle.calc_terms.proofs.Sizes.{bare_size}
 
 -- the fields afterwards
 pub record IsNext (p q : Inside) (ns : List Node) : Type 0 where

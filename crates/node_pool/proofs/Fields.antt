@@ -1,11 +1,8 @@
 -- A buffer whose bytes are those of a list of nodes.
-use Rattle.node_pool.proofs.Shared.{List, ap, arith, drop, get_or, length, refl, replicate, sym, take, ℕ, Bool, ◌*◌, ◌++◌, ◌+◌, ◌-◌, ◌<◌, ◌∙◌, ◌∷◌, ◌≡◌, ◌≤◌}
-use Rattle.node_pool.proofs.Shared.{bytes_in, code_of, code_small, drop-drop, encoding, form_of, form_small, has_short_form, header_bytes, kind_of_payload, low_bytes, kind_of, Node, from_bytes}
-use Rattle.node_pool.proofs.Shared.{header_in, short_at, header_of, kind_at, kind_or_undef, size_of, size_of_header, Kind, Header, header_in-encoding, Contents, IsContents, nodes_of, IsLaid}
-use Rattle.node_pool.proofs.{Shared.{contents_of, AreNodes, encodings, first_of, used, IsBoundary, since}, Cuts.boundary_le, Numbers.byte_read, Walk.here}
-use Rattle.node_pool.proofs.Sizes.{length-nodes_of, length_le_used, nodes_of-encodings, size_from}
-use Rattle.std.proofs.Common.{◌==◌}
-use Rattle.std.specs.Prelude.{Option}
+use Rattle.node_pool.proofs.Shared.{List, ap, arith, drop, get_or, length, refl, replicate, sym, take, ℕ, Bool, ◌*◌, ◌++◌, ◌+◌, ◌-◌, ◌<◌, ◌∙◌, ◌∷◌, ◌≡◌, ◌≤◌, bytes_in, code_of, code_small, drop-drop}
+use Rattle.node_pool.proofs.Shared.{encoding, form_of, form_small, has_short_form, header_bytes, kind_of_payload, low_bytes, kind_of, Node, from_bytes, header_in, short_at, header_of, kind_at}
+use Rattle.node_pool.proofs.Shared.{kind_or_undef, size_of, size_of_header, Kind, Header, header_in-encoding, Contents, IsContents, nodes_of, IsLaid, contents_of, AreNodes, encodings, first_of, used}
+use Rattle.node_pool.proofs.{Shared.{IsBoundary, since, ◌==◌, Option}, Cuts.{boundary_le}, Numbers.{byte_read}, Walk.{here}, Sizes.{length-nodes_of, length_le_used, nodes_of-encodings, size_from}}
 use Rattle.node_pool.specs.declared.buffer.Buffer.TheInside.{Inside}
 
 -- what a list of nodes owes to be the buffer's

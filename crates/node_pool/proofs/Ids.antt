@@ -21,7 +21,7 @@ pub AreDistinct-parts : (a b : List Node) → AreDistinct (a ++ b) → AreDistin
 AreDistinct-parts [] b h = (tt, h, tt)
 AreDistinct-parts (n ∷ a) b h = grind (arith, has-append, AreDistinct-parts a b h.1)
 
-eqb_sym : (a b : ℕ) → eqb a b ≡ false → eqb b a ≡ false
+pub eqb_sym : (a b : ℕ) → eqb a b ≡ false → eqb b a ≡ false
 eqb_sym a b h = ne_eqb b a (λ e. eqb-false a b h (sym e))
 
 AreApart-nil : (a : List Node) → AreApart a []

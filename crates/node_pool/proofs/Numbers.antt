@@ -1,7 +1,6 @@
 -- Numbers, byte by byte.
-use Rattle.node_pool.proofs.Shared.{List, ap, arith, drop, get_or, length, refl, suc, sym, take, zero, ℕ, ◌%◌, ◌*◌, ◌++◌, ◌+◌, ◌/◌, ◌<◌, ◌^◌, ◌∙◌, ◌∷◌}
-use Rattle.node_pool.proofs.Shared.{◌≡◌, drop_more, byte_at, bytes_low_first, to_le_bytes, w64, from_bytes, low_bytes}
-use Rattle.std.proofs.Math.Nat.{div-div-eq-div-mul, mul_assoc, mul_comm, pow-suc}
+use Rattle.node_pool.proofs.Shared.{List, ap, arith, drop, get_or, length, refl, suc, sym, take, zero, ℕ, ◌%◌, ◌*◌, ◌++◌, ◌+◌, ◌/◌, ◌<◌, ◌^◌, ◌∙◌, ◌∷◌, ◌≡◌, drop_more, byte_at, bytes_low_first}
+use Rattle.node_pool.proofs.Shared.{to_le_bytes, w64, from_bytes, low_bytes, div-div-eq-div-mul, mul_assoc, mul_comm, pow-suc}
 
 byte_is : (i n : ℕ) → byte_at i n ≡ n / 256 ^ i % 256
 byte_is i n = grind arith

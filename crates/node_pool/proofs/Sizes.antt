@@ -1,10 +1,7 @@
 -- Sizes and bytes of lists of nodes.
-use Rattle.node_pool.proofs.Shared.{List, [], ap, append_assoc, arith, drop, length, refl, suc, sym, zero, ℕ, ◌*◌, ◌++◌, ◌+◌, ◌∙◌, ◌∷◌, ◌≡◌, ◌≤◌, drop_at}
-use Rattle.node_pool.proofs.Shared.{length-append, Node, encoding, node_at, size_of, Payload, size_of_payload, length-encoding, node_at-encoding, nodes_of, AreNodes, encodings, used}
-use Rattle.calc_terms.proofs.Sizes.{payload_least}
-
-pub size_leaf : (x : Payload) → 8 ≤ size_of_payload x
-size_leaf x = payload_least x
+use Rattle.node_pool.proofs.Shared.{List, [], ap, append_assoc, arith, drop, length, refl, suc, sym, zero, ℕ, ◌*◌, ◌++◌, ◌+◌, ◌∙◌, ◌∷◌, ◌≡◌, ◌≤◌, drop_at, length-append, Node, encoding, node_at}
+use Rattle.node_pool.proofs.Shared.{size_of, Payload, size_of_payload, length-encoding, node_at-encoding, nodes_of, AreNodes, encodings, used, payload_least}
+use Rattle.calc_terms.proofs.Sizes.{payload_least as size_leaf}
 
 pub size_from : (n : Node) → 8 ≤ size_of n
 size_from n = size_leaf n.payload

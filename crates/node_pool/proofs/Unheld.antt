@@ -1,7 +1,6 @@
 -- The nodes that go of trees, one after another.
-use Rattle.node_pool.proofs.Shared.{Bool, List, [], ap, arith, cond, eqb, false, length, refl, sym, true, ℕ, ◌++◌, ◌+◌, ◌-◌, ◌<◌, ◌∙◌, ◌∷◌, ◌≡◌, ◌≤◌}
-use Rattle.node_pool.proofs.{Shared.{length-append, le-leb, ne_eqb, Node, unheld, used, between, since, until}, Cuts.{until-append, until-since}, Sizes.{length_le_used, used-append}}
-use Rattle.std.proofs.Common.{leb}
+use Rattle.node_pool.proofs.Shared.{Bool, List, [], ap, arith, cond, eqb, false, length, refl, sym, true, ℕ, ◌++◌, ◌+◌, ◌-◌, ◌<◌, ◌∙◌, ◌∷◌, ◌≡◌, ◌≤◌, length-append, le-leb, ne_eqb, Node, unheld, used}
+use Rattle.node_pool.proofs.{Shared.{between, since, until, leb}, Cuts.{until-append, until-since}, Sizes.{length_le_used, used-append}}
 
 -- no tree is left
 pub unheld_none : (ns : List Node) → unheld 0 ns ≡ []

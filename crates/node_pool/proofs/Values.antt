@@ -1,12 +1,9 @@
 -- What a node holds, read from its bytes.
-use Rattle.node_pool.proofs.Shared.{FitsSigned, List, ap, arith, drop, false, length, pos, refl, replicate, subst, sym, take, true, unsigned_abs, ℕ, ℤ, ◌++◌, ◌+◌, ◌-◌, ◌<◌}
-use Rattle.node_pool.proofs.Shared.{◌∙◌, ◌∷◌, ◌≡◌, ◌≤◌, ints, to_z-of_z, to_z_pos, drop-drop, take_at, w128, Node, from_bytes, number_at, short_at, payload_bytes}
-use Rattle.node_pool.proofs.Shared.{ratio_at, IsPayload, Payload, has_short_form, is_bare, kind_of_payload, named, rational, size_of_payload, IsRat, size_by_form, Kind, drop-encoding}
-use Rattle.node_pool.proofs.Shared.{short_at-encoding, number_at-number_bytes, short_parts, Contents, IsLaid, contents_of, first_of, has, payload_of_id, place_of, used, IsBoundary, since}
-use Rattle.node_pool.proofs.{Cuts.since-append, Fields.opened, Found.{found, place_boundary}, Walk.{here, place_room}}
-use Rattle.std.proofs.Common.{of_z, to_z, ◌<ℤ◌}
-use Rattle.calc_terms.specs.Name.{HoldsName, before_zero, is_name, padded}
-use Rattle.calc_terms.proofs.Names.{before_zero-padded, length-padded}
+use Rattle.node_pool.proofs.Shared.{FitsSigned, List, ap, arith, drop, false, length, pos, refl, replicate, subst, sym, take, true, unsigned_abs, ℕ, ℤ, ◌++◌, ◌+◌, ◌-◌, ◌<◌, ◌∙◌, ◌∷◌, ◌≡◌, ◌≤◌, ints}
+use Rattle.node_pool.proofs.Shared.{to_z-of_z, to_z_pos, drop-drop, take_at, w128, Node, from_bytes, number_at, short_at, payload_bytes, ratio_at, IsPayload, Payload, has_short_form, is_bare}
+use Rattle.node_pool.proofs.Shared.{kind_of_payload, named, rational, size_of_payload, IsRat, size_by_form, Kind, drop-encoding, short_at-encoding, number_at-number_bytes, short_parts, Contents}
+use Rattle.node_pool.proofs.Shared.{IsLaid, contents_of, first_of, has, payload_of_id, place_of, used, IsBoundary, since, of_z, to_z, ◌<ℤ◌, HoldsName, before_zero, is_name, padded, before_zero-padded}
+use Rattle.node_pool.proofs.{Shared.{length-padded}, Cuts.{since-append}, Fields.{opened}, Found.{found, place_boundary}, Walk.{here, place_room}}
 use Rattle.node_pool.specs.declared.buffer.Buffer.TheInside.{Inside}
 use Rattle.calc_terms.specs.declared.kind.Kind.TheVariants as kind
 

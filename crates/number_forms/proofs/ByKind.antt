@@ -3,9 +3,6 @@ use Rattle.number_forms.proofs.Shared.{◌≡◌, ℕ, sym, ap, ◌∙◌, true,
 use Rattle.number_forms.proofs.{Shared.{nth, children_of, plain, IsExpression, Forest, arity, kids, tree_at, kids_of, children_of-plain, count-plains, count_terms}, Shaped.{added_number}}
 use Rattle.calc_terms.specs.declared.kind.Kind.TheVariants as kind
 
-pub children_number : (i : ℕ) (f : Forest) → IsExpression i f → arity (kids_of i f) ≡ count (children_of (plain (tree_at i f)))
-children_number i f h = sym (ap count (children_of-plain (tree_at i f) h.whole) ∙ count-plains (kids (tree_at i f)))
-
 -- ---- by kind
 
 pub add_by_kind : (t : Tree) → root_kind t ≡ kind.Add → t ≡ add (children_of t)

@@ -1,7 +1,7 @@
 -- Children, one after another.
 use Rattle.number_forms.proofs.Shared.{◌≡◌, ℕ, zero, suc, ◌+◌, ◌<◌, ◌≤◌, List, [], ◌∷◌, ◌++◌, length, length-append, sym, ap, ◌∙◌, append_assoc, arith, count, State, root_ids, nth, plain, children_of}
 use Rattle.number_forms.proofs.Shared.{IsExpression, Forest, empty, tree, arity, root_id, first_trees, rest_trees, tree_at, kids_of, Stands, forest, few_in, item, seen_child, rest-rest, kids_below}
-use Rattle.number_forms.proofs.{Shared.{length-root_ids}, ByKind.{children_number}}
+use Rattle.number_forms.proofs.Shared.{length-root_ids, children_number}
 
 -- the children of a node from a place on are those that were passed, and those left
 pub record AreLeft (from i : ℕ) (passed left : List ℕ) (f : Forest) : Type 0 where

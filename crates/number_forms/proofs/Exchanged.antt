@@ -9,7 +9,7 @@ count_removed n none l = absurd (omega arith)
 count_removed zero (more t ts) l = refl
 count_removed (suc n) (more t ts) l = ap suc (count_removed n ts (omega arith))
 
-nth_before : (k n : ℕ) (ts : Trees) → k < n → nth k (removed n ts) ≡ nth k ts
+pub nth_before : (k n : ℕ) (ts : Trees) → k < n → nth k (removed n ts) ≡ nth k ts
 nth_before k n none l = refl
 nth_before k zero (more t ts) l = absurd (omega arith)
 nth_before zero (suc n) (more t ts) l = refl

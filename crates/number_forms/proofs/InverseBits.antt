@@ -1,7 +1,7 @@
 -- How large the inverse of a Number is.
-use Rattle.number_forms.proofs.Shared.{arith, ◌≡◌, ◌≢◌, [], ◌∷◌, true, sym, ap, ◌∙◌, subst, Rises, is_number, value, Term, Surd, inverse_times_itself, factor_not_zero, term_not_zero, AreProper}
-use Rattle.number_forms.proofs.Shared.{value_proper, value_rises, number_words, times_comm, Fraction, zero_fraction, inverse, Tree, none, more, one_is, zero_test, whole_numerator, inverse_trees}
-use Rattle.number_forms.proofs.Shared.{IsInverseOf, term_tree, inverse_of, first_of_inverse, second_of_inverse, IsNoLargerThanInverse, one_no_larger, two_no_larger}
+use Rattle.number_forms.proofs.Shared.{inverse_not_zero, arith, ◌≡◌, ◌≢◌, [], ◌∷◌, true, sym, ap, ◌∙◌, subst, Rises, is_number, value, Term, Surd, inverse_times_itself, factor_not_zero, term_not_zero}
+use Rattle.number_forms.proofs.Shared.{AreProper, value_proper, value_rises, number_words, times_comm, Fraction, zero_fraction, inverse, Tree, none, more, one_is, zero_test, whole_numerator}
+use Rattle.number_forms.proofs.Shared.{inverse_trees, IsInverseOf, term_tree, inverse_of, first_of_inverse, second_of_inverse, IsNoLargerThanInverse, one_no_larger, two_no_larger}
 use Rattle.calc_algebra.specs.Numbers.{term_of}
 
 -- ---- the terms of written trees
@@ -13,9 +13,6 @@ written_value : (s : Term) → s.coefficient ≢ zero_fraction → value (term_t
 written_value s n = grind (arith, zero_test, one_is, whole_numerator)
 
 -- ---- inverses
-
-inverse_not_zero : (a : Fraction) → a ≢ zero_fraction → inverse a ≢ zero_fraction
-inverse_not_zero a n = factor_not_zero a (inverse a) (times_comm a (inverse a) ∙ inverse_times_itself a n)
 
 one_tree : {a b : Tree} → more a none ≡ more b none → b ≡ a
 one_tree e = cc

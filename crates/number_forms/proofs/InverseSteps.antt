@@ -1,10 +1,9 @@
 -- Inverses by terms.
-use Rattle.number_forms.proofs.Shared.{◌≡◌, ℕ, ◌≤◌, [], ◌∷◌, Some, Err, length, true, false, refl, sym, ap, ◌∙◌, subst, arith, slice_get, None, is_number, is_term, value, Rises}
-use Rattle.number_forms.proofs.Shared.{are_alike, Inverts, Term, term, Surd, Fraction, Tree, Trees, num, add, more, none, size, sizes, Inverts-Same, value_rises}
-use Rattle.number_forms.proofs.Shared.{number_words, term_words, Same-eq, IsNumberOf, Full, inverse_trees, IsInverseOf, HasInverse, LacksInverse, InverseOverflows, inverting_calculations, term_tree}
-use Rattle.number_forms.proofs.Shared.{sum_of_terms, first_misfit, inverse_of, first_of_inverse, second_of_inverse, building, taking, node_sizes, nodes_sizes, NumberFault, OfOverflow, OfFull}
-use Rattle.number_forms.proofs.{ListedTerms.{term_is, term_words_of}, Over.{of_over}, Placings.{lacking_below, lacking_on, rational_term}, Shaped.{single_number, sum_number}}
-use Rattle.number_forms.proofs.Worth.{Same-sym, some_term}
+use Rattle.number_forms.proofs.Shared.{◌≡◌, ℕ, ◌≤◌, [], ◌∷◌, Some, Err, length, true, false, refl, sym, ap, ◌∙◌, subst, arith, slice_get, None, is_number, is_term, value, Rises, are_alike, Inverts}
+use Rattle.number_forms.proofs.Shared.{Term, term, Surd, Fraction, Tree, Trees, num, add, more, none, size, sizes, Inverts-Same, value_rises, number_words, term_words, Same-eq, IsNumberOf, Full}
+use Rattle.number_forms.proofs.Shared.{inverse_trees, IsInverseOf, HasInverse, LacksInverse, InverseOverflows, inverting_calculations, term_tree, sum_of_terms, first_misfit, inverse_of}
+use Rattle.number_forms.proofs.Shared.{first_of_inverse, second_of_inverse, building, taking, node_sizes, nodes_sizes, NumberFault, OfOverflow, OfFull, Same-sym}
+use Rattle.number_forms.proofs.{ListedTerms.{term_is, term_words_of}, Over.{of_over}, Placings.{lacking_below, lacking_on, rational_term}, Shaped.{single_number, sum_number}, Worth.{some_term}}
 use Rattle.calc_algebra.specs.Numbers.{term_of}
 use Rattle.surd_terms.specs.{Terms.{term_of as code}, declared.term.Term.{Term as CodeTerm}}
 use Rattle.tree_handles.specs.declared.fault.NumberFault.TheVariants as fault

@@ -1,11 +1,11 @@
 -- Terms as values, and as trees: with one more, and with one less.
 use Rattle.number_forms.proofs.Shared.{◌≡◌, ◌≢◌, ◌⊎◌, ℕ, zero, suc, ◌<◌, ◌≤◌, ◌^◌, ◌+◌, ◌*◌, List, [], ◌∷◌, ◌++◌, Bool, true, false, length, get_or, set, take, inl, inr, refl, sym, ap, ◌∙◌, subst}
 use Rattle.number_forms.proofs.Shared.{arith, append-nil, pos, refill, insert, remove, IsProper, num_most, size, sizes, IsExtracted, IsNumberOver, Parts, Same-append, Same-refl, is_number, joined_den}
-use Rattle.number_forms.proofs.Shared.{num, number_test, value, zero_fraction, lowest, gcd, AreTerms, IsTerm, IsSumOf, IsPlace, AreBelow, Same, Same-trans, Same-eq, SharesDenominators, Surd, Term}
-use Rattle.number_forms.proofs.Shared.{Trees, add, none, more, count, nth, removed, inserted, is_term, is_one_fraction, one_fraction, one_is, term_of, term_tree, term_words, terms_of, value_of}
-use Rattle.number_forms.proofs.Shared.{are_alike, append, AreListed, AreSmall, AreTermsOf, number_tree, trees_of, IsGcd-same, Tree, drop_all, length-set, take_all, take_more, same_from_IsGcd, Joins}
+use Rattle.number_forms.proofs.Shared.{num, number_test, value, zero_fraction, lowest, gcd, IsTerm, IsSumOf, IsPlace, AreBelow, Same, Same-trans, Same-eq, SharesDenominators, Surd, Term, Trees, add}
+use Rattle.number_forms.proofs.Shared.{none, more, count, nth, removed, inserted, is_term, is_one_fraction, one_fraction, one_is, term_of, term_tree, term_words, terms_of, value_of, are_alike, append}
+use Rattle.number_forms.proofs.Shared.{AreListed, AreSmall, AreTermsOf, number_tree, trees_of, IsGcd-same, Tree, drop_all, length-set, take_all, take_more, same_from_IsGcd, Joins, term_is_number}
 use Rattle.number_forms.proofs.{Kept.{zero_value}, Denominators.{parts_extracted, shares_eq}, Exchanged.{place_removed}, Joined.{are_removed, rises_removed}}
-use Rattle.number_forms.proofs.{Placings.{rational_term, root_term, multiple_term, one_test}, Pairs.{term_is_number}, Shaped.{sum_number, term_value}, SquareFreeSums.{apart_at_place}}
+use Rattle.number_forms.proofs.{Placings.{rational_term, root_term, multiple_term, one_test}, Shaped.{sum_number, term_value}, SquareFreeSums.{apart_at_place}}
 use Rattle.number_forms.proofs.{SumChanges.{inserted_of, cancelled, made_one, apart_rest}, TermTrees.{rational_tree, root_tree, multiple_tree}}
 use Rattle.number_forms.specs.Values.{surd_of}
 use Rattle.calc_algebra.specs.Numbers.{term_of as term_of_tree}
@@ -14,7 +14,7 @@ use Rattle.surd_terms.specs.declared.sums.Joined.TheVariants as joined
 
 -- ---- a term's tree
 
-two : (n : ℕ) → 1 ≤ n → n ≢ 1 → 2 ≤ n
+pub two : (n : ℕ) → 1 ≤ n → n ≢ 1 → 2 ≤ n
 two n l h = grind arith
 
 is_one : (n : ℕ) → (n ≡ 1) ⊎ (n ≢ 1)
@@ -45,10 +45,6 @@ term_words_of t = term_words (term_tree (term_of t)) (term_is t).0
 pub count_trees : (ts : List CodeTerm) → count (trees_of ts) ≡ length ts
 count_trees [] = refl
 count_trees (t ∷ ts) = ap suc (count_trees ts)
-
-pub are_terms_of : (ts : List CodeTerm) → AreTerms (trees_of ts)
-are_terms_of [] = tt
-are_terms_of (t ∷ ts) = (term_words_of t, are_terms_of ts)
 
 pub terms_of_trees : (ts : List CodeTerm) → terms_of (trees_of ts) ≡ surd_of ts
 terms_of_trees [] = refl
@@ -96,11 +92,6 @@ small_below (t ∷ ts) a = by (small_below ts a.1)
     by : AreBelow (10 ^ 12) (trees_of ts) → AreBelow (10 ^ 12) (trees_of (t ∷ ts))
     by below zero l = subst (λ (u : Term). u.radicand < 10 ^ 12) (sym (term_is t).1) a.0
     by below (suc k) l = below k (omega arith)
-
-pub small_at : (ts : List CodeTerm) (n : ℕ) (d : CodeTerm) → n < length ts → AreSmall ts → (get_or ts n d).radicand < 10 ^ 12
-small_at [] n d l a = absurd (omega arith)
-small_at (t ∷ ts) zero d l a = a.0
-small_at (t ∷ ts) (suc n) d l a = small_at ts n d (omega arith) a.1
 
 -- what the trees of a list are worth
 listed_as : {v : Surd} {w : Surd} (us : List CodeTerm) (ts : Trees) → trees_of us ≡ ts → IsSumOf v (add ts) → v ≡ w → AreSmall us → AreTermsOf w us

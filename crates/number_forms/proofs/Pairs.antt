@@ -26,9 +26,6 @@ pair_front p q k l m = front_after_two (behind_new p.ends front_same) (behind_ne
 pub rational_test : (t : Tree) (q : Fraction) → t ≡ num q → is_number t ≡ true
 rational_test t q e = ap is_number e ∙ number_test (num q) tt
 
-pub term_is_number : (t : Tree) → is_term t ≡ true → is_number t ≡ true
-term_is_number t h = number_test t (term_number t (term_words t h))
-
 -- ---- Numbers that were made one after the other
 
 pub number_made : {f g : Forest} {a : ℕ} → Gives f g a (λ t. is_number t ≡ true) → is_number (plain (root_tree a g)) ≡ true

@@ -1,12 +1,10 @@
 -- Whether the bytes of a term's tree suffice.
+use Rattle.tree_handles.proofs.SmallLaws.{grown_free as free_before}
+use Rattle.calc_terms.proofs.FractionFacts.{one_test as not_one_test}
 use Rattle.number_forms.proofs.Shared.{◌≡◌, ◌≢◌, ◌↔◌, ℕ, ◌+◌, ◌-◌, ◌==◌, ◌<◌, ◌≤◌, true, false, pos, List, [], ◌∷◌, ◌++◌, Result, Ok, Err, refl, sym, ap, ◌∙◌, subst, arith, IsOk, IsErr, OnOk, IfOk}
 use Rattle.number_forms.proofs.Shared.{IfErr, if◌then◌else◌, eq-eqb, lt-leb, Fraction, lowest, one_fraction, is_one_fraction, whole_fraction, gcd, Tree, num, add, mult, power, root, neg, sub, div}
 use Rattle.number_forms.proofs.Shared.{Trees, more, none, size, sizes, root_size, one_is, value, classes, Term, State, free_of, Full, term_tree, building, node_sizes, nodes_sizes, taking}
 use Rattle.number_forms.proofs.Shared.{LacksLongForm, Forest, tree_of, Gives, root_tree, plain, last_tree, Stands, forest, KeepsRefusals, IsRefused, given_told, given_free}
-
--- what is free before a tree is placed
-pub free_before : {s t : State} {i : ℕ} {u : Tree} → Stands s → Stands t → KeepsRefusals s t → Gives (forest s) (forest t) i (λ x. x ≡ u) → free_of s ≡ free_of t + size u
-free_before {t = t} h k r g = given_free h k r g ∙ ap (λ x. free_of t + size x) (given_told g)
 
 -- a refusal where a fact does not hold
 pub refused : {A E : Type 0} (r : Result A E) (P : Type 0) → IsErr r → (P → ⊥) → IsOk r ↔ P
@@ -104,9 +102,6 @@ number_alone q free full h e = grind arith
 pub one_test : is_one_fraction one_fraction ≡ true
 unfolding one_fraction lowest gcd
 one_test = refl
-
-not_one_test : (q : Fraction) → q ≢ one_fraction → is_one_fraction q ≡ false
-not_one_test q h = grind (arith, one_is)
 
 not_one : (n : ℕ) → n ≢ 1 → (n == 1) ≡ false
 not_one n h = grind arith

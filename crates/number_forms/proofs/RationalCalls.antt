@@ -2,8 +2,8 @@
 use Rattle.number_forms.proofs.Shared.{arith, ◌≡◌, ℕ, ◌++◌, Result, false, if◌then◌else◌, refl, sym, ap, ◌∙◌, subst, [], Operation, operation_fits, result_of, fraction_power, value, Same, Surd}
 use Rattle.number_forms.proofs.Shared.{surd_of, surd_times, surd_power, zero_is, number_test, zero_surd_of, surd_power-surd_of, Same-trans, Same-refl, Same-eq, Same-append, Same-surd_times}
 use Rattle.number_forms.proofs.Shared.{Same-surd_power, joined_radicand, surd_times-terms, SharesPowers, SharesDenominators, IsNumberOver, IsPowerOver, AnswersRationals, NumberFault, Fraction, plus}
-use Rattle.number_forms.proofs.Shared.{times, is_zero_fraction, calculated, value_of, Tree, num, State, operation_of, Overflow, IsPlainAnswer, IsPlainOverflow, by_test, both}
-use Rattle.number_forms.proofs.{Shared.{operation, Joint}, Worth.{Same-sym}}
+use Rattle.number_forms.proofs.Shared.{times, is_zero_fraction, calculated, value_of, Tree, num, State, operation_of, Overflow, IsPlainAnswer, IsPlainOverflow, by_test, both, operation, Joint}
+use Rattle.number_forms.proofs.Shared.{Same-sym}
 use Rattle.number_forms.specs.declared.calculating.Joint.TheVariants as joint
 
 -- ---- what an operation answers
@@ -18,7 +18,7 @@ plain_overflow op p q o h x y z = grind arith
 pub num_same : {p q : Fraction} → num p ≡ num q → p ≡ q
 num_same e = cc
 
-rational_value : (q : Fraction) → Same (value (num q)) (surd_of q)
+pub rational_value : (q : Fraction) → Same (value (num q)) (surd_of q)
 rational_value q = by_test (λ b. is_zero_fraction q ≡ b → Same (if b then [] else surd_of q) (surd_of q)) (is_zero_fraction q) (λ e f. Same-sym (zero_surd_of q (zero_is q f)))
     (λ e f. Same-refl (surd_of q)) refl
 

@@ -1,8 +1,7 @@
 -- Sums of terms whose radicands are so small that each class has one.
 use Rattle.number_forms.proofs.Shared.{◌∷◌, [], ◌≡◌, ℕ, zero, suc, ◌<◌, ◌≤◌, ◌^◌, ◌⊎◌, inl, inr, false, ap, ◌∙◌, subst, arith, false_from_ne_true, IsClean, IsBelowAll, Rises, terms_of, are_alike}
 use Rattle.number_forms.proofs.Shared.{Term, SharesDenominators, Tree, Trees, none, more, count, IsSum, IsApart, IsPlace, AreBelow, joined_den, nth, children_of, IsSquareFree, clean_square_free}
-use Rattle.number_forms.specs.Joins.{IsOther}
-use Rattle.number_forms.proofs.{Shared.{alike_square_free, sym, term_simplest, Joined, Joins, IfTerm}, Rooms.{sum_parts}, Joined.{apart_each}, Shaped.{nth_is_term}}
+use Rattle.number_forms.proofs.{Shared.{IsOther, alike_square_free, sym, term_simplest, Joined, Joins, IfTerm}, Rooms.{sum_parts}, Joined.{apart_each}, Shaped.{nth_is_term}}
 use Rattle.calc_algebra.specs.Numbers.{term_of}
 use Rattle.surd_terms.specs.{Sums.{IsSum as IsSumOfTwo}, Terms.{term_of as term_of_code}, declared.term.Term.{Term as CodeTerm}}
 use Rattle.surd_terms.specs.declared.sums.Joined.TheVariants as joined

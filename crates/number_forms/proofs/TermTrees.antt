@@ -26,9 +26,6 @@ if_gives r f g P Q e k = grind arith
 
 -- ---- rationals of the code
 
-pub whole_is : (r : Rat) (n : ℤ) → ratio_of r ≡ whole n → value_of r ≡ whole_fraction n
-whole_is r n e = ap (λ (x : Ratio). lowest x.num x.den) e
-
 pub natural_abs : (z : ℤ) (n : ℕ) → z ≡ pos n → nat_abs z ≡ natural_of z
 natural_abs z n e = ap nat_abs e ∙ sym (ap natural_of e)
 

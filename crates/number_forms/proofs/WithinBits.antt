@@ -5,9 +5,9 @@ use Rattle.number_forms.proofs.Shared.{value_rises, number_words, map-append', s
 use Rattle.number_forms.proofs.Shared.{held_left, held_right, held_pair, gcd, whole_fraction, Tree, add, count, terms_from, SumOverflows, RowOverflows, ProductOverflows, InverseOverflows}
 use Rattle.number_forms.proofs.Shared.{inverting_calculations, IsSum, Overflow, Calculation, calculation, calculation_of, first_misfit, has_rational, radicand_calculations, joining_calculations}
 use Rattle.number_forms.proofs.Shared.{IsProductMisfit, IsExtracted, magnitude_whole, radicands_fit, extracted_fits, extracted_den, children_of, nth, Mul, inverse_fits, inverse_of_sum_fits, joins_fit}
-use Rattle.number_forms.proofs.{Shared.{passed, take}, LastSums.{sum_is}, Shaped.{nth_of_terms}, SumChanges.{sum_value}, Worth.{from_next, products_next}}
+use Rattle.number_forms.proofs.{Shared.{passed, take, take-append-drop}, LastSums.{sum_is}, Shaped.{nth_of_terms}, SumChanges.{sum_value}, Worth.{from_next, products_next}}
+use Rattle.surd_bits.proofs.ProductsFit.{mul_positive as product_positive}
 use Rattle.calc_algebra.specs.Numbers.{term_of}
-use Rattle.std.proofs.lemmas.List.{take-append-drop}
 
 -- ---- lists by places
 
@@ -59,9 +59,6 @@ sum_within v w o b s =
 
 rest_positive : (n root rest : ℕ) → 0 < n → n ≡ root * root * rest → 0 < rest
 rest_positive n root rest p e = grind arith
-
-product_positive : (a b : ℕ) → 0 < a → 0 < b → 0 < a * b
-product_positive a b h k = grind arith
 
 pub no_product_misfit : (a b : Term) (h l : ℕ) (c : Calculation) → IsProper a → IsProper b → IsHeld (term_times a b ∷ []) h l → 2 * h + 4 * l ≤ 124 → IsProductMisfit a b (Some c)
     → ⊥

@@ -142,7 +142,7 @@ fn is_below_rest(pool: &Pool, term: Term, id: Id, from: u16) -> bool
 }
 
 /// The term at a place below a root.
-#[tactic(auto, using(crate::proofs::ByKind::children_number, crate::proofs::Rising::nth_term))]
+#[tactic(auto, using(child_lists::proofs::ListedChildren::children_number, crate::proofs::Rising::nth_term))]
 fn child_term(pool: &Pool, id: Id, at: u16) -> Term
     requires stands { Stands pool.now }
     requires expression { IsExpression id (forest pool.now) }

@@ -1,18 +1,11 @@
 -- Lemmas on what calls do to slots.
-use Rattle.std.proofs.{Common.{◌≡◌, ◌↔◌, ℕ, ◌%◌, ◌≤◌, List, [], length, nat_le, Bool, true, false, arith, refl, sym, ap, subst}, lemmas.Bool.{leb-false, leb-true}}
-use Rattle.std.specs.Bool.{⊤}
-use Rattle.breakers.specs.Breakers.{TripsRose}
-use Rattle.calc_session.specs.{Answers.{Answers}, declared.answers.LineAnswer.{LineAnswer}, declared.answers.LineAnswer.TheVariants.{Refused}, declared.answers.Refusal.TheVariants.{Interrupted}}
-use Rattle.node_pool.specs.State.{IsPoolSize}
-use Rattle.poincare_run.specs.Steps.{bits, room}
-use Rattle.poincare_held.specs.{Answering.{AreAnswered}, Pages.{over}, Sessions.{IsAnsweredWithin, IsDrawnOn, breakers_in, pool_use_in, state_in, text_in}, declared.held.Drawn.{Drawn}}
+use Rattle.poincare_c.proofs.Shared.{◌≡◌, ◌↔◌, ℕ, ◌%◌, ◌≤◌, List, [], length, nat_le, Bool, true, false, arith, refl, sym, ap, subst, leb-false, leb-true, ⊤, TripsRose, Answers, LineAnswer, Refused}
+use Rattle.poincare_c.proofs.Shared.{Interrupted, IsPoolSize, bits, room, AreAnswered, over, IsAnsweredWithin, IsDrawnOn, breakers_in, pool_use_in, state_in, text_in, Drawn, Held, OpenFault, PoolSize}
+use Rattle.poincare_c.proofs.Shared.{NoMemory, PoolUse, Stopper, code_of_answer, code_of_count, code_of_fault, AnswersIn, AnswersWithinIn, Draws, IsAnswered, IsAnsweredUnder, IsOpening}
+use Rattle.poincare_c.proofs.Shared.{IsOpeningStopper, IsPictured, IsTold, IsUsed, OpensStanding, OpensStopperStanding, PoolIn, TextIn, has_bad_size, has_no_memory, Changes, is_open, Slot, Standing}
+use Rattle.poincare_c.proofs.Shared.{New, Open, Closed}
 use Rattle.poincare_held.specs.declared.held.Drawn.TheVariants as drawn
-use Rattle.poincare_held.specs.{declared.held.Held.{Held}, declared.held.OpenFault.{OpenFault}, declared.held.OpenFault.TheVariants.{PoolSize, NoMemory}, declared.held.PoolUse.{PoolUse}}
-use Rattle.poincare_held.specs.declared.stopper.Stopper.{Stopper}
-use Rattle.poincare_c.specs.{Codes.{code_of_answer, code_of_count, code_of_fault}, Slots.{AnswersIn, AnswersWithinIn, Draws, IsAnswered, IsAnsweredUnder, IsOpening, IsOpeningStopper, IsPictured}}
-use Rattle.poincare_c.specs.{Slots.{IsTold, IsUsed, OpensStanding, OpensStopperStanding, PoolIn, TextIn, has_bad_size, has_no_memory}, Standings.{Changes, is_open}}
 use Rattle.poincare_c.specs.Texts as texts
-use Rattle.poincare_c.specs.{declared.slot.Slot.{Slot}, declared.standing.Standing.{Standing}, declared.standing.Standing.TheVariants.{New, Open, Closed}}
 
 -- ---- what is open stays open
 

@@ -1,10 +1,7 @@
 -- Lemmas on whole texts of lines.
-use Rattle.std.proofs.Common.{◌≡◌, ◌∙◌, ℕ, ◌<◌, List, [], ◌∷◌, ◌++◌, length, false, All, arith, refl, sym, ap, subst, append_assoc, append-nil}
-use Rattle.std.specs.Str.Lines.{strip_carriage_return}
-use Rattle.calc_session.specs.Replies.{Reply}
-use Rattle.poincare_run.specs.{Lines.{is_newline, line_of_rest, lines_of}, Steps.{LineStep, Moment, Steps, written}}
+use Rattle.poincare_held.proofs.Shared.{◌≡◌, ◌∙◌, ℕ, ◌<◌, List, [], ◌∷◌, ◌++◌, length, false, All, arith, refl, sym, ap, subst, append_assoc, append-nil, strip_carriage_return, Reply, is_newline}
+use Rattle.poincare_held.proofs.Shared.{line_of_rest, lines_of, LineStep, Moment, Steps, written, AnswersLine, AnswersLines, moment_of, Writes, told_on, Held, Page}
 use Rattle.poincare_held.proofs.LineLemmas.{lines_first, lines_last, no_lines}
-use Rattle.poincare_held.specs.{Answering.{AnswersLine, AnswersLines, moment_of}, Writing.{Writes, told_on}, declared.held.Held.{Held}, declared.page.Page.{Page}}
 
 -- the first line is answered, and then the others
 steps_first : (s t u : Moment) (line : List ℕ) (lines : List (List ℕ)) (out : List ℕ) (reply : Reply) → LineStep s line reply t → Steps t lines out u → Steps s (line ∷ lines) (written reply t ++ out) u

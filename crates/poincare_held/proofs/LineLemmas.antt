@@ -1,8 +1,7 @@
 -- The lines of a text, taken from its front.
-use Rattle.std.proofs.{Common.{◌≡◌, ◌∙◌, ℕ, List, [], ◌∷◌, ◌++◌, map, Bool, true, false, refl, sym, ap, All}, lemmas.List.Splits.{slice_split-cons_no, slice_split-cons_yes, slice_split_at}}
-use Rattle.std.proofs.lemmas.List.Splits.{slice_split_none}
-use Rattle.std.specs.{List.{onto_first}, Str.Lines.{strip_carriage_return}}
-use Rattle.poincare_run.specs.Lines.{is_newline, parts, all_but_last, last_of, line_of_rest, lines_of, rest_of, whole_lines}
+use Rattle.poincare_held.proofs.Shared.{◌≡◌, ◌∙◌, ℕ, List, [], ◌∷◌, ◌++◌, map, Bool, true, false, refl, sym, ap, All, slice_split-cons_no, slice_split-cons_yes, slice_split_at, slice_split_none}
+use Rattle.poincare_held.proofs.Shared.{onto_first, strip_carriage_return, is_newline, parts, all_but_last, last_of, line_of_rest, lines_of}
+use Rattle.poincare_run.specs.Lines.{rest_of, whole_lines}
 
 -- the parts of any bytes are some
 record Some (ps : List (List ℕ)) : Type 0 where

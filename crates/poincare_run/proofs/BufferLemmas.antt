@@ -1,7 +1,6 @@
 -- Lemmas on what is kept of a line.
-use Rattle.std.proofs.{Common.{◌≡◌, ◌∙◌, ℕ, ◌-◌, List, [], ◌∷◌, ◌++◌, length, true, false, cond, nat_eq, get_or, take, ap, arith, append-nil, length-append}, Math.Seq.{get_or-append_seam}}
-use Rattle.std.proofs.Math.Seq.{take-append_seam}
-use Rattle.poincare_run.proofs.Shared.{eqb-true, strip_carriage_return, LineBuffer, Holds, StandsFor}
+use Rattle.poincare_run.proofs.Shared.{◌≡◌, ◌∙◌, ℕ, ◌-◌, List, [], ◌∷◌, ◌++◌, length, true, false, cond, nat_eq, get_or, take, ap, arith, append-nil, length-append, get_or-append_seam}
+use Rattle.poincare_run.proofs.Shared.{take-append_seam, eqb-true, strip_carriage_return, LineBuffer, Holds, StandsFor}
 
 -- a line that ends in no carriage return is left as it is
 pub strip-plain : (bytes : List ℕ) (b : ℕ) → nat_eq b 13 ≡ false → strip_carriage_return (bytes ++ b ∷ []) ≡ bytes ++ b ∷ []

@@ -1,13 +1,12 @@
 -- What `clap` makes of the words of the command line, and the settings that they spell.
-use Rattle.std.proofs.Common.{◌≡◌, ◌∙◌, ◌⊎◌, ℕ, zero, suc, ◌+◌, ◌≤◌, ◌&&◌, ◌||◌, ◌==◌, ◌^◌, nat_le, List, [], ◌∷◌, ◌++◌, length, take, drop, map, Bool, true, false, Option, Some, None, nat_lt}
-use Rattle.std.proofs.Common.{if◌then◌else◌, refl, sym, ap, ap₂, subst, inl, inr, codes, arith, append-nil}
-use Rattle.std.specs.{Prelude.{⊤}, Str.Parse.{digits_value}, Char.{is_ascii_digit}}
-use Rattle.poincare_run.proofs.Shared.{fold, list_any, list_all, option_map_or, bytes_eq, append_assoc, bytes_eq-Decides, Held, Outcome, Row, Rule, Step, Text, Waiting, Walk, after_flag, after_step}
-use Rattle.poincare_run.proofs.Shared.{arg_by_id, arg_by_long, at_row, bundle, bundle_met, has_row, idle, long_or_other, more_values, option, plain, plain_word, positional, settled, settled_rows}
-use Rattle.poincare_run.proofs.Shared.{short_or_plain, trailing, used, used_by_id, walked, with_values, without, built, filled, Kinds, or_else, bundle_fault, flag_word_fault, flags_fault, long_fault}
-use Rattle.poincare_run.proofs.Shared.{settle_fault, step_fault, turn_fault, use_fault, walk_fault, Shape, AsWritten, CommandLine, Key, Pool, Interrupt, Generated, IsSpelled, Setting, Spells, value}
-use Rattle.poincare_run.proofs.{Shared.{draw, name_of, command_line, option_named, is_digits, value_of}, SettingLemmas.{of_both, of_test}}
-use Rattle.clap.specs.{Lexer.{long_of, long_of_rest, name_and_value, short_of}, declared.builder.action.ArgAction.TheVariants.{Set, SetTrue}}
+use Rattle.poincare_run.proofs.Shared.{◌≡◌, ◌∙◌, ◌⊎◌, ℕ, zero, suc, ◌+◌, ◌≤◌, ◌&&◌, ◌||◌, ◌==◌, ◌^◌, nat_le, List, [], ◌∷◌, ◌++◌, length, take, drop, map, Bool, true, false, Option, Some, None}
+use Rattle.poincare_run.proofs.Shared.{nat_lt, if◌then◌else◌, refl, sym, ap, ap₂, subst, inl, inr, codes, arith, append-nil, ⊤, digits_value, is_ascii_digit, fold, list_any, list_all, option_map_or}
+use Rattle.poincare_run.proofs.Shared.{bytes_eq, append_assoc, bytes_eq-Decides, Held, Outcome, Row, Rule, Step, Text, Waiting, Walk, after_flag, after_step, arg_by_id, arg_by_long, at_row, bundle}
+use Rattle.poincare_run.proofs.Shared.{bundle_met, has_row, idle, long_or_other, more_values, option, plain, plain_word, positional, settled, settled_rows, short_or_plain, trailing, used, used_by_id}
+use Rattle.poincare_run.proofs.Shared.{walked, with_values, without, built, filled, Kinds, or_else, bundle_fault, flag_word_fault, flags_fault, long_fault, settle_fault, step_fault, turn_fault}
+use Rattle.poincare_run.proofs.Shared.{use_fault, walk_fault, Shape, AsWritten, CommandLine, Key, Pool, Interrupt, Generated, IsSpelled, Setting, Spells, value, draw, name_of, command_line}
+use Rattle.poincare_run.proofs.{Shared.{option_named, is_digits, value_of, long_of, long_of_rest, name_and_value, short_of, Set, SetTrue}, SettingLemmas.{of_test}}
+use Rattle.calc_terms.proofs.Names.{neither as of_either, both as of_both}
 use Rattle.clap.specs.declared.error.kind.ErrorKind.TheVariants as kind
 
 -- ---- the rows of settings
@@ -43,10 +42,6 @@ counted id (r ∷ rows) = if bytes_eq r.id id then suc (counted id rows) else co
 -- each option has one row at most
 abbrev pub Once : List Row → Type 0
 Once rows = (k : Option Key) → counted (named_id k) rows ≤ 1
-
-pub of_either : (a b : Bool) → (a || b) ≡ false → (a ≡ false) × (b ≡ false)
-of_either true b e = absurd cc
-of_either false b e = (refl, e)
 
 pub of_else : (a b : Kinds) → or_else a b ≡ [] → (a ≡ []) × (b ≡ [])
 of_else [] b e = (refl, e)

@@ -1,15 +1,13 @@
 -- The matches of the command line give the options that its words ask for.
-use Rattle.std.proofs.Common.{◌≡◌, ◌∙◌, ℕ, ◌≤◌, ◌||◌, List, [], ◌∷◌, ◌++◌, length, Bool, true, false, Option, Some, None, is_some, nat_lt, if◌then◌else◌, ◌⊎◌, inl, inr, refl, sym, ap, ap₂, subst}
-use Rattle.std.proofs.Common.{codes, arith, append-nil, ◌↔◌}
-use Rattle.poincare_run.proofs.Shared.{find, fold, list_any, option_and_then, option_map, bytes_eq, Row, Text, Walk, first_of, has_row, more_values, one_of, row_text, rows_of, settled, nothing_held}
-use Rattle.poincare_run.proofs.Shared.{walk, with_default, App, HasMatchesOf, built, entered, is_simple, matches_of, HasKind, IsAmong, Kinds, or_else, default_fault, defaults_fault, entered_fault}
-use Rattle.poincare_run.proofs.Shared.{fault_of, is_simple_and_free, level_fault, settle_fault, walk_fault, first_value-rows, one_text-rows, AsWritten, DefaultValue, value_of, Values, Options}
-use Rattle.poincare_run.proofs.Shared.{command_line, number_in, values_named, Key, Pool, Interrupt, Generated, no_values, named_in, options_of, options_with, read, Setting, Spells, value, draw}
-use Rattle.poincare_run.proofs.{Shared.{draws_of, texts_of}, SettingLemmas.{Drawn, Follows, Joined, drawn_uncons, followed, of_map, of_then, reads, same_options, spelled, taken}}
-use Rattle.poincare_run.proofs.ClapLemmas.{AllNumbers, Once, Reads, Takes, absent, counted, draw_rule, end_of, four, free, id_of, is_separator, no_separator, of_either, of_else, read_words, rows_for}
-use Rattle.poincare_run.proofs.ClapLemmas.{rule_for, shape, take_settings, walk_at}
-use Rattle.clap.specs.{Matches.{first_value, found_of, one_text}, Values.{bool_text, kind_of}, declared.error.Error.{Error}, declared.error.kind.ErrorKind.{ErrorKind}}
-use Rattle.clap.specs.declared.parser.matches.ArgMatches.{ArgMatches}
+use Rattle.poincare_run.proofs.Shared.{◌≡◌, ◌∙◌, ℕ, ◌≤◌, ◌||◌, List, [], ◌∷◌, ◌++◌, length, Bool, true, false, Option, Some, None, is_some, nat_lt, if◌then◌else◌, ◌⊎◌, inl, inr, refl, sym, ap, ap₂}
+use Rattle.poincare_run.proofs.Shared.{subst, codes, arith, append-nil, ◌↔◌, find, fold, list_any, option_and_then, option_map, bytes_eq, Row, Text, Walk, first_of, has_row, more_values, one_of}
+use Rattle.poincare_run.proofs.Shared.{row_text, rows_of, settled, nothing_held, walk, with_default, App, HasMatchesOf, built, entered, is_simple, matches_of, HasKind, IsAmong, Kinds, or_else}
+use Rattle.poincare_run.proofs.Shared.{default_fault, defaults_fault, entered_fault, fault_of, is_simple_and_free, level_fault, settle_fault, walk_fault, first_value-rows, one_text-rows, AsWritten}
+use Rattle.poincare_run.proofs.Shared.{DefaultValue, value_of, Values, Options, command_line, number_in, values_named, Key, Pool, Interrupt, Generated, no_values, named_in, options_of, options_with}
+use Rattle.poincare_run.proofs.Shared.{read, Setting, Spells, value, draw, draws_of, texts_of, first_value, found_of, one_text, bool_text, kind_of, Error, ErrorKind, ArgMatches}
+use Rattle.poincare_run.proofs.{SettingLemmas.{Drawn, Follows, Joined, drawn_uncons, followed, of_map, of_then, reads, same_options, spelled, taken}, ClapLemmas.{AllNumbers, Once, Reads, Takes}}
+use Rattle.poincare_run.proofs.ClapLemmas.{absent, counted, draw_rule, end_of, four, free, id_of, is_separator, no_separator, of_else, read_words, rows_for, rule_for, shape, take_settings, walk_at}
+use Rattle.calc_terms.proofs.Names.{neither as of_either}
 use Rattle.poincare_run.specs.Options.{settled as reading}
 use Rattle.clap.specs.declared.error.kind.ErrorKind.TheVariants as kind
 

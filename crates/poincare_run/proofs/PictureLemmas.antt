@@ -1,11 +1,7 @@
 -- Lemmas on what is written of pictures.
-use Rattle.std.proofs.Common.{◌≡◌, ℕ, List, Bool, true, Option, Result, Ok, Err, sym, ap, subst, arith}
-use Rattle.poincare_run.proofs.Shared.{Appends, AppendsPart, IsDrawnInPart, rows_in, full, refused, text_of, State, Full, AnswersLine, FailsAtLine, Place, TakesLine, picture_if, picture_text}
-use Rattle.poincare_run.proofs.Shared.{with_newline, written, LineAnswer}
+use Rattle.poincare_run.proofs.Shared.{◌≡◌, ℕ, List, Bool, true, Option, sym, ap, subst, arith, Appends, AppendsPart, IsDrawnInPart, rows_in, State, AnswersLine, FailsAtLine, Place, TakesLine}
+use Rattle.poincare_run.proofs.Shared.{picture_if, picture_text, written, LineAnswer}
 use Rattle.calc_session.specs.Drawing.{IsDrawn}
-
-abbrev text_for : Result (List ℕ) Full → List ℕ
-text_for r = elim r [ Ok rows ↦ rows | Err refusal ↦ with_newline (text_of (refused (full refusal))) ]
 
 pub drawn_whole : (s : State) (a b : Option (List ℕ)) → IsDrawn (rows_in s) a b → Appends a b (picture_text s)
 drawn_whole s a b h = grind (arith)

@@ -1,13 +1,14 @@
 -- The options of words are those that the words ask for.
-use Rattle.std.proofs.Common.{◌≡◌, ◌⊎◌, ◌∙◌, ◌↔◌, ℕ, zero, suc, ◌<◌, ◌^◌, ◌&&◌, List, [], ◌∷◌, ◌++◌, length, drop, Bool, true, false, Option, Some, None, is_some, if◌then◌else◌, refl, sym, ap, subst}
-use Rattle.std.proofs.{Common.{inl, inr, codes, arith}, lemmas.Bool.Decides.{Decides-eqb}}
-use Rattle.std.specs.Prelude.{eqb, unwrap_or, IfSome}
-use Rattle.poincare_run.proofs.Shared.{starts_with, option_and_then, option_map, bytes_eq, append_assoc, bytes_eq-Decides, starts_is, value_of, Key, Pool, Interrupt, Generated, Reading, is_pool_size}
-use Rattle.poincare_run.proofs.Shared.{is_session_number, key_of, named_in, no_values, options_of, options_with, read, size_in, with_draw, with_generated, with_interrupt, with_number, with_pool}
-use Rattle.poincare_run.proofs.Shared.{with_value, with_word, with_next, Asks, IsDrawn, IsNumber, IsSpelled, OptionsAreAsked, Setting, Spells, OrderIsFree, value, draw, draws_of, name_of, text_in}
-use Rattle.poincare_run.proofs.Shared.{texts_of, Values, Options}
-use Rattle.node_pool.specs.State.{IsPoolSize}
+use Rattle.poincare_run.proofs.Shared.{◌≡◌, ◌⊎◌, ◌∙◌, ◌↔◌, ℕ, zero, suc, ◌<◌, ◌^◌, ◌&&◌, List, [], ◌∷◌, ◌++◌, length, drop, Bool, true, false, Option, Some, None, is_some, if◌then◌else◌, refl, sym}
+use Rattle.poincare_run.proofs.Shared.{ap, subst, inl, inr, codes, arith, Decides-eqb, eqb, unwrap_or, IfSome, starts_with, option_and_then, option_map, bytes_eq, append_assoc, bytes_eq-Decides}
+use Rattle.poincare_run.proofs.Shared.{starts_is, value_of, Key, Pool, Interrupt, Generated, Reading, is_pool_size, is_session_number, key_of, named_in, no_values, options_of, options_with, read}
+use Rattle.poincare_run.proofs.Shared.{size_in, with_draw, with_generated, with_interrupt, with_number, with_pool, with_value, with_word, with_next, Asks, IsDrawn, IsNumber, IsSpelled}
+use Rattle.poincare_run.proofs.Shared.{OptionsAreAsked, Setting, Spells, OrderIsFree, value, draw, draws_of, name_of, text_in, texts_of, Values, Options, IsPoolSize}
+use Rattle.calc_terms.proofs.Names.{both as of_both}
 use Rattle.poincare_run.specs.Options.{settled}
+
+word_is : (word name : List ℕ) → bytes_eq word name ≡ true → word ≡ name
+word_is word name e = (bytes_eq-Decides word name).0 e
 
 -- ---- what is named before settings and behind them
 
@@ -50,10 +51,6 @@ pub of_test : {X : Type 0} (b : Bool) (x y : X) → (if b then Some x else None)
 of_test true x y e = (refl, cc)
 of_test false x y e = absurd cc
 
-pub of_both : (a b : Bool) → (a && b) ≡ true → (a ≡ true) × (b ≡ true)
-of_both true b e = (refl, e)
-of_both false b e = absurd cc
-
 pub of_then : {A B : Type 0} (f : A → Option B) (o : Option A) (y : B) → option_and_then f o ≡ Some y → (x : A) × (o ≡ Some x) × (f x ≡ Some y)
 of_then f None y e = absurd cc
 of_then f (Some x) y e = (x, refl, e)
@@ -89,9 +86,6 @@ taken Generated text v w more f =
     (record v { generated = Some n }, rw (k.1.1, k.0) refl, record { pool = f.pool; interrupt = f.interrupt; generated = k.1.2; draws = f.draws })
 
 -- ---- one word
-
-word_is : (word name : List ℕ) → bytes_eq word name ≡ true → word ≡ name
-word_is word name e = (bytes_eq-Decides word name).0 e
 
 front_is : (word name : List ℕ) → starts_with eqb word name ≡ true → word ≡ name ++ drop (length name) word
 front_is word name e = (starts_is Decides-eqb word name (starts_with eqb word name) refl).0 e

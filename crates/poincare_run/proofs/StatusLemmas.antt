@@ -1,9 +1,8 @@
 -- Lemmas on the status of the program, and what it says.
-use Rattle.std.proofs.Common.{subst, ◌≡◌, ◌≢◌, ◌∙◌, ◌⊎◌, ℕ, ◌≤◌, List, [], ◌∷◌, ◌++◌, length, Bool, Option, Some, None, Contains, inl, inr, refl, sym, ap, arith, length-append}
+use Rattle.poincare_run.proofs.Shared.{subst, ◌≡◌, ◌≢◌, ◌∙◌, ◌⊎◌, ℕ, ◌≤◌, List, [], ◌∷◌, ◌++◌, length, Bool, Option, Some, None, Contains, inl, inr, refl, sym, ap, arith, length-append}
 use Rattle.poincare_run.proofs.Shared.{append_cancel_right, Consumes, State, Beginning, reads, generates, IfReads, IfGenerates, Moment, session_limit, ReadsAll, ReadsPart, ReadsLimit, WriteStops}
-use Rattle.poincare_run.proofs.Shared.{SumsUp, SumsUpInPart, EndsAs, EndsFrom, IfNoMemory, IsSummed, StopsReading, StopsWriting, SumsUpAs, status}
-use Rattle.calc_edges.specs.{Faults.{IsCalm, Rose, StopsAtFailure}, declared.failures.Failures.{Failures}}
-use Rattle.poincare_run.specs.{declared.dialog.Ending.{Ending}, declared.dialog.Ending.TheVariants.{ReadToEnd, ReadFailed, WriteFailed, LimitReached, NoMemory}}
+use Rattle.poincare_run.proofs.Shared.{SumsUp, SumsUpInPart, EndsAs, EndsFrom, IfNoMemory, IsSummed, StopsReading, StopsWriting, SumsUpAs, status, IsCalm, Rose, StopsAtFailure, Failures, Ending}
+use Rattle.poincare_run.proofs.Shared.{ReadToEnd, ReadFailed, WriteFailed, LimitReached, NoMemory}
 use Rattle.breakers.specs.State.{State as Breaker}
 
 -- what was consumed is known where the source tells its bytes

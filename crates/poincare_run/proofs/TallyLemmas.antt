@@ -1,10 +1,8 @@
 -- Lemmas on counts of answers.
-use Rattle.std.proofs.{Common.{◌≡◌, ◌∙◌, ◌⊎◌, inl, inr, ℕ, ◌+◌, ◌≤◌, List, [], ◌∷◌, ◌++◌, false, refl, sym, ap, subst, arith, length-append}, lemmas.List.Sums.{sum_by_push}}
-use Rattle.poincare_run.proofs.Shared.{LineAnswer, Blank, Shown, Stored, Undef, Report, Draw, Refused, IsAnswer, IsReport, Reply, report, forgot, Holds, is_newline, rest_of, whole_lines, Place}
-use Rattle.poincare_run.proofs.Shared.{TakesLine, Tallied, Chain, Moment, replies_of, Sort, as_shown, as_stored, as_undefined, as_refusal, as_other, sort_of, one_shown, one_stored, one_undefined}
-use Rattle.poincare_run.proofs.{Shared.{one_refusal, how_many, text_length, tally_of}, LineLemmas.{whole_lines-newline, rest_of-newline, whole_lines-other, rest_of-other}, StepLemmas.{chain_more}}
-use Rattle.poincare_run.proofs.StepLemmas.{replies-more}
-use Rattle.poincare_run.specs.declared.tally.Tally.{Tally}
+use Rattle.poincare_run.proofs.Shared.{◌≡◌, ◌∙◌, ◌⊎◌, inl, inr, ℕ, ◌+◌, ◌≤◌, List, [], ◌∷◌, ◌++◌, false, refl, sym, ap, subst, arith, length-append, sum_by_push, LineAnswer, Blank, Shown, Stored}
+use Rattle.poincare_run.proofs.Shared.{Undef, Report, Draw, Refused, IsAnswer, IsReport, Reply, report, forgot, Holds, is_newline, rest_of, whole_lines, Place, TakesLine, Tallied, Chain, Moment}
+use Rattle.poincare_run.proofs.Shared.{replies_of, Sort, as_shown, as_stored, as_undefined, as_refusal, as_other, sort_of, one_shown, one_stored, one_undefined, one_refusal, how_many, text_length}
+use Rattle.poincare_run.proofs.{Shared.{tally_of, Tally}, LineLemmas.{whole_lines-newline, rest_of-newline, whole_lines-other, rest_of-other}, StepLemmas.{chain_more, replies-more}}
 
 -- the sort that an answer tells
 abbrev pub sort_told : LineAnswer → Sort

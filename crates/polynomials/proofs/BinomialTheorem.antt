@@ -1,10 +1,9 @@
 -- The binomial theorem, for sums of two summands.
-use Rattle.std.proofs.Common.{◌≡◌, ℕ, zero, suc, ◌+◌, ◌-◌, ◌*◌, ◌/◌, ◌^◌, ◌<◌, ◌≤◌, [], ◌∷◌, ◌++◌, pos, refl, sym, ap, ◌∙◌, arith, append-nil, add_comm, add_assoc, mul-div_cancel}
-use Rattle.std.proofs.Math.Nat.{pow-suc}
-use Rattle.calc_terms.specs.{FractionLaws.{one_times, times_assoc, times_comm}, Fractions.{Fraction, lowest, one_fraction, plus, plus_lowest, times, whole_fraction}}
-use Rattle.polynomials.specs.{Binomials.{choices, summand_power}, Polynomials.{AreSame, HasExponents, Monomial, Polynomial, Summand, monomial_times, one_monomial, product, raised, row, summand}}
-use Rattle.polynomials.specs.Polynomials.{summand_times}
-use Rattle.polynomials.proofs.{Exponents.{exponents_times, one_exponents}, Worth.{plus_times, product_right, same_cons, same_is, same_joined, same_moved, same_sym, same_trans, same_turned}}
+use Rattle.polynomials.proofs.Shared.{◌≡◌, ℕ, zero, suc, ◌+◌, ◌-◌, ◌*◌, ◌/◌, ◌^◌, ◌<◌, ◌≤◌, [], ◌∷◌, ◌++◌, pos, refl, sym, ap, ◌∙◌, arith, append-nil, add_comm, add_assoc, mul-div_cancel, pow-suc}
+use Rattle.polynomials.proofs.Shared.{one_times, times_assoc, times_comm, Fraction, plus, plus_lowest, times, whole_fraction, choices, summand_power, AreSame, HasExponents, Monomial, Polynomial}
+use Rattle.polynomials.proofs.{Shared.{Summand, monomial_times, one_monomial, product, raised, row, summand, summand_times}, Exponents.{exponents_times, one_exponents}, Worth.{plus_times}}
+use Rattle.polynomials.proofs.Worth.{product_right, same_cons, same_is, same_joined, same_moved, same_sym, same_trans, same_turned}
+use Rattle.calc_terms.specs.Fractions.{lowest, one_fraction}
 
 -- ---- binomial coefficients
 

@@ -1,16 +1,10 @@
 -- How many terms are listed, and why none is listed any more.
-use Rattle.std.proofs.Common.{◌≡◌, ℕ, zero, suc, ◌+◌, ◌*◌, ◌^◌, ◌<◌, ◌≤◌, max, List, ◌++◌, length, take, ap, arith, length-append}
-use Rattle.std.proofs.Math.Nat.{mul-le-mul_left, mul_comm, pow-le-pow_right, pow-suc, pow-zero}
-use Rattle.std.specs.Prelude.{IfErr, IsErr, IsErrAnd, Result}
-use Rattle.polynomials.specs.{declared.term.Term.{Term}, declared.unfit.Unfit.{Unfit}, Rows.{AreBelow}, Unfits.{IsCaused, OfCoefficient}}
-use Rattle.polynomials.proofs.{MergeLoops.{IsMerged}, Merges.{pushed}, Products.{IsPowerTo, IsProductTo}}
+use Rattle.polynomials.proofs.Shared.{◌≡◌, ℕ, zero, suc, ◌+◌, ◌*◌, ◌^◌, ◌<◌, ◌≤◌, max, List, ◌++◌, length, take, ap, arith, length-append, mul-le-mul_left, mul_comm, pow-le-pow_right, pow-suc}
+use Rattle.polynomials.proofs.{Shared.{pow-zero, IfErr, IsErr, IsErrAnd, Result, Term, Unfit, AreBelow, IsCaused, OfCoefficient}, MergeLoops.{IsMerged}, Merges.{pushed}}
+use Rattle.polynomials.proofs.Products.{IsPowerTo, IsProductTo}
 
 pub caused_more : {P Q : Type 0} (u : Unfit) → (P → Q) → IsCaused P u → IsCaused Q u
 caused_more u f h = grind arith
-
--- an error that a `?` hands on
-pub passed_on : {A E : Type 0} (r : Result A E) (e : E) (P : E → Type 0) → IsErr r → IsErrAnd r (λ x. x ≡ e) → P e → IfErr r P
-passed_on r e P h a p = grind arith
 
 pub pushed_length : (xs : List Term) (t : Term) → length (pushed xs t) ≤ length xs + 1
 pushed_length xs t = grind (arith, length-append {A = Term})

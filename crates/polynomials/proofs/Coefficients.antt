@@ -1,9 +1,7 @@
 -- Coefficients as what polynomials are worth, and packed monomials one by one.
-use Rattle.std.proofs.Common.{◌≡◌, ℕ, zero, suc, ◌/◌, ◌%◌, ◌^◌, ◌<◌, Bool, true, false, [], ◌∷◌, refl, sym, ap, ◌∙◌, arith}
-use Rattle.std.specs.Prelude.{if◌then◌else◌}
-use Rattle.calc_terms.specs.{FractionLaws.{times_comm, zero_plus, zero_times, one_times}, Fractions.{Fraction, plus, times, zero_fraction, one_fraction}}
-use Rattle.polynomials.specs.{Packed.{monomial_of, unpacked}, Polynomials.{Monomial, Polynomial, AreSame, coefficient_at, is_same_monomial, worth}}
-use Rattle.polynomials.proofs.Exponents.{tail_below}
+use Rattle.polynomials.proofs.Shared.{◌≡◌, ℕ, zero, suc, ◌/◌, ◌%◌, ◌^◌, ◌<◌, Bool, true, false, [], ◌∷◌, refl, sym, ap, ◌∙◌, arith, if◌then◌else◌, times_comm, zero_plus, zero_times, one_times}
+use Rattle.polynomials.proofs.{Shared.{Fraction, plus, times, zero_fraction, one_fraction, unpacked, Monomial, Polynomial, AreSame, coefficient_at, is_same_monomial, worth}, Exponents.{tail_below}}
+use Rattle.polynomials.specs.Packed.{monomial_of}
 
 -- 1 for one monomial, and 0 for the others
 abbrev only : Monomial → Monomial → Fraction

@@ -1,6 +1,6 @@
 -- Exponents of products, packed and not.
 use Rattle.std.proofs.Common.{◌≡◌, ℕ, zero, suc, ◌+◌, ◌/◌, ◌%◌, ◌^◌, ◌<◌, ◌≤◌, [], ◌∷◌, ◌++◌, refl, ap, ◌∙◌, arith, zero-add, replicate}
-use Rattle.polynomials.specs.{Polynomials.{Monomial, Polynomial, Summand, HasExponents, HaveExponents, monomial_times, product, row, one_monomial}, Packed.{monomial_of, unpacked}}
+use Rattle.polynomials.specs.{Polynomials.{Monomial, Polynomial, Summand, HasExponents, HaveExponents, monomial_times, row, one_monomial}, Packed.{monomial_of, unpacked}}
 
 -- ---- of products
 
@@ -20,10 +20,6 @@ have_append d (s ∷ v) w h k = (h.0, have_append d v w (h.1) k)
 pub have_row : (d e : ℕ) (s : Summand) (w : Polynomial) → HasExponents d s.monomial → HaveExponents e w → HaveExponents (d + e) (row s w)
 have_row d e s [] h k = tt
 have_row d e s (t ∷ w) h k = (exponents_times d e s.monomial t.monomial h (k.0), have_row d e s w h (k.1))
-
-pub have_product : (d e : ℕ) (v w : Polynomial) → HaveExponents d v → HaveExponents e w → HaveExponents (d + e) (product v w)
-have_product d e [] w h k = tt
-have_product d e (s ∷ v) w h k = have_append (d + e) (row s w) (product v w) (have_row d e s w (h.0) k) (have_product d e v w (h.1) k)
 
 -- ---- packed
 

@@ -1,7 +1,6 @@
 -- Exponents up to the greatest one.
-use Rattle.std.proofs.{lemmas.List.{map-append}, Common.{◌≡◌, ℕ, suc, ◌+◌, ◌-◌, ◌/◌, ◌%◌, ◌<◌, ◌≤◌, max, List, [], ◌∷◌, length, get_or, take, sym, ap, ◌∙◌, subst, arith}}
-use Rattle.polynomials.specs.{declared.term.Term.{Term}, Packed.{unpacked}, Polynomials.{Polynomial, HasExponents, HaveExponents}, Terms.{polynomial_of, summand_of}}
-use Rattle.polynomials.proofs.{Exponents.{exponents_more, have_append}, MergeLoops.{take_one_more}}
+use Rattle.polynomials.proofs.Shared.{map-append, ◌≡◌, ℕ, suc, ◌+◌, ◌-◌, ◌/◌, ◌%◌, ◌<◌, ◌≤◌, max, List, [], ◌∷◌, length, get_or, take, sym, ap, ◌∙◌, subst, arith, Term, unpacked, Polynomial}
+use Rattle.polynomials.proofs.{Shared.{HasExponents, HaveExponents, polynomial_of, summand_of}, Exponents.{exponents_more, have_append}, MergeLoops.{take_one_more}}
 
 pub have_more : (d e : ℕ) (v : Polynomial) → d ≤ e → HaveExponents d v → HaveExponents e v
 have_more d e [] h p = tt

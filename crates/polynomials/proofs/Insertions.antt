@@ -1,10 +1,7 @@
 -- A term inserted at its place.
-use Rattle.std.proofs.Common.{◌≡◌, ◌⊎◌, ℕ, zero, suc, ◌<◌, ◌≤◌, Bool, true, false, List, [], ◌∷◌, ◌++◌, length, get_or, take, drop, inl, inr, refl, sym, ap, ◌∙◌, subst, arith, append_assoc}
-use Rattle.std.proofs.{Common.{append-nil, take-append-drop}, lemmas.List.{length-take-le}}
-use Rattle.std.specs.Prelude.{if◌then◌else◌, insert, remove}
-use Rattle.calc_terms.specs.{Fractions.{is_zero_fraction, plus}, Rat.{value_of}}
-use Rattle.polynomials.specs.{declared.term.Term.{Term}, Polynomials.{HaveExponents}, Rows.{AreBelow}, Terms.{AreTermsOf, IsBelowAll, IsNormal, polynomial_of, summand_of}, Unfits.{HasMonomial}}
-use Rattle.polynomials.proofs.Merges.{exchanged_exponents, exchanged_terms, put_exponents, put_terms, pushed}
+use Rattle.polynomials.proofs.Shared.{◌≡◌, ◌⊎◌, ℕ, zero, suc, ◌<◌, ◌≤◌, Bool, true, false, List, [], ◌∷◌, ◌++◌, length, get_or, take, drop, inl, inr, refl, sym, ap, ◌∙◌, subst, arith, append_assoc}
+use Rattle.polynomials.proofs.Shared.{append-nil, take-append-drop, length-take-le, if◌then◌else◌, insert, remove, is_zero_fraction, plus, value_of, Term, HaveExponents, AreBelow, AreTermsOf}
+use Rattle.polynomials.proofs.{Shared.{IsBelowAll, IsNormal, polynomial_of, summand_of, HasMonomial}, Merges.{exchanged_exponents, exchanged_terms, put_exponents, put_terms, pushed}}
 
 -- the list with the term at a place, where its coefficient is not 0
 abbrev pub inserted : List Term → ℕ → Term → List Term

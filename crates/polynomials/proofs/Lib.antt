@@ -11,3 +11,4 @@ pub mod GreatestExponents
 pub mod Causes
 pub mod BinomialTheorem
 pub mod PowerLists
+mod Shared

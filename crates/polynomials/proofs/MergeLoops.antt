@@ -1,22 +1,13 @@
 -- Two lists of terms on the way to one.
-use Rattle.std.proofs.Common.{◌≡◌, ℕ, zero, suc, ◌+◌, ◌<◌, ◌≤◌, List, [], ◌∷◌, ◌++◌, length, get_or, take, refl, sym, ap, ◌∙◌, subst, arith, append_assoc, append-nil}
-use Rattle.std.proofs.lemmas.List.{map-append, take_more}
-use Rattle.polynomials.specs.{declared.term.Term.{Term}, Polynomials.{Polynomial, Summand, AreSame, HasExponents, HaveExponents, row, summand_times}, Rows.{AreBelow}}
-use Rattle.polynomials.specs.Terms.{AreTermsOf, IsNormal, polynomial_of, summand_of}
-use Rattle.polynomials.proofs.{Merges.{terms_same}, Normal.{rises}, Worth.{same_cons, same_is, same_trans, same_turned}}
+use Rattle.polynomials.proofs.Shared.{◌≡◌, ℕ, zero, suc, ◌+◌, ◌<◌, ◌≤◌, List, [], ◌∷◌, ◌++◌, length, get_or, take, refl, sym, ap, ◌∙◌, subst, arith, append_assoc, map-append, take_more, Term}
+use Rattle.polynomials.proofs.{Shared.{Polynomial, Summand, AreSame, HasExponents, HaveExponents, row, summand_times, AreBelow, AreTermsOf, IsNormal, polynomial_of, summand_of}, Merges.{terms_same}}
+use Rattle.polynomials.proofs.{Normal.{rises}, Worth.{same_cons, same_is, same_trans, same_turned}}
 
 -- the sum and the products with the first j terms are merged: the list is done, and below the products to come
 pub record IsMerged (sum terms : List Term) (f : Term) (j : ℕ) (list rest : List Term) : Type 0 where
   pub terms-are : AreTermsOf (polynomial_of sum ++ row (summand_of f) (polynomial_of (take j terms))) (list ++ rest)
   pub exponents : (d : ℕ) → HaveExponents d (polynomial_of sum) → HaveExponents d (row (summand_of f) (polynomial_of terms)) → HaveExponents d (polynomial_of (list ++ rest))
   pub below : (k : ℕ) (d : Term) → j ≤ k → k < length terms → AreBelow (f.monomial + (get_or terms k d).monomial) list
-
-pub merged_none : (sum terms : List Term) (f : Term) → IsNormal sum → IsMerged sum terms f 0 [] sum
-merged_none sum terms f h = record {
-  terms-are = record { normal = h; same = same_is (sym (append-nil (polynomial_of sum))) };
-  exponents = λ d p q. p;
-  below = λ k d p q. tt;
-}
 
 pub take_one_more : (xs : List Term) (j : ℕ) (x : Term) → j < length xs → x ≡ get_or xs j x → take (j + 1) xs ≡ take j xs ++ x ∷ []
 take_one_more xs j x h e = take_more xs j x h ∙ (λ i. take j xs ++ sym e i ∷ [])

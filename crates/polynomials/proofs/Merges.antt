@@ -1,11 +1,7 @@
 -- A term put between a list and the terms behind it.
-use Rattle.std.proofs.{lemmas.List.{map-append}, Common.{◌≡◌, ℕ, ◌<◌, Bool, true, false, List, [], ◌∷◌, ◌++◌, refl, sym, arith, append_assoc}}
-use Rattle.std.specs.Prelude.{if◌then◌else◌}
-use Rattle.calc_terms.proofs.FractionFacts.{zero_is}
-use Rattle.calc_terms.specs.{Fractions.{plus, is_zero_fraction}, Rat.{value_of}}
-use Rattle.polynomials.specs.{declared.term.Term.{Term}, Polynomials.{Polynomial, AreSame, HaveExponents, summand}, Rows.{AreBelow}, Packed.{monomial_of}}
-use Rattle.polynomials.specs.Terms.{AreTermsOf, IsBelowAll, IsNormal, polynomial_of, summand_of}
-use Rattle.polynomials.proofs.{Normal.{below_less, below_push, normal_end, normal_insert, normal_remove}, Worth.{same_cons, same_is, same_joined, same_moved, same_sym, same_trans, same_without}}
+use Rattle.polynomials.proofs.Shared.{map-append, ◌≡◌, ℕ, ◌<◌, Bool, true, false, List, [], ◌∷◌, ◌++◌, refl, sym, arith, append_assoc, if◌then◌else◌, zero_is, plus, is_zero_fraction, value_of, Term}
+use Rattle.polynomials.proofs.{Shared.{Polynomial, AreSame, HaveExponents, summand, AreBelow, monomial_of, AreTermsOf, IsBelowAll, IsNormal, polynomial_of, summand_of}, Normal.{below_less}}
+use Rattle.polynomials.proofs.{Normal.{below_push, normal_end, normal_insert, normal_remove}, Worth.{same_cons, same_is, same_joined, same_moved, same_sym, same_trans, same_without}}
 
 pub same_put : (xs ys : List Term) (t : Term) → AreSame (polynomial_of (xs ++ t ∷ ys)) (summand_of t ∷ polynomial_of (xs ++ ys))
 same_put xs ys t = same_trans (same_is (map-append summand_of xs (t ∷ ys))) (same_trans (same_moved (polynomial_of xs) (summand_of t) (polynomial_of ys))

@@ -1,7 +1,6 @@
 -- Sorted lists of terms with one more, and with one less.
-use Rattle.std.proofs.Common.{◌≡◌, ◌≢◌, ℕ, zero, suc, ◌-◌, ◌<◌, ◌≤◌, List, [], ◌∷◌, ◌++◌, false, length, get_or, take, drop, inl, inr, sym, ◌∙◌, subst, arith}
-use Rattle.calc_terms.specs.{Fractions.{is_zero_fraction}, Rat.{value_of}}
-use Rattle.polynomials.specs.{declared.term.Term.{Term}, Rows.{AreBelow, StartsFrom}, Terms.{IsBelowAll, IsNormal}, Unfits.{HasMonomial}}
+use Rattle.polynomials.proofs.Shared.{◌≡◌, ◌≢◌, ℕ, zero, suc, ◌-◌, ◌<◌, ◌≤◌, List, [], ◌∷◌, ◌++◌, false, length, get_or, take, drop, inl, inr, sym, ◌∙◌, subst, arith, is_zero_fraction, value_of, Term}
+use Rattle.polynomials.proofs.Shared.{AreBelow, StartsFrom, IsBelowAll, IsNormal, HasMonomial}
 
 -- ---- in order
 
@@ -70,12 +69,6 @@ behind_other k (x ∷ ys) y e h f n = starts_behind k x ys h (let m : y.monomial
 pub first_and_rest : (ys : List Term) (y : Term) → 0 < length ys → y ≡ get_or ys 0 y → ys ≡ y ∷ drop 1 ys
 first_and_rest [] y h e = absurd (omega arith)
 first_and_rest (x ∷ ys) y h e = λ i. sym e i ∷ ys
-
-pub starts_at : (k : ℕ) (ts : List Term) (j : ℕ) (t : Term) → t ≡ get_or ts j t → k ≤ t.monomial → StartsFrom k (drop j ts)
-starts_at k [] zero t e h = tt
-starts_at k [] (suc j) t e h = tt
-starts_at k (x ∷ ts) zero t e h = let m : t.monomial ≡ x.monomial = λ i. (e i).monomial in omega arith
-starts_at k (x ∷ ts) (suc j) t e h = starts_at k ts j t e h
 
 pub below_take : (k : ℕ) (ts : List Term) (j : ℕ) (t : Term) → IsNormal ts → j < length ts → t ≡ get_or ts j t → t.monomial < k → AreBelow k (take (suc j) ts)
 below_take k [] j t h l e b = tt

@@ -1,12 +1,10 @@
 -- Lists of the powers of a term, and powers of two terms from them.
-use Rattle.std.proofs.Common.{◌≡◌, ℕ, zero, suc, inl, inr, eq-or-lt_of_le, ◌+◌, ◌-◌, ◌*◌, ◌^◌, ◌<◌, ◌≤◌, [], ◌∷◌, ◌++◌, List, length, get_or, ℤ, pos, of_z, to_z, sym, ap, ◌∙◌, subst, arith}
-use Rattle.std.proofs.{Common.{length-append, mul-le-mul}, lemmas.Int.{to_z-of_z}, lemmas.List.{get_or_append_left, get_or_push}, Math.Nat.{mul_comm, pow-le-pow_right, pow-suc, pow-zero}}
-use Rattle.std.specs.Int.{w128}
-use Rattle.calc_terms.specs.{Fractions.{lowest, one_fraction}, Rat.{ratio_of, value_of}, Ratio.{Ratio, whole}, declared.rat.Rat.{Rat}}
-use Rattle.polynomials.specs.{Binomials.{ArePowers, choices, summand_power}, declared.term.Term.{Term}, Polynomials.{HasExponents, HaveExponents, Summand, one_monomial, raised, summand}}
-use Rattle.polynomials.specs.{Polynomials.{summand_times}, Terms.{AreTermsOf, polynomial_of, summand_of}}
-use Rattle.polynomials.proofs.{BinomialTheorem.{binomial, choices_bound, mixed, mixed_to, power_exponents}, Exponents.{exponents_times, one_exponents}, Merges.{terms_same}}
-use Rattle.polynomials.proofs.Worth.{same_cons, same_is, same_trans}
+use Rattle.polynomials.proofs.Shared.{◌≡◌, ℕ, zero, suc, inl, inr, eq-or-lt_of_le, ◌+◌, ◌-◌, ◌*◌, ◌^◌, ◌<◌, ◌≤◌, [], ◌∷◌, ◌++◌, List, length, get_or, ℤ, pos, of_z, to_z, sym, ap, ◌∙◌, subst, arith}
+use Rattle.polynomials.proofs.Shared.{length-append, mul-le-mul, to_z-of_z, get_or_append_left, get_or_push, mul_comm, pow-le-pow_right, pow-suc, pow-zero, w128, lowest, ratio_of, value_of, Ratio}
+use Rattle.polynomials.proofs.Shared.{whole, Rat, ArePowers, choices, summand_power, Term, HasExponents, HaveExponents, Summand, one_monomial, raised, summand, summand_times, AreTermsOf}
+use Rattle.polynomials.proofs.{Shared.{polynomial_of, summand_of}, BinomialTheorem.{binomial, choices_bound, mixed, mixed_to, power_exponents}, Exponents.{exponents_times, one_exponents}}
+use Rattle.polynomials.proofs.{Merges.{terms_same}, Worth.{same_cons, same_is, same_trans}}
+use Rattle.calc_terms.specs.Fractions.{one_fraction}
 
 -- ---- powers
 

@@ -1,10 +1,7 @@
 -- Products of lists of terms, row by row, and powers, factor by factor.
-use Rattle.std.proofs.lemmas.List.{map-append}
-use Rattle.std.proofs.{Common.{◌≡◌, ℕ, suc, ◌+◌, ◌*◌, ◌<◌, List, [], ◌∷◌, ◌++◌, length, get_or, take, refl, sym, ap, ◌∙◌, subst, arith, append-nil, pos, ◌≤◌}, Math.Nat.{mul-le-mul_right}}
-use Rattle.calc_terms.specs.{Rat.{ratio_of, value_of}, Ratio.{whole}, declared.rat.Rat.{Rat}}
-use Rattle.polynomials.specs.{declared.term.Term.{Term}, Polynomials.{Polynomial, Summand, HasExponents, HaveExponents, one_monomial, product, raised, row, summand}}
-use Rattle.polynomials.specs.Terms.{AreTermsOf, polynomial_of, summand_of}
-use Rattle.polynomials.proofs.{Exponents.{have_row, one_exponents}, MergeLoops.{have_at, take_one_more}, Merges.{terms_same}, Scaled.{one_terms}, Worth.{product_append}}
+use Rattle.polynomials.proofs.Shared.{map-append, ◌≡◌, ℕ, suc, ◌+◌, ◌*◌, ◌<◌, List, [], ◌∷◌, ◌++◌, length, get_or, take, refl, sym, ap, ◌∙◌, subst, arith, append-nil, pos, ◌≤◌, mul-le-mul_right}
+use Rattle.polynomials.proofs.Shared.{ratio_of, value_of, whole, Rat, Term, Polynomial, Summand, HasExponents, HaveExponents, one_monomial, product, raised, row, summand, AreTermsOf, polynomial_of}
+use Rattle.polynomials.proofs.{Shared.{summand_of}, Exponents.{have_row, one_exponents}, MergeLoops.{have_at, take_one_more}, Merges.{terms_same}, Scaled.{one_terms}, Worth.{product_append}}
 use Rattle.polynomials.proofs.Worth.{product_right, same_append, same_is, same_trans}
 
 -- ---- products

@@ -1,9 +1,8 @@
 -- A rational times a polynomial, and the polynomial 1.
-use Rattle.std.proofs.Common.{◌≡◌, ℕ, List, [], ◌∷◌, false, refl, ap, ◌∙◌, pos}
-use Rattle.calc_terms.proofs.FractionFacts.{whole_numerator}
-use Rattle.calc_terms.specs.{Fractions.{Fraction, is_zero_fraction, lowest, one_fraction, times}, Integers.{int_is_zero}, Rat.{ratio_of, value_of}, Ratio.{Ratio, whole}, declared.rat.Rat.{Rat}}
-use Rattle.polynomials.specs.{declared.term.Term.{Term}, Polynomials.{HaveExponents, constant, one_monomial, row, scaled, Summand, summand}, Terms.{AreTermsOf, polynomial_of, summand_of}}
+use Rattle.polynomials.proofs.Shared.{one_value, ◌≡◌, ℕ, List, [], ◌∷◌, false, refl, ap, ◌∙◌, pos, whole_numerator, Fraction, is_zero_fraction, lowest, times, int_is_zero, ratio_of, value_of, Ratio}
+use Rattle.polynomials.proofs.Shared.{whole, Rat, Term, HaveExponents, constant, one_monomial, row, scaled, Summand, summand, AreTermsOf, polynomial_of, summand_of}
 use Rattle.polynomials.proofs.{Exponents.{one_times_packed, packed_exponents}, Worth.{same_is}}
+use Rattle.calc_terms.specs.Fractions.{one_fraction}
 
 pub row_constant : (q : Fraction) (ts : List Term) → row (summand q one_monomial) (polynomial_of ts) ≡ scaled q (polynomial_of ts)
 row_constant q [] = refl
@@ -19,11 +18,7 @@ have_packed (t ∷ ts) = (packed_exponents t.monomial, have_packed ts)
 
 -- ---- the polynomial 1
 
-one_value : (r : Rat) → ratio_of r ≡ whole (pos 1) → value_of r ≡ one_fraction
-unfolding one_fraction
-one_value r e = ap (λ (x : Ratio). lowest x.num x.den) e
-
-one_nonzero : is_zero_fraction one_fraction ≡ false
+pub one_nonzero : is_zero_fraction one_fraction ≡ false
 unfolding one_fraction
 one_nonzero = ap int_is_zero (whole_numerator (pos 1))
 

@@ -1,15 +1,11 @@
 -- What polynomials are worth, and which are the same.
-use Rattle.std.proofs.Common.{◌≡◌, ℕ, zero, suc, [], ◌∷◌, ◌++◌, refl, sym, ap, ◌∙◌, append_assoc}
-use Rattle.calc_terms.specs.{FractionLaws.{times_comm, times_assoc, times_plus, zero_plus, zero_times}, Fractions.{Fraction, plus, times, zero_fraction, plus_comm, plus_assoc}}
-use Rattle.polynomials.specs.Polynomials.{Monomial, Polynomial, Summand, AreSame, monomial_times, product, raised, row, scaled, summand, worth}
-
-plus_both : {a b c d : Fraction} → a ≡ b → c ≡ d → plus a c ≡ plus b d
-plus_both p q = λ i. plus (p i) (q i)
+use Rattle.polynomials.proofs.Shared.{plus_both, ◌≡◌, ℕ, zero, suc, [], ◌∷◌, ◌++◌, refl, sym, ap, ◌∙◌, append_assoc, times_comm, times_assoc, times_plus, zero_plus, zero_times, Fraction, plus, times}
+use Rattle.polynomials.proofs.Shared.{zero_fraction, plus_comm, plus_assoc, Monomial, Polynomial, Summand, AreSame, monomial_times, product, raised, row, scaled, summand, worth}
 
 pub plus_times : (a b c : Fraction) → times (plus a b) c ≡ plus (times a c) (times b c)
 plus_times a b c = times_comm (plus a b) c ∙ times_plus c a b ∙ plus_both (times_comm c a) (times_comm c b)
 
-plus_left_comm : (a b c : Fraction) → plus a (plus b c) ≡ plus b (plus a c)
+pub plus_left_comm : (a b c : Fraction) → plus a (plus b c) ≡ plus b (plus a c)
 plus_left_comm a b c = sym (plus_assoc a b c) ∙ ap (λ x. plus x c) (plus_comm a b) ∙ plus_assoc b a c
 
 worth_append : (g : Monomial → Fraction) (v w : Polynomial) → worth g (v ++ w) ≡ plus (worth g v) (worth g w)

@@ -1,4 +1,4 @@
 pub mod RollingBack
 pub mod Restoring
 pub mod Nesting
-pub mod Tested
+mod Shared

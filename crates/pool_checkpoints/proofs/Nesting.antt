@@ -1,8 +1,5 @@
 -- Trees below two marks.
-use Rattle.std.proofs.Common.{◌≡◌, ◌≤◌, ap, ◌∙◌, sym, arith, refl}
-use Rattle.tree_handles.specs.{Forest.{Forest, empty, tree, join, node_of, first_trees, rest_trees, bytes_in}, Handed.{Starts}}
-use Rattle.node_pool.proofs.Sizes.{size_from}
-use Rattle.pool_checkpoints.specs.Laws.{MarksNest}
+use Rattle.pool_checkpoints.proofs.Shared.{◌≡◌, ◌≤◌, ap, ◌∙◌, sym, arith, refl, Forest, empty, tree, join, node_of, first_trees, rest_trees, bytes_in, Starts, size_from, MarksNest}
 
 -- of trees that stand first in one forest, the fewer stand first among the more
 fewer_first : (few many b c : Forest) → join few b ≡ join many c → bytes_in few ≤ bytes_in many → Starts few many

@@ -1,9 +1,5 @@
 -- A pool that stands for the trees of before has the bytes and the places of before.
-use Rattle.std.proofs.Common.{◌≡◌, ℕ, ◌-◌, List, ◌++◌, replicate, ap, ◌∙◌, sym}
-use Rattle.calc_terms.specs.Node.{Node}
-use Rattle.node_pool.specs.{Nodes.{used, encodings, place_of}, State.{State}}
-use Rattle.tree_handles.specs.{Forest.{flatten}, Standing.{Stands, forest}}
-use Rattle.pool_checkpoints.specs.Laws.{PoolsAreRestored}
+use Rattle.pool_checkpoints.proofs.Shared.{◌≡◌, ℕ, ◌-◌, List, ◌++◌, replicate, ap, ◌∙◌, sym, Node, used, encodings, place_of, State, flatten, Stands, forest, PoolsAreRestored}
 
 same_nodes : (before now : State) → Stands before → Stands now → forest now ≡ forest before → now.nodes ≡ before.nodes
 same_nodes before now sb sn e = sn.flat ∙ ap flatten e ∙ sym sb.flat

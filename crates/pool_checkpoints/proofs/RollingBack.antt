@@ -1,8 +1,5 @@
 -- The trees below a mark, from call to call.
-use Rattle.std.proofs.Common.{◌≡◌, ℕ, List, sym}
-use Rattle.tree_handles.specs.{Forest.{Forest, empty, bytes_in}, Handed.{AreNoRoots, KeepsFront}}
-use Rattle.tree_handles.proofs.Forests.{join-empty}
-use Rattle.pool_checkpoints.specs.Marks.{IsBelow}
+use Rattle.pool_checkpoints.proofs.Shared.{◌≡◌, ℕ, List, sym, Forest, empty, bytes_in, AreNoRoots, KeepsFront, join-empty, IsBelow}
 
 -- what stood when the mark was opened is below it
 pub all_below : {mark : ℕ} {f : Forest} → mark ≡ bytes_in f → IsBelow mark f f

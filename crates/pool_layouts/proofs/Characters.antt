@@ -1,12 +1,10 @@
 -- The characters of rows: their bytes, and the columns that they take.
-use Rattle.pool_layouts.proofs.Shared.{◌≡◌, ◌∙◌, ℕ, zero, suc, ◌<◌, List, [], ◌∷◌, ◌++◌, length, replicate, nat_lt, nat_le, Bool, true, false, Some, refl, ap, arith, encode_utf8_all}
-use Rattle.pool_layouts.proofs.Shared.{encode_ascii, le-leb, lt-ltb, list_all, and_from, and_parts, nat_tests, is_digit, is_name_byte, spelled, named, IsPayload, decimal, decimal_is}
-use Rattle.pool_layouts.proofs.Shared.{IsBlack, times_character, root_character, times_sign, root_sign}
-use Rattle.std.proofs.{lemmas.List.Sums.sum_by-cons, Common.{sum_by, unwrap_or}}
+use Rattle.pool_layouts.proofs.Shared.{◌≡◌, ◌∙◌, ℕ, zero, suc, ◌<◌, List, [], ◌∷◌, ◌++◌, length, replicate, nat_lt, nat_le, Bool, true, false, Some, refl, ap, arith, encode_utf8_all, encode_ascii}
+use Rattle.pool_layouts.proofs.Shared.{le-leb, lt-ltb, list_all, and_from, and_parts, nat_tests, is_digit, is_name_byte, spelled, named, IsPayload, decimal, decimal_is, IsBlack, times_character}
+use Rattle.pool_layouts.proofs.Shared.{root_character, times_sign, root_sign, sum_by-cons, sum_by, unwrap_or, is_simple, width_or_zero, TakeOneColumnEach}
 use Rattle.std.specs.Char.{encode_utf8}
 use Rattle.unicode_width.specs.Width.{char_width}
-use Rattle.unicode_width.proofs.{Computing.unicode_width, Rules.{is_simple, width_or_zero}}
-use Rattle.pool_layouts.specs.Columns.{TakeOneColumnEach}
+use Rattle.unicode_width.proofs.Computing.{unicode_width}
 
 -- ---- their bytes
 

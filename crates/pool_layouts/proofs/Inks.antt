@@ -1,7 +1,6 @@
 -- The characters of ink, and their bytes.
-use Rattle.pool_layouts.proofs.Shared.{◌≡◌, ◌≢◌, ◌∙◌, ℕ, zero, suc, ◌+◌, ◌<◌, List, [], ◌∷◌, ◌++◌, replicate, encode_utf8_all, sym, ap, arith}
-use Rattle.pool_layouts.proofs.Shared.{append_assoc, append-nil, replicate-append-replicate, encodes-append, Payload, IsPayload}
-use Rattle.pool_layouts.proofs.Shared.{Content, extended, Forest, payload_in, Ink, Leaf, IsBlack, IsInk, leaf_characters, ink_characters, inked, blanks_left}
+use Rattle.pool_layouts.proofs.Shared.{◌≡◌, ◌≢◌, ◌∙◌, ℕ, zero, suc, ◌+◌, ◌<◌, List, [], ◌∷◌, ◌++◌, replicate, encode_utf8_all, sym, ap, arith, append_assoc, append-nil, replicate-append-replicate}
+use Rattle.pool_layouts.proofs.Shared.{encodes-append, Payload, IsPayload, Content, extended, Forest, payload_in, Ink, Leaf, IsBlack, IsInk, leaf_characters, ink_characters, inked, blanks_left}
 use Rattle.pool_layouts.proofs.{Shared.{leaf_bytes, blanks}, Characters.{AreSmall, small_bytes, replicate_small, times_encoded, decimal_plain, names_plain, plain_small, plain_black}}
 
 -- ---- characters of leaves

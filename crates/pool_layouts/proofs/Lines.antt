@@ -1,14 +1,11 @@
 -- The rows of a picture: how long they are, how many bytes they take, and how many columns.
-use Rattle.pool_layouts.proofs.Shared.{⊤, ◌≡◌, ◌≢◌, ◌∙◌, if◌then◌else◌, ℕ, zero, suc, ◌+◌, ◌-◌, ◌*◌, ◌/◌, ◌≤◌, max, List, [], ◌∷◌, ◌++◌, length, replicate, nat_lt, nat_le, nat_eq, nat_abs}
-use Rattle.pool_layouts.proofs.Shared.{Bool, true, false, Option, Some, None, encode_utf8_all, refl, ap, arith, length-append, length-replicate, encodes-append, decimal, nat_tests, IsWritable}
-use Rattle.pool_layouts.proofs.Shared.{AreWritable, Tree, num, symbol, undef, add, mult, power, root, neg, sub, div, Trees, none, more, Layout, number, name, plus, minus, times, row, fraction}
-use Rattle.pool_layouts.proofs.Shared.{raised, radical, paren, Layouts, nothing, beside, unless, layout, layout_of_sum, layout_of_terms, layout_of_product, layout_of_factors, Block, height, blanks}
-use Rattle.pool_layouts.proofs.Shared.{root_character, level, line_or_blanks, level_lines, centred, widths, most_above, picture, pictures, cut, before_cut, IsBlack}
+use Rattle.pool_layouts.proofs.Shared.{⊤, ◌≡◌, ◌≢◌, ◌∙◌, if◌then◌else◌, ℕ, zero, suc, ◌+◌, ◌-◌, ◌*◌, ◌/◌, ◌≤◌, max, List, [], ◌∷◌, ◌++◌, length, replicate, nat_lt, nat_le, nat_eq, nat_abs, Bool, true}
+use Rattle.pool_layouts.proofs.Shared.{false, Option, Some, None, encode_utf8_all, refl, ap, arith, length-append, length-replicate, encodes-append, decimal, nat_tests, IsWritable, AreWritable, Tree}
+use Rattle.pool_layouts.proofs.Shared.{num, symbol, undef, add, mult, power, root, neg, sub, div, Trees, none, more, Layout, number, name, plus, minus, times, row, fraction, raised, radical, paren}
+use Rattle.pool_layouts.proofs.Shared.{Layouts, nothing, beside, unless, layout, layout_of_sum, layout_of_terms, layout_of_product, layout_of_factors, Block, height, blanks, root_character, level}
+use Rattle.pool_layouts.proofs.Shared.{line_or_blanks, level_lines, centred, widths, most_above, picture, pictures, cut, before_cut, IsBlack, str_width, str_width-simple, TakeOneColumnEach}
 use Rattle.pool_layouts.proofs.Characters.{AreNarrow, ArePlain, printable, times_narrow, root_narrow, narrow_append, narrow_replicate, one_each, all_simple, all_columns, plain_small, plain_narrow}
 use Rattle.pool_layouts.proofs.Characters.{small_bytes, replicate_small, times_encoded, root_encoded, decimal_plain, names_plain}
-use Rattle.unicode_width.specs.Width.{str_width}
-use Rattle.unicode_width.proofs.Rules.{str_width-simple}
-use Rattle.pool_layouts.specs.Columns.{TakeOneColumnEach}
 
 -- the sign characters of a layout that take more than one byte
 abbrev mutual

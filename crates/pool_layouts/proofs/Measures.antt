@@ -1,13 +1,10 @@
 -- The extents of layouts: what they are for each kind of node, and that they are small.
-use Rattle.pool_layouts.proofs.Shared.{◌≡◌, ◌∙◌, ℕ, suc, ◌+◌, ◌*◌, ◌<◌, ◌≤◌, ◌≢◌, max, List, [], ◌∷◌, ◌++◌, length, drop, get_or, nat_abs, nat_eq, true, refl, sym, ap}
-use Rattle.pool_layouts.proofs.Shared.{arith, append_assoc, eqb-true, length-append, drop-drop, drop_at, Kind, Payload, rational, named, bare, is_bare, kind_of_payload, size_of_payload}
-use Rattle.pool_layouts.proofs.Shared.{IsPayload, begins_with_letter, spelled, decimal_is, decimal, numerator_is, size_from, Label, Forest, empty, tree, join, arity, node_of, bytes_in, nodes_in}
-use Rattle.pool_layouts.proofs.Shared.{Extent, composed, drawn, drawings, composes, composes_kind, AllComposed, extent_from, extent_of, extents_of, HasSmall, HasPair, IsOver, IsSmall, AllValid}
-use Rattle.pool_layouts.proofs.Shared.{leaf_width, Layout, nothing, beside, leaf_characters, Block, height, picture, pictures, widths, most_above, most_below, side_by_side, lowest}
-use Rattle.std.proofs.Common.{ℤ}
-use Rattle.pool_layouts.proofs.{Shared.{Bool, false}, Shown.{inside_list, first_is}, Lines.{signs, all_signs}}
-use Rattle.calc_terms.specs.Ratio.{Ratio, IsRat}
-use Rattle.line_text.proofs.Lengths.{number_text}
+use Rattle.pool_layouts.proofs.Shared.{bytes_nodes, ◌≡◌, ◌∙◌, ℕ, suc, ◌+◌, ◌*◌, ◌<◌, ◌≤◌, ◌≢◌, max, List, [], ◌∷◌, ◌++◌, length, drop, get_or, nat_abs, nat_eq, true, refl, sym, ap, arith}
+use Rattle.pool_layouts.proofs.Shared.{append_assoc, eqb-true, length-append, drop-drop, drop_at, Kind, Payload, rational, named, bare, is_bare, kind_of_payload, size_of_payload, IsPayload}
+use Rattle.pool_layouts.proofs.Shared.{begins_with_letter, spelled, decimal_is, decimal, numerator_is, size_from, Label, Forest, empty, tree, join, arity, node_of, bytes_in, nodes_in, Extent}
+use Rattle.pool_layouts.proofs.Shared.{composed, drawn, drawings, composes, composes_kind, AllComposed, extent_from, extent_of, extents_of, HasSmall, HasPair, IsOver, IsSmall, AllValid, leaf_width}
+use Rattle.pool_layouts.proofs.Shared.{Layout, nothing, beside, leaf_characters, Block, height, picture, pictures, widths, most_above, most_below, side_by_side, lowest, ℤ, Bool, false, Ratio, IsRat}
+use Rattle.pool_layouts.proofs.{Shared.{number_text}, Shown.{inside_list, first_is}, Lines.{signs, all_signs}}
 use Rattle.calc_terms.specs.declared.kind.Kind.TheVariants as kind
 
 -- ---- blocks of the parts of a forest
@@ -26,10 +23,6 @@ heights (b ∷ bs) = height b + heights bs
 pub most_heights : (bs : List Block) → most_above bs + most_below bs ≤ heights bs
 most_heights [] = omega arith
 most_heights (b ∷ bs) = omega (arith, most_heights bs)
-
-pub bytes_nodes : (f : Forest) → 8 * nodes_in f ≤ bytes_in f
-bytes_nodes empty = omega arith
-bytes_nodes (tree l k r) = omega (arith, bytes_nodes k, bytes_nodes r, size_from (node_of l k))
 
 -- ---- how large a picture is: its rows, and the bytes of each
 

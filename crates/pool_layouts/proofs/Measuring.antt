@@ -1,10 +1,9 @@
 -- The extents of a layout tree, from the last node to the first.
-use Rattle.pool_layouts.proofs.Shared.{◌≡◌, ◌∙◌, if◌then◌else◌, Bool, false, ℕ, suc, ◌+◌, ◌-◌, ◌*◌, ◌<◌, ◌≤◌, List, ◌∷◌, ◌++◌, length, map}
-use Rattle.pool_layouts.proofs.Shared.{drop, get_or, true, refl, sym, ap, subst, arith, append_assoc, drop-map, drop-set, State, Label, Forest, empty, tree, join, arity, flatten, node_of}
-use Rattle.pool_layouts.proofs.Shared.{nodes_in, bytes_in, AllNodes, holds, tree_at, payload_in, Stands, forest, nodes-flatten, one_at, used_forest, Visit, Extent, visit_of, visits_of, drawing}
-use Rattle.pool_layouts.proofs.Shared.{AllComposed, IsComposed, IsLayout, extent_of, extents_of, HasExtents, HasSmall, IsOver, IsValid, AllValid, HasSomeFirst, picture, height, visits_length}
-use Rattle.pool_layouts.proofs.{Shared.valid, Measures.{bytes_nodes, extents-join}, Shown.{first_is, IsKnown, known}, Suffixes.{after, after_flat, after_all, after_bytes, left_at, none_after}}
-use Rattle.std.proofs.Common.{eqb, set}
+use Rattle.pool_layouts.proofs.Shared.{◌≡◌, ◌∙◌, if◌then◌else◌, Bool, false, ℕ, suc, ◌+◌, ◌-◌, ◌*◌, ◌<◌, ◌≤◌, List, ◌∷◌, ◌++◌, length, map, drop, get_or, true, refl, sym, ap, subst, arith}
+use Rattle.pool_layouts.proofs.Shared.{append_assoc, drop-map, drop-set, State, Label, Forest, empty, tree, join, arity, flatten, node_of, nodes_in, bytes_in, AllNodes, holds, tree_at, payload_in}
+use Rattle.pool_layouts.proofs.Shared.{Stands, forest, nodes-flatten, one_at, used_forest, Visit, Extent, visit_of, visits_of, drawing, AllComposed, IsComposed, IsLayout, extent_of, extents_of}
+use Rattle.pool_layouts.proofs.{Shared.{HasExtents, HasSmall, IsOver, IsValid, AllValid, HasSomeFirst, picture, height, visits_length, valid, bytes_nodes, eqb, set}, Measures.{extents-join}}
+use Rattle.pool_layouts.proofs.{Shown.{first_is, IsKnown, known}, Suffixes.{after, after_flat, after_all, after_bytes, left_at, none_after}}
 
 -- a tree of a forest has at most its bytes
 tree_bytes : (f : Forest) (i : ℕ) → bytes_in (tree_at i f) ≤ bytes_in f

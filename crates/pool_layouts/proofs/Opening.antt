@@ -4,10 +4,8 @@ use Rattle.pool_layouts.proofs.Shared.{Some, None, refl, sym, ap, subst, arith, 
 use Rattle.pool_layouts.proofs.Shared.{IsPayload, Label, Forest, empty, tree, flatten, node_of, nodes_in, holds, payload_in, Visit, Extent, Nothing, Leaf, Bar, Roof, Root, Close, Ink, Step, Opened}
 use Rattle.pool_layouts.proofs.Shared.{visit_of, visits_of, extent_of, extents_of, HasSmall, IsOver, IsSmall, IsSpanOf, ShowsPart, ShowsLevel, Shows, ShowsIf, Opens, IsInk, ink_characters, weight}
 use Rattle.pool_layouts.proofs.Shared.{weight_if, count_if, leaf_characters, opened, span_of, part_of, level_if, level_opened, centred_opened, fraction_opened, raised_opened, radical_opened}
-use Rattle.pool_layouts.proofs.Shared.{paren_opened, row_opened, Block, height, blanks, bar, roof, root_character, level, line_or_blanks, level_lines, centred, most_above, visits_length}
+use Rattle.pool_layouts.proofs.Shared.{paren_opened, row_opened, Block, height, blanks, bar, roof, root_character, level, line_or_blanks, level_lines, centred, most_above, visits_length, ◌^◌, Span}
 use Rattle.pool_layouts.proofs.{Measures.{blocks_of, block_of, behind_first, first_small, IsOneOver, IsTwoOver, bare_of, leaf_line, leaf_some, has_parts}, Shown.{first_is, others_are, inside_list}}
-use Rattle.std.proofs.Common.{◌^◌}
-use Rattle.pool_layouts.specs.declared.steps.Span.{Span}
 use Rattle.calc_terms.specs.declared.kind.Kind.TheVariants as kind
 use Rattle.pool_layouts.specs.declared.steps.Step.TheVariants as step
 

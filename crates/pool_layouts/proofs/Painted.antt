@@ -1,9 +1,8 @@
 -- A row of a picture as far as it is painted.
 use Rattle.pool_layouts.proofs.Shared.{option_to_list, ◌≡◌, ◌∙◌, ℕ, ◌+◌, ◌<◌, ◌≤◌, List, [], ◌∷◌, ◌++◌, length, Option, Some, None, encode_utf8_all, refl, sym, ap, subst, arith, append_assoc}
 use Rattle.pool_layouts.proofs.Shared.{append-nil, length-append, length-replicate, replicate-append-replicate, encodes-append, Forest, Visit, Extent, Step, Opened, Shows, ShowsIf, Opens, IsLine}
-use Rattle.pool_layouts.proofs.{Shared.{IsBlack, ink_characters, inked, blanks_left, weight, weight_if, count_if, blanks, cut}, Inks.ink_black, Lines.{cut-append_blanks, cut_kept}}
+use Rattle.pool_layouts.proofs.{Shared.{IsBlack, ink_characters, inked, blanks_left, weight, weight_if, count_if, blanks, cut, snoc_same}, Inks.{ink_black}, Lines.{cut-append_blanks, cut_kept}}
 use Rattle.pool_layouts.specs.Painting.{count}
-use Rattle.line_text.proofs.Walks.{snoc_same}
 
 -- ---- weights
 

@@ -1,19 +1,13 @@
 -- The layout of a face, by its root and its children.
-use Rattle.pool_layouts.proofs.Shared.{◌≡◌, ◌∙◌, if◌then◌else◌, true, nat_le, None, refl, sym, ap, arith, eqb-true, Kind, Payload, bare}
-use Rattle.pool_layouts.proofs.Shared.{kind_of_payload, Tree, Trees, none, more, count, root_kind, is_div, later_of_sum, admits_kind, deciding_kind, rule_of, Place, level_of}
-use Rattle.pool_layouts.proofs.Shared.{is_div_kind, admits_is, grown, compound, takes, takes_kind, FirstOfSum, LaterOfSum, LeftOfDifference, RightOfDifference, UnderSign, FirstOfProduct}
-use Rattle.pool_layouts.proofs.Shared.{LaterOfProduct, Base, Layout, plus, minus, times, row, raised, Layouts, beside, one_part, unless, boxed, layout, layout_of_sum, layout_of_terms}
-use Rattle.pool_layouts.proofs.Shared.{layout_of_product, layout_of_factors, drawn, first_place, paren_kind_unless, around_of, within, parts_from, laid}
+use Rattle.pool_layouts.proofs.Shared.{level_is, is_div_is, ◌≡◌, ◌∙◌, if◌then◌else◌, true, nat_le, None, refl, sym, ap, arith, eqb-true, Kind, Payload, bare, kind_of_payload, Tree, Trees, none, more}
+use Rattle.pool_layouts.proofs.Shared.{count, root_kind, is_div, later_of_sum, admits_kind, deciding_kind, rule_of, Place, level_of, is_div_kind, admits_is, grown, compound, takes, takes_kind}
+use Rattle.pool_layouts.proofs.Shared.{FirstOfSum, LaterOfSum, LeftOfDifference, RightOfDifference, UnderSign, FirstOfProduct, LaterOfProduct, Base, Layout, plus, minus, times, row, raised, Layouts}
+use Rattle.pool_layouts.proofs.Shared.{beside, one_part, unless, boxed, layout, layout_of_sum, layout_of_terms, layout_of_product, layout_of_factors, drawn, first_place, paren_kind_unless, around_of}
+use Rattle.pool_layouts.proofs.Shared.{within, parts_from, laid}
 use Rattle.calc_language.specs.Texts.{level}
 use Rattle.calc_terms.specs.declared.kind.Kind.TheVariants as kind
 
 -- ---- what a tree stands in
-
-level_is : (t : Tree) → level t ≡ level_of (root_kind t)
-level_is t = grind arith
-
-is_div_is : (t : Tree) → is_div t ≡ is_div_kind (root_kind t)
-is_div_is t = grind arith
 
 -- in a row
 box : (p : Place) (t : Tree) (l : Layout) → within (if is_div_kind (root_kind t) then None else paren_kind_unless (admits_kind p (deciding_kind p t))) l ≡ boxed (rule_of p) t l

@@ -1,21 +1,10 @@
 -- One node after another is placed, or refused.
-use Rattle.std.specs.Prelude.{IfOk}
-use Rattle.pool_layouts.proofs.Shared.{IfErr, OnOk, IsOk, ◌↔◌, ◌≡◌, ◌∙◌, ℕ, ◌+◌, ◌-◌, ◌<◌, ◌≤◌, List, [], ◌∷◌, length, Option, Some, None, Result, Ok}
-use Rattle.pool_layouts.proofs.Shared.{Err, refl, sym, ap, subst, arith, leb-true, leb-false, Kind, Payload, bare, kind_of_payload, size_of_payload, Full, State, free_of, length_le_used, taking}
-use Rattle.pool_layouts.proofs.Shared.{Forest, empty, join, arity, bytes_in, one_tree, last_trees, before_last, Ends, Starts, Stands, forest, KeepsRefusals, IsRefused, arity-join, bytes_in-join}
-use Rattle.pool_layouts.proofs.Shared.{join_assoc, refuses_after, before-last, before_none, last_none, before_last-join, last_trees-join, ends_as, free_forest, join-empty, Place, HasLast}
-use Rattle.pool_layouts.proofs.{Shared.{IsStopped, PlacesMark, StandsIn, mark_before, laid, laid_kind}, Sizes.{takes_one, taken_first}}
-use Rattle.std.proofs.Common.{leb}
-use Rattle.tree_handles.proofs.{Outcomes.by_test, Releases.arity_le}
+use Rattle.pool_layouts.proofs.Shared.{was_short, IfOk, IfErr, OnOk, IsOk, ◌↔◌, ◌≡◌, ◌∙◌, ℕ, ◌+◌, ◌-◌, ◌<◌, ◌≤◌, List, [], ◌∷◌, length, Option, Some, None, Result, Ok, Err, refl, sym, ap, subst}
+use Rattle.pool_layouts.proofs.Shared.{arith, leb-true, leb-false, Kind, Payload, bare, kind_of_payload, size_of_payload, Full, State, free_of, length_le_used, taking, Forest, empty, join, arity}
+use Rattle.pool_layouts.proofs.Shared.{bytes_in, one_tree, last_trees, before_last, Ends, Starts, Stands, forest, KeepsRefusals, IsRefused, arity-join, bytes_in-join, join_assoc, refuses_after}
+use Rattle.pool_layouts.proofs.Shared.{before-last, before_none, last_none, before_last-join, last_trees-join, ends_as, free_forest, join-empty, Place, HasLast, IsStopped, PlacesMark, StandsIn}
+use Rattle.pool_layouts.proofs.{Shared.{mark_before, laid, laid_kind, leb, by_test, arity_le}, Sizes.{takes_one, taken_first}}
 use Rattle.calc_terms.specs.declared.kind.Kind.TheVariants as kind
-
--- a pool has so few trees
-pub few_trees : (s : State) → Stands s → arity (forest s) ≤ 65535
-few_trees s st = omega (arith, arity_le (forest s), ap length st.flat, length_le_used s.nodes, st.pool.fits, st.pool.size.most)
-
--- what is not Ok was short of bytes
-pub was_short : (full : Full) (a b : ℕ) → (a ≤ b → IsOk {T = ℕ} (Err full)) → b < a
-was_short full a b h = by_test (λ t. leb a b ≡ t → b < a) (leb a b) (λ x q. absurd (cc (h (leb-true a b q)))) (λ x q. leb-false a b q) refl
 
 pub ok_as : {T : Type 0} {P Q : T → Type 0} (r : Result T Full) → IfOk r P → ((h : T) → P h → Q h) → IfOk r Q
 ok_as r p f = grind arith

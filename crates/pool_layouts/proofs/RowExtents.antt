@@ -1,6 +1,6 @@
 -- The extent of layouts side by side, gathered from the left.
-use Rattle.pool_layouts.proofs.Shared.{◌≡◌, ℕ, ◌+◌, ◌<◌, ◌≤◌, max, List, arith, Label, Forest, empty, tree, arity, nodes_in, Extent, drawings, extent_from, extent_of, HasSmall, IsSmall}
-use Rattle.pool_layouts.proofs.{Shared.{pictures, widths, most_above, most_below, side_by_side}, Measures.{blocks_of, behind_first, extent_same, bounded, bytes_nodes, most_heights}}
+use Rattle.pool_layouts.proofs.Shared.{◌≡◌, ℕ, ◌+◌, ◌<◌, ◌≤◌, max, List, arith, Label, Forest, empty, tree, arity, nodes_in, Extent, drawings, extent_from, extent_of, HasSmall, IsSmall, pictures}
+use Rattle.pool_layouts.proofs.{Shared.{widths, most_above, most_below, side_by_side, bytes_nodes}, Measures.{blocks_of, behind_first, extent_same, bounded, most_heights}}
 
 -- so many layouts are gathered, and the others are listed from a place on
 pub record IsBefore (k others : Forest) (count at : ℕ) (es : List Extent) (row : Extent) : Type 0 where

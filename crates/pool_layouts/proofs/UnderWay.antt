@@ -1,16 +1,14 @@
 -- The layout of a face under way: what was placed of it, and what is left.
 use Rattle.pool_layouts.proofs.Shared.{◌≡◌, ◌∙◌, nat_eq, get_or, ℕ, ◌+◌, ◌<◌, ◌≤◌, List, [], ◌∷◌, ◌++◌, length, map, drop, Option, None, Ok, Err, true, false, refl, sym, ap, subst, arith}
-use Rattle.pool_layouts.proofs.Shared.{append_assoc, append-nil, eqb-true, length-append, Kind, Node, Payload, bare, kind_of_payload, Tree, Trees, none, more, count, root_kind, used}
-use Rattle.pool_layouts.proofs.Shared.{Full, State, free_of, taking, plain, plains, takes, AllExpressions, IsExpression, Label, Forest, empty, tree, join, arity, bytes_in, flatten, node_of, one_tree}
-use Rattle.pool_layouts.proofs.Shared.{last_trees, before_last, root_payload, Ends, Starts, KeepsFront, AllOnce, IsOnce, holds, tree_at, payload_in, Stands, forest, kids_of, kids, root_kind-plain}
-use Rattle.pool_layouts.proofs.Shared.{deciding, deciding_is, KeepsRefusals, Refuses, LacksBytes, found, join-empty, join_assoc, arity-join, all-join, keeps_after, keeps_none, refuses_after}
-use Rattle.pool_layouts.proofs.Shared.{before_last-join, last_trees-join, ends_as, used_forest, count-plains, Visit, Frame, Place, part_sizes, parts_sizes, visit_of, visits_of, AreFound, visit_at}
-use Rattle.pool_layouts.proofs.Shared.{drawn, drawings, composes, AllComposed, IsComposed, GivesLayout, frame_of, frame_behind, Layout, Layouts, beside, one_part, join_parts, layout, Closes, IsAround}
-use Rattle.pool_layouts.proofs.Shared.{IsStopped, PlacesMark, is_leaf, root_sizes, around_sizes, held_in, first_place, next_place, mark_before, marks, around_kind, deciding_kind, within, around_of}
-use Rattle.pool_layouts.proofs.{Shared.{parts_from, laid}, Parts.layout_is, Placing.few_trees, Shown.{first_is, others_are, inside_list}, Sizes.{join_parts-nothing, join_parts-assoc, drawings-join}}
-use Rattle.pool_layouts.proofs.Sizes.{count_parts, count-drawings, count-join, sizes-join, sizes-marks, drawn_sizes, within_sizes, taken_first, refused_first}
-use Rattle.tree_handles.proofs.{Parts.at, Joins.{holds-left, tree_at-join_left}}
-use Rattle.line_text.proofs.Walks.{snoc_same}
+use Rattle.pool_layouts.proofs.Shared.{append_assoc, append-nil, eqb-true, length-append, Kind, Node, Payload, bare, kind_of_payload, Tree, Trees, none, more, count, root_kind, used, Full, State}
+use Rattle.pool_layouts.proofs.Shared.{free_of, taking, plain, plains, takes, AllExpressions, IsExpression, Label, Forest, empty, tree, join, arity, bytes_in, flatten, node_of, one_tree, last_trees}
+use Rattle.pool_layouts.proofs.Shared.{before_last, root_payload, Ends, Starts, KeepsFront, AllOnce, IsOnce, holds, tree_at, payload_in, Stands, forest, kids_of, kids, root_kind-plain, deciding}
+use Rattle.pool_layouts.proofs.Shared.{deciding_is, KeepsRefusals, Refuses, LacksBytes, found, join-empty, join_assoc, arity-join, all-join, keeps_after, keeps_none, refuses_after, before_last-join}
+use Rattle.pool_layouts.proofs.Shared.{last_trees-join, ends_as, used_forest, count-plains, Visit, Frame, Place, part_sizes, parts_sizes, visit_of, visits_of, AreFound, visit_at, drawn, drawings}
+use Rattle.pool_layouts.proofs.Shared.{composes, AllComposed, IsComposed, GivesLayout, frame_of, frame_behind, Layout, Layouts, beside, one_part, join_parts, layout, Closes, IsAround, IsStopped}
+use Rattle.pool_layouts.proofs.Shared.{PlacesMark, is_leaf, root_sizes, around_sizes, held_in, first_place, next_place, mark_before, marks, around_kind, deciding_kind, within, around_of, parts_from}
+use Rattle.pool_layouts.proofs.{Shared.{laid, few_trees, at, holds-left, tree_at-join_left, snoc_same}, Parts.{layout_is}, Shown.{first_is, others_are, inside_list}, Sizes.{join_parts-nothing}}
+use Rattle.pool_layouts.proofs.Sizes.{join_parts-assoc, drawings-join, count_parts, count-drawings, count-join, sizes-join, sizes-marks, drawn_sizes, within_sizes, taken_first, refused_first}
 use Rattle.calc_terms.specs.declared.kind.Kind.TheVariants as kind
 
 -- ---- what is owed

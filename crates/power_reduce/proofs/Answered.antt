@@ -1,15 +1,10 @@
 -- The answers to the powers that no rule rewrites.
-use Rattle.std.proofs.{lemmas.Bool.{or_left, or_right}, Common.{◌≡◌, ◌<◌, ◌&&◌, ◌||◌, true, false, [], length, inl, inr, refl, sym, ap, ◌∙◌, arith}}
-use Rattle.power_reduce.proofs.Shared.{and_parts, Contains-append_left, Fraction, zero_fraction, one_fraction, nest, load, is_number, IsNumber, is_reduced, IsPowerForm, num_one, Tree, num, undef}
-use Rattle.power_reduce.proofs.Shared.{power, names, is_undef, itself, in_base, in_exponent, number_words, number_test, power_one_is_base, power_zero_is_one, reduced_test, undef_part, reduced_parts}
-use Rattle.power_reduce.proofs.Shared.{HasNoNewName, KeepsMeanings, keeps, is_zero, has_no_power, has_number_power, IsWrittenPower, IsPowerAnswer, is_zero_or_one}
+use Rattle.power_reduce.proofs.Shared.{no_names, or_left, or_right, ◌≡◌, ◌<◌, ◌&&◌, ◌||◌, true, false, [], length, inl, inr, refl, sym, ap, ◌∙◌, arith, and_parts, Contains-append_left, Fraction}
+use Rattle.power_reduce.proofs.Shared.{zero_fraction, one_fraction, nest, load, is_number, IsNumber, is_reduced, IsPowerForm, num_one, Tree, num, undef, power, names, is_undef, itself, in_base}
+use Rattle.power_reduce.proofs.Shared.{in_exponent, number_words, number_test, power_one_is_base, power_zero_is_one, reduced_test, undef_part, reduced_parts, HasNoNewName, KeepsMeanings, keeps}
+use Rattle.power_reduce.proofs.Shared.{is_zero, has_no_power, has_number_power, IsWrittenPower, IsPowerAnswer, is_zero_or_one, names_of_terms, nest_terms, terms_parts}
 use Rattle.power_reduce.proofs.{Written.{zero_written, one_written, kept_written}, Bounds.{load_at_most_weight}}
-use Rattle.calc_algebra.proofs.Names.{names_of_terms}
-use Rattle.calc_measures.proofs.Nests.{nest_terms}
-use Rattle.coefficients.proofs.Forms.{terms_parts}
-
-pub no_names : (t u : Tree) → names u ≡ [] → HasNoNewName t u
-no_names t u e = record { name = λ x c. absurd (let f : length (names u) ≡ 0 = ap length e in let k : c.0 < length (names u) = c.1 in omega arith) }
+use Rattle.calc_measures.proofs.SmallLaws.{number_load as no_load}
 
 -- ---- Numbers
 
@@ -21,9 +16,6 @@ pub record IsPlain (t : Tree) : Type 0 where
 
 pub number_plain : (t : Tree) → IsNumber t → IsPlain t
 number_plain t h = grind (arith, reduced_test, names_of_terms, nest_terms, terms_parts)
-
-no_load : (t : Tree) → is_number t ≡ true → load t ≡ 0
-no_load t h = rw h refl
 
 -- a Number that keeps the meanings of the power
 pub number_answer : (b e t : Tree) → is_number t ≡ true → has_no_power b e ≡ false → KeepsMeanings (power b e) t → IsWrittenPower b e t → IsPowerAnswer b e t

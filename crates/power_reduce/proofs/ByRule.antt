@@ -1,13 +1,11 @@
 -- By which rule a power was rewritten, and what falls.
-use Rattle.std.proofs.Common.{◌≡◌, ◌+◌, ◌≤◌, ◌<◌, suc, Bool, true, false, ◌&&◌, ◌||◌, if◌then◌else◌, Some, refl, sym, ◌∙◌, subst, arith}
-use Rattle.std.specs.Prelude.{max}
-use Rattle.power_reduce.proofs.Shared.{and_parts, Fraction, whole_fraction, nest, load, weight, load_of_factor, is_number, is_reduced, is_half_num, is_whole_num, is_opaque_exponent, Tree, num, mult}
-use Rattle.power_reduce.proofs.Shared.{power, root, Trees, none, more, is_undef, whole_denominator, reduced_parts, parts_reduced, is_zero, has_no_power, has_number_power, EachTree, HalvesRoot}
-use Rattle.power_reduce.proofs.{Shared.{JoinsExponents, IsLighterPart, RaisesParts, IsByRule, IsRewritable, half, parts_of, raised, rewritten, rewritten_whole}, Exponents.{as_whole}}
+use Rattle.power_reduce.proofs.Shared.{◌≡◌, ◌+◌, ◌≤◌, ◌<◌, suc, Bool, true, false, ◌&&◌, ◌||◌, Some, refl, sym, ◌∙◌, subst, arith, max, and_parts, Fraction, whole_fraction, nest, load, weight}
+use Rattle.power_reduce.proofs.Shared.{load_of_factor, is_number, is_reduced, is_half_num, is_whole_num, is_opaque_exponent, Tree, num, mult, power, root, Trees, none, more, is_undef}
+use Rattle.power_reduce.proofs.Shared.{whole_denominator, reduced_parts, parts_reduced, is_zero, has_no_power, has_number_power, EachTree, HalvesRoot, JoinsExponents, IsLighterPart, RaisesParts}
+use Rattle.power_reduce.proofs.{Shared.{IsByRule, IsRewritable, half, parts_of, raised, rewritten, rewritten_whole, nest_number, to_number, to_other, base_nest, power_no_number}, Exponents.{as_whole}}
 use Rattle.power_reduce.proofs.{Answered.{number_nest}, Bounds.{number_load}, Weights.{product_parts, each_lighter, powers_nest, powers_load}}
-use Rattle.calc_algebra.proofs.ReducedLaws.{from_not}
-use Rattle.calc_measures.proofs.{Nests.{nest_number}, Weights.{to_number, to_other, base_nest}}
-use Rattle.tree_room.proofs.PowerCounts.{power_no_number}
+use Rattle.calc_terms.proofs.Names.{and as both, not_true as from_not}
+use Rattle.std.proofs.Common.{if◌then◌else◌}
 
 -- ---- roots
 
@@ -27,9 +25,6 @@ halves a q r n = record {
 }
 
 -- ---- powers of powers
-
-both : (a b : Bool) → a ≡ true → b ≡ true → (a && b) ≡ true
-both a b h k = rw (h, k) refl
 
 not_both : (a b : Bool) → (a && b) ≡ false → a ≡ true → b ≡ true → ⊥
 not_both a b h p q = cc (both a b p q)

@@ -1,23 +1,19 @@
 -- Which powers no rule rewrites, by what the program tests.
-use Rattle.std.proofs.Common.{◌≡◌, ◌≢◌, ℕ, ◌<◌, ◌^◌, ℤ, pos, Bool, true, false, ◌&&◌, ◌||◌, if◌then◌else◌, Some, None, Result, Err, ◌⊎◌, inl, inr, refl, sym, ap, ◌∙◌, subst, arith, to_z, of_z}
-use Rattle.std.proofs.Common.{FitsSigned}
-use Rattle.std.specs.Prelude.{nat_abs, int_rem, ◌==◌}
-use Rattle.power_reduce.proofs.Shared.{and_parts, rem_is, fits_signed_from_abs, w128, IsErrAnd, Fraction, whole_fraction, zero_fraction, is_zero_fraction, int_is_zero, int_is_one, int_is_even}
-use Rattle.power_reduce.proofs.Shared.{is_number, PlainValue, plain_value, nothing, is_half_num, is_whole_num, is_opaque_exponent, Tree, num, undef, mult, power, root, root_kind, is_num, is_undef}
-use Rattle.power_reduce.proofs.Shared.{is_root, whole_numerator, whole_denominator, zero_is, number_test, number_words, State, AnswersRationals, is_zero, is_power, base_in, exponent_in}
-use Rattle.power_reduce.proofs.Shared.{is_at_most_zero, has_no_power, IsPowerAnswer, HasReducedSides, goes_inside, is_zero_or_one, is_even_whole, half, parts_of, raised, rewritten, rewritten_whole}
-use Rattle.power_reduce.proofs.Shared.{numerator, Rewrites, Gives, AnswersRationalStep, Step, NumberFault, Forest, gives_as, by_test}
+use Rattle.power_reduce.proofs.Shared.{and_false, and_true, ◌≡◌, ◌≢◌, ℕ, ◌<◌, ◌^◌, ℤ, pos, Bool, true, false, ◌&&◌, ◌||◌, Some, None, Result, Err, ◌⊎◌, inl, inr, refl, sym, ap, ◌∙◌, subst, arith}
+use Rattle.power_reduce.proofs.Shared.{to_z, of_z, FitsSigned, nat_abs, int_rem, and_parts, rem_is, fits_signed_from_abs, w128, IsErrAnd, Fraction, whole_fraction, zero_fraction, is_zero_fraction}
+use Rattle.power_reduce.proofs.Shared.{int_is_zero, int_is_one, int_is_even, is_number, PlainValue, plain_value, nothing, is_half_num, is_whole_num, is_opaque_exponent, Tree, num, undef, mult, power}
+use Rattle.power_reduce.proofs.Shared.{root, root_kind, is_num, is_undef, is_root, whole_numerator, whole_denominator, zero_is, number_test, number_words, State, AnswersRationals, is_zero, is_power}
+use Rattle.power_reduce.proofs.Shared.{base_in, exponent_in, is_at_most_zero, has_no_power, IsPowerAnswer, HasReducedSides, goes_inside, is_zero_or_one, is_even_whole, half, parts_of, raised}
+use Rattle.power_reduce.proofs.Shared.{rewritten, rewritten_whole, numerator, Rewrites, Gives, AnswersRationalStep, Step, NumberFault, Forest, gives_as, by_test, half_is_odd, undef_words, num_same}
 use Rattle.power_reduce.proofs.{Answered.{kept_answer, undef_base_answer, undef_exponent_answer}, ByRule.{has_power}, Exponents.{as_whole, inside_whole, whole_no_half}}
 use Rattle.power_reduce.proofs.{Kept.{reduced_power, kept_form, whole_inside}, Powers.{power_is}, Rules.{rewriting}, Whole.{whole_is}}
-use Rattle.calc_algebra.proofs.{HalfLaws.{half_is_odd}, ReducedLaws.{from_not, undef_words}}
+use Rattle.std.proofs.Common.{if◌then◌else◌}
+use Rattle.std.specs.Prelude.{◌==◌}
+use Rattle.calc_terms.proofs.Names.{not_true as from_not}
 pub use Rattle.number_forms.proofs.Pairs.{rational_test as rational_number}
-use Rattle.number_forms.proofs.RationalCalls.{num_same}
 use Rattle.calc_terms.specs.declared.kind.Kind.TheVariants as kind
 
 -- ---- tests
-
-and_false : (b : Bool) → (b && false) ≡ false
-and_false b = grind arith
 
 -- ---- kinds
 
@@ -49,9 +45,6 @@ no_number b e h = rw h refl
 
 one_or_zero : (z : ℤ) → z ≢ pos 0 → z ≢ pos 1 → (int_is_zero z || int_is_one z) ≡ false
 one_or_zero z a b = grind arith
-
-and_true : (b : Bool) → (b && true) ≡ b
-and_true b = grind arith
 
 whole_other : (z : ℤ) → z ≢ pos 0 → z ≢ pos 1 → is_zero_or_one (num (whole_fraction z)) ≡ false
 whole_other z a b = rw (whole_numerator z, whole_denominator z) (ap (λ (x : Bool). int_is_zero z || x) (and_true (int_is_one z)) ∙ one_or_zero z a b)

@@ -1,11 +1,10 @@
 -- The answer of a step counts no more than the power, and what a rewriting of a product counts.
-use Rattle.std.proofs.Common.{◌≡◌, ◌+◌, ◌≤◌, pos, Bool, true, false, ◌||◌, None, Result, refl, ap, ◌∙◌, arith}
-use Rattle.std.specs.Prelude.{if◌then◌else◌, IfOk}
-use Rattle.power_reduce.proofs.Shared.{is_number, is_num_one, is_reduced, is_whole_num, num_one, split_product, NoneIs, counted, counted_among, counted_other, Fraction, one_fraction, is_zero_fraction}
-use Rattle.power_reduce.proofs.Shared.{is_one_fraction, Tree, num, mult, power, Trees, none, more, is_undef, zero_is, one_is, State, is_power, base_in, exponent_in, has_no_power, has_number_power}
-use Rattle.power_reduce.proofs.Shared.{IsWrittenPower, IsPowerAnswer, IsStep, is_zero_or_one, parts_of, rewritten, IfDone, Step, Forest, tree_of, NumberFault, given_told, split_counts, counts_one}
-use Rattle.power_reduce.proofs.{Shared.{number_counts_one}, Powers.{power_is}, Rooms.{HasFactors, product_factors}, Whole.{whole_is}}
-use Rattle.tree_room.specs.Handed.{counted_in_all}
+use Rattle.power_reduce.proofs.Shared.{◌≡◌, ◌+◌, ◌≤◌, pos, Bool, true, false, ◌||◌, None, Result, refl, ap, ◌∙◌, arith, IfOk, is_number, is_num_one, is_reduced, is_whole_num, num_one, split_product}
+use Rattle.power_reduce.proofs.Shared.{NoneIs, counted, counted_among, counted_other, Fraction, one_fraction, is_zero_fraction, is_one_fraction, Tree, num, mult, power, Trees, none, more, is_undef}
+use Rattle.power_reduce.proofs.Shared.{zero_is, one_is, State, is_power, base_in, exponent_in, has_no_power, has_number_power, IsWrittenPower, IsPowerAnswer, IsStep, is_zero_or_one, parts_of}
+use Rattle.power_reduce.proofs.{Shared.{rewritten, IfDone, Step, Forest, tree_of, NumberFault, given_told, split_counts, counts_one, number_counts_one, counted_in_all}, Powers.{power_is}}
+use Rattle.power_reduce.proofs.{Rooms.{HasFactors, product_factors}, Whole.{whole_is}}
+use Rattle.std.specs.Prelude.{if◌then◌else◌}
 use Rattle.reduce_port.specs.declared.step.Step.TheVariants as step
 
 undef_counts : (t : Tree) → is_undef t ≡ true → counted t ≡ 1

@@ -1,9 +1,8 @@
 -- Half of an even exponent.
-use Rattle.std.proofs.Common.{◌≡◌, ◌<◌, ◌≤◌, ◌^◌, Bool, neg_ℤ, ℤ, pos, Some, refl, arith, to_z, of_z, true, false}
-use Rattle.std.specs.Prelude.{nat_abs, int_div, int_le, int_lt}
-use Rattle.power_reduce.proofs.Shared.{w128, Rat, whole_fraction, is_number, ratio_of, value_of, whole, Tree, num, power, is_root, size, whole_numerator, whole_denominator, and_from, and_parts, half}
-use Rattle.power_reduce.proofs.Shared.{is_even_whole, rewritten, nth, children_of}
-use Rattle.calc_terms.specs.{Kind.{size_by_form}, Short.{is_short, is_short_int}}
+use Rattle.power_reduce.proofs.Shared.{◌≡◌, ◌<◌, ◌≤◌, ◌^◌, Bool, neg_ℤ, ℤ, pos, Some, refl, arith, to_z, of_z, true, false, nat_abs, int_div, int_le, int_lt, w128, Rat, whole_fraction, is_number}
+use Rattle.power_reduce.proofs.Shared.{ratio_of, value_of, whole, Tree, num, power, is_root, size, whole_numerator, whole_denominator, and_from, and_parts, half, is_even_whole, rewritten, nth}
+use Rattle.power_reduce.proofs.Shared.{children_of, size_by_form, is_short_int}
+use Rattle.calc_terms.specs.Short.{is_short}
 use Rattle.calc_terms.specs.declared.kind.Kind.TheVariants as kind
 
 pub halved : (z : ℤ) (r : Rat) → nat_abs z < 2 ^ 127 → ratio_of r ≡ whole (to_z w128 (of_z w128 (int_div (to_z w128 (of_z w128 z)) (to_z w128 (of_z w128 (pos 2)))))) → value_of r ≡ whole_fraction (half z)

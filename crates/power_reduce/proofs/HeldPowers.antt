@@ -1,21 +1,17 @@
 -- Whole powers are held by the bits of their bases, times the exponent.
-use Rattle.std.proofs.Common.{◌≡◌, ℕ, zero, suc, ◌*◌, ◌≤◌, ◌≤ℤ◌, ◌<ℤ◌, inr, ℤ, pos, negsuc, neg_ℤ, List, [], ◌∷◌, length, Bool, true, false, ◌&&◌, ◌||◌, not, None, Some, Result, refl, sym, ap, ◌∙◌}
-use Rattle.std.proofs.{Common.{subst, arith}, lemmas.Bool.{not-true, or_parts}}
-use Rattle.std.specs.Prelude.{if◌then◌else◌, nat_abs, IfOk}
-use Rattle.power_reduce.proofs.Shared.{and_parts, is_number, value, classes, IsNumber, is_opaque_exponent, is_whole_num, num_one, Surd, surd_one, number_test, number_words, IsHeld}
-use Rattle.power_reduce.proofs.Shared.{mass_from, calculated, exactly, powered, undefined, pow_op, fraction_power, Fraction, inverse, one_fraction, whole_fraction, is_zero_fraction, is_one_fraction}
-use Rattle.power_reduce.proofs.Shared.{Tree, num, symbol, undef, add, mult, power, root, neg, sub, div, none, more, is_undef, one_is, whole_numerator, zero_is, State, IsFactorHeld, IsHeldAsPowerOf}
-use Rattle.power_reduce.proofs.Shared.{IsNumberPower, base_in, exponent_in, has_no_power, has_number_power, IsWrittenPower, IsPowerAnswer, IsStep, goes_inside, is_zero_or_one, parts_of, raised}
-use Rattle.power_reduce.proofs.Shared.{rewritten, rewritten_whole, IsNoLargerThanInverse, IfDone, Step, tree_as_base, alone, held_wider, nothing_held, number_held, Forest, tree_of, NumberFault}
-use Rattle.power_reduce.proofs.{Shared.{given_told}, Exponents.{as_whole, whole_no_half}, RationalPowers.{calculated_exactly}, Whole.{whole_is}, Written.{number_power, one_exponent}}
-use Rattle.power_reduce.proofs.{ByRule.{no_number_power as no_number_base}, WithinBits.{rational_raised, rational_inverted, number_is_held}}
-use Rattle.calc_bits.proofs.Held.{held_power}
-use Rattle.calc_bits.specs.Bounds.{IsNoLargerThanPower}
-use Rattle.tree_bits.specs.{Children.{IsSumHeld}, Exponents.{Counts, counts, counts_of, is_counted, multiple}, Factors.{as_factor}, HeldTrees.{Addend, addend, addend_of, IsPartHeld, factor_held}}
-use Rattle.tree_bits.specs.HeldTrees.{more_weighted, none_weighted, AreWeighted, no_factor_held, power_high, power_low, base_in as factor_base, exponent_in as factor_exponent}
-use Rattle.tree_bits.specs.{Powers.{raised_high, raised_low, IsHeldAsPower}, Weighted.{Weighted, weighted}}
-use Rattle.tree_bits.proofs.{Children.{tree_as_sum}, Powers.{addend_raised, held_as_power, held_as_inverse, inverse_raised}, Sums.{one_counts, one_weighted}, Factors.{as_number}}
-use Rattle.tree_room.proofs.PowerCounts.{power_no_number}
+use Rattle.power_reduce.proofs.Shared.{◌≡◌, ℕ, zero, suc, ◌*◌, ◌≤◌, ◌≤ℤ◌, ◌<ℤ◌, inr, ℤ, pos, negsuc, neg_ℤ, List, [], ◌∷◌, length, Bool, true, false, ◌&&◌, ◌||◌, not, None, Some, Result, refl, sym}
+use Rattle.power_reduce.proofs.Shared.{ap, ◌∙◌, subst, arith, not-true, or_parts, nat_abs, IfOk, and_parts, is_number, value, classes, IsNumber, is_opaque_exponent, is_whole_num, num_one, Surd}
+use Rattle.power_reduce.proofs.Shared.{surd_one, number_test, number_words, IsHeld, mass_from, calculated, exactly, powered, undefined, pow_op, fraction_power, Fraction, inverse, one_fraction}
+use Rattle.power_reduce.proofs.Shared.{whole_fraction, is_zero_fraction, is_one_fraction, Tree, num, symbol, undef, add, mult, power, root, neg, sub, div, none, more, is_undef, one_is}
+use Rattle.power_reduce.proofs.Shared.{whole_numerator, zero_is, State, IsFactorHeld, IsHeldAsPowerOf, IsNumberPower, base_in, exponent_in, has_no_power, has_number_power, IsWrittenPower}
+use Rattle.power_reduce.proofs.Shared.{IsPowerAnswer, IsStep, goes_inside, is_zero_or_one, parts_of, raised, rewritten, rewritten_whole, IsNoLargerThanInverse, IfDone, Step, tree_as_base, alone}
+use Rattle.power_reduce.proofs.Shared.{held_wider, nothing_held, number_held, Forest, tree_of, NumberFault, given_told, held_power, IsNoLargerThanPower, IsSumHeld, Counts, counts, counts_of}
+use Rattle.power_reduce.proofs.Shared.{is_counted, multiple, as_factor, Addend, addend, addend_of, IsPartHeld, factor_held, more_weighted, none_weighted, AreWeighted, no_factor_held, power_high}
+use Rattle.power_reduce.proofs.Shared.{power_low, raised_high, raised_low, IsHeldAsPower, Weighted, weighted, tree_as_sum, addend_raised, held_as_power, held_as_inverse, inverse_raised, one_counts}
+use Rattle.power_reduce.proofs.{Shared.{one_weighted, as_number, power_no_number}, Exponents.{as_whole, whole_no_half}, RationalPowers.{calculated_exactly}, Whole.{whole_is}}
+use Rattle.power_reduce.proofs.{Written.{number_power, one_exponent}, ByRule.{no_number_power as no_number_base}, WithinBits.{rational_raised, rational_inverted, number_is_held}}
+use Rattle.std.specs.Prelude.{if◌then◌else◌}
+use Rattle.tree_bits.specs.HeldTrees.{base_in as factor_base, exponent_in as factor_exponent}
 use Rattle.reduce_port.specs.declared.step.Step.TheVariants as step
 
 -- ---- Numbers as factors

@@ -1,12 +1,9 @@
 -- A power is rewritten where it stands: the node of its base goes, and the exponent is replaced.
-use Rattle.std.proofs.Common.{◌≡◌, ℕ, ◌≤◌, [], ◌∷◌, refl, sym, ap, ◌∙◌, subst, arith, true, false}
-use Rattle.power_reduce.proofs.Shared.{Tree, root, Trees, none, more, append, is_root, size, IsOver, IsTaken, taken, over_put, over_same, over_end, without_put, IsAdded, cut, cut_rest, gives_put}
-use Rattle.power_reduce.proofs.Shared.{State, free_of, released_free, is_power, base_in, exponent_in, tree_of, IsOnce, IsHanded, Represents, Ends, Gives, KeepsFront, nth, children_of, Forest, kids}
-use Rattle.power_reduce.proofs.Shared.{root_count, tree_nth, without_nth, merged_nth, holds, kids_of, root_tree, without_root, put, Stands, forest, KeepsRefusals, all-kids, behind_first, front_same}
-use Rattle.power_reduce.proofs.Shared.{front_at, front_put, gives_as, given_root, represents_join, apart, kids_of_root, other_apart, eqb-sym, children_of-plain, whole_kids, put-put}
-use Rattle.power_reduce.proofs.Powers.{over_power}
-use Rattle.tree_handles.specs.Holes.{IsHole, Place}
-use Rattle.calc_terms.specs.declared.kind.Kind.{Kind}
+use Rattle.power_reduce.proofs.Shared.{◌≡◌, ℕ, ◌≤◌, [], ◌∷◌, refl, sym, ap, ◌∙◌, subst, arith, true, false, Tree, root, Trees, none, more, append, is_root, size, IsOver, IsTaken, taken, over_put}
+use Rattle.power_reduce.proofs.Shared.{over_same, over_end, without_put, IsAdded, cut, cut_rest, gives_put, State, free_of, released_free, is_power, base_in, exponent_in, tree_of, IsOnce, IsHanded}
+use Rattle.power_reduce.proofs.Shared.{Represents, Ends, Gives, KeepsFront, nth, children_of, Forest, kids, root_count, tree_nth, without_nth, merged_nth, holds, kids_of, root_tree, without_root, put}
+use Rattle.power_reduce.proofs.Shared.{Stands, forest, KeepsRefusals, all-kids, behind_first, front_same, front_at, front_put, gives_as, given_root, represents_join, apart, kids_of_root, other_apart}
+use Rattle.power_reduce.proofs.{Shared.{eqb-sym, children_of-plain, whole_kids, put-put, IsHole, Place, Kind}, Powers.{over_power}}
 use Rattle.calc_terms.specs.declared.kind.Kind.TheVariants as kind
 
 -- ---- the node of the first child goes

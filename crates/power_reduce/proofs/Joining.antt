@@ -1,11 +1,10 @@
 -- The exponents of a power of a power are joined in a product, which takes their place.
-use Rattle.std.proofs.Common.{arith, ◌≡◌, ℕ, refl, ap, subst, true, false, Some}
-use Rattle.power_reduce.proofs.Shared.{bare, is_opaque_exponent, Tree, mult, power, Trees, none, more, append, IsOver, IsTaken, taken, over_put, IsAdded, is_power, base_in, exponent_in, goes_inside}
-use Rattle.power_reduce.proofs.Shared.{rewritten, State, tree_of, IsHanded, Ends, Gives, Forest, empty, kids, one_tree, with_root_kids, tree_nth, with_nth, without_nth, merged_nth, root_tree}
-use Rattle.power_reduce.proofs.Shared.{without_root, put, forest, gives, given_handed, given_rest, given_told, represents_handed, represents_node, represents_none, represents_with, ends_as}
-use Rattle.power_reduce.proofs.{Exponents.{as_whole, inside_whole, whole_no_half}, InPlace.{merged, taken_on}, Powers.{over_power, power_children}}
-use Rattle.calc_terms.specs.declared.kind.Kind.TheVariants as kind
+use Rattle.power_reduce.proofs.Shared.{arith, ◌≡◌, ℕ, refl, ap, subst, true, false, Some, bare, is_opaque_exponent, Tree, mult, power, Trees, none, more, append, IsOver, IsTaken, taken, over_put}
+use Rattle.power_reduce.proofs.Shared.{IsAdded, is_power, base_in, exponent_in, goes_inside, rewritten, State, tree_of, IsHanded, Ends, Gives, Forest, empty, kids, one_tree, with_root_kids, tree_nth}
+use Rattle.power_reduce.proofs.Shared.{with_nth, without_nth, merged_nth, root_tree, without_root, put, forest, gives, given_handed, given_rest, given_told, represents_handed, represents_node}
+use Rattle.power_reduce.proofs.{Shared.{represents_none, represents_with, ends_as}, Exponents.{as_whole, inside_whole, whole_no_half}, InPlace.{merged, taken_on}, Powers.{over_power, power_children}}
 pub use Rattle.power_reduce.proofs.InPlace.{second_taken as then_taken}
+use Rattle.calc_terms.specs.declared.kind.Kind.TheVariants as kind
 
 -- the sides of the base, and the exponent
 pub sides_merged : {i : ℕ} {new : Forest} (s : State) → IsHanded i (forest s) → is_power (tree_of i s) ≡ true → is_power (base_in (tree_of i s)) ≡ true

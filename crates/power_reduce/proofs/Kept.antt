@@ -1,11 +1,11 @@
 -- Powers that no rule changes are reduced.
-use Rattle.std.proofs.{lemmas.Bool.{or_parts, not-false}, Common.{◌≡◌, ◌≤◌, Bool, true, false, ◌&&◌, if◌then◌else◌, inr, Some, None, pos, refl, ap, arith}}
-use Rattle.power_reduce.proofs.Shared.{and_from, eq-eqb, not_from_false, Fraction, zero_fraction, one_fraction, is_zero_fraction, is_one_fraction, int_is_even, int_is_negative, is_number, classes}
-use Rattle.power_reduce.proofs.Shared.{is_reduced, is_whole_num, is_transparent_power, IsPowerForm, IsWholePowerForm, Tree, num, symbol, undef, add, mult, power, root, neg, sub, div, is_undef}
-use Rattle.power_reduce.proofs.{Shared.{is_mult, is_root, whole_numerator, reduced_test, is_zero_or_one, goes_inside, is_even_whole, rewritten, rewritten_whole}, Written.{clash}}
-use Rattle.tree_bits.proofs.ExponentBits.{nothing_is}
+use Rattle.power_reduce.proofs.Shared.{or_parts, not-false, ◌≡◌, ◌≤◌, Bool, true, false, ◌&&◌, inr, Some, None, pos, refl, ap, arith, and_from, eq-eqb, not_from_false, Fraction, zero_fraction}
+use Rattle.power_reduce.proofs.Shared.{one_fraction, is_zero_fraction, is_one_fraction, int_is_even, int_is_negative, is_number, classes, is_reduced, is_whole_num, is_transparent_power, IsPowerForm}
+use Rattle.power_reduce.proofs.Shared.{IsWholePowerForm, Tree, num, symbol, undef, add, mult, power, root, neg, sub, div, is_undef, is_mult, is_root, whole_numerator, reduced_test, is_zero_or_one}
+use Rattle.power_reduce.proofs.Shared.{goes_inside, is_even_whole, rewritten, rewritten_whole, reduced_parts}
+use Rattle.std.proofs.Common.{if◌then◌else◌}
+use Rattle.calc_terms.proofs.SmallLaws.{contradiction as clash, zero_is_zero as nothing_is}
 use Rattle.number_forms.proofs.Placings.{one_test}
-use Rattle.coefficients.proofs.Forms.{reduced_parts}
 
 pub reduced_power : (b e : Tree) → is_reduced b ≡ true → is_reduced e ≡ true → is_undef b ≡ false → is_undef e ≡ false → IsPowerForm b e → is_reduced (power b e) ≡ true
 reduced_power b e hb he ub ue form = reduced_test (power b e) (inr (inr form, reduced_parts b hb ub, reduced_parts e he ue))

@@ -1,10 +1,8 @@
 -- Which operation of a power does not fit, from the call that was refused.
-use Rattle.std.proofs.Common.{◌≡◌, ℕ, ℤ, pos, negsuc, neg_ℤ, ◌≤ℤ◌, ◌<ℤ◌, ◌≤◌, true, false, Result, Ok, Err, sym, subst, arith}
-use Rattle.std.specs.Prelude.{nat_abs, IfErr}
-use Rattle.power_reduce.proofs.Shared.{ints, is_number, classes, value, IsPlainOverflow, calculated, plain_value, whole_numerator, pow_op, Fraction, whole_fraction, Tree, num, power, is_num, State}
-use Rattle.power_reduce.proofs.Shared.{AnswersRationals, IsInverseOf, OfOverflow, RaisingOverflows, LoweringOverflows, inverting, raising, WholeOverflows, NamesPower, IsPowerMisfit, Overflow}
-use Rattle.power_reduce.proofs.{Shared.{NumberFault}, Written.{rational_power_is, inverse_power_is, positive_power_is}}
-use Rattle.number_forms.specs.Overflows.{InverseOverflows, PowerOverflows}
+use Rattle.power_reduce.proofs.Shared.{◌≡◌, ℕ, ℤ, pos, negsuc, neg_ℤ, ◌≤ℤ◌, ◌<ℤ◌, ◌≤◌, true, false, Result, Ok, Err, sym, subst, arith, nat_abs, IfErr, ints, is_number, classes, value}
+use Rattle.power_reduce.proofs.Shared.{IsPlainOverflow, calculated, plain_value, whole_numerator, pow_op, Fraction, whole_fraction, Tree, num, power, is_num, State, AnswersRationals, IsInverseOf}
+use Rattle.power_reduce.proofs.Shared.{OfOverflow, RaisingOverflows, LoweringOverflows, inverting, raising, WholeOverflows, NamesPower, IsPowerMisfit, Overflow, NumberFault, InverseOverflows}
+use Rattle.power_reduce.proofs.{Shared.{PowerOverflows}, Written.{rational_power_is, inverse_power_is, positive_power_is}}
 use Rattle.tree_handles.specs.declared.fault.NumberFault.TheVariants as fault
 
 names_rational : (b e : Tree) (q : Fraction) (o : Overflow) → b ≡ num q → IsPlainOverflow (plain_value (power b e)) o → NamesPower b e o

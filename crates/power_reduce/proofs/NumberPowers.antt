@@ -1,12 +1,9 @@
 -- Whole powers of Numbers that are no rationals.
-use Rattle.std.proofs.Common.{◌≡◌, ◌≢◌, ℕ, ◌≤◌, ◌≤ℤ◌, ◌<ℤ◌, ℤ, pos, negsuc, neg_ℤ, zero, suc, true, false, refl, sym, ap, ◌∙◌, subst, arith}
-use Rattle.std.specs.Prelude.{nat_abs}
-use Rattle.power_reduce.proofs.Shared.{ints, whole_fraction, zero_fraction, one_fraction, int_is_negative, is_number, classes, value, IsNumber, Inverts, Surd, surd_power, is_reduced, num_one, Tree}
-use Rattle.power_reduce.proofs.Shared.{num, add, power, is_num, is_undef, whole_numerator, whole_denominator, number_words, power_of_number, power_of_inverse, IsNumberOf, IsInverseOf, AnswersInverse}
-use Rattle.power_reduce.proofs.{Shared.{IsPowerAnswer, has_no_power, base_in, exponent_in, HasReducedSides, is_zero_or_one, keeps, without_root, Forest, Gives}, Answered.{number_answer}}
-use Rattle.power_reduce.proofs.{Answered.{zero_exponent_answer, one_exponent_answer, kept_answer}, ByRule.{has_power}, Kept.{wide_power}, Written.{number_power, few_classes, number_written}}
-use Rattle.power_reduce.proofs.Powers.{power_is}
-use Rattle.number_forms.specs.declared.inverting.Inverse.{Inverse}
+use Rattle.power_reduce.proofs.Shared.{◌≡◌, ◌≢◌, ℕ, ◌≤◌, ◌≤ℤ◌, ◌<ℤ◌, ℤ, pos, negsuc, neg_ℤ, zero, suc, true, false, refl, sym, ap, ◌∙◌, subst, arith, nat_abs, ints, whole_fraction, zero_fraction}
+use Rattle.power_reduce.proofs.Shared.{one_fraction, int_is_negative, is_number, classes, value, IsNumber, Inverts, Surd, surd_power, is_reduced, num_one, Tree, num, add, power, is_num, is_undef}
+use Rattle.power_reduce.proofs.Shared.{whole_numerator, whole_denominator, number_words, power_of_number, power_of_inverse, IsNumberOf, IsInverseOf, AnswersInverse, IsPowerAnswer, has_no_power}
+use Rattle.power_reduce.proofs.{Shared.{base_in, exponent_in, HasReducedSides, is_zero_or_one, keeps, without_root, Forest, Gives, Inverse}, Answered.{number_answer, zero_exponent_answer}}
+use Rattle.power_reduce.proofs.{Answered.{one_exponent_answer, kept_answer}, ByRule.{has_power}, Kept.{wide_power}, Written.{number_power, few_classes, number_written}, Powers.{power_is}}
 use Rattle.number_forms.proofs.Kept.{no_zero}
 use Rattle.number_forms.specs.declared.inverting.Inverse.TheVariants as inverse
 

@@ -1,9 +1,7 @@
 -- The parts of a product: its coefficient, where it is not 1, before its factors.
-use Rattle.std.proofs.Common.{◌≡◌, ℕ, ◌≤◌, true, false, Some, refl, sym, ap, ◌∙◌, subst, arith}
-use Rattle.power_reduce.proofs.Shared.{is_number, is_reduced, is_num_one, split_product, Tree, mult, Trees, more, count, is_mult, GivesTwo, seen, State, goes_inside, parts_of, raised, rewritten}
-use Rattle.power_reduce.proofs.Shared.{plain, children_of, Forest, IsHanded, Gives, tree_at, root_tree, Stands, forest, given_handed, given_other, given_root, given_same, given_told}
-use Rattle.power_reduce.proofs.Exponents.{as_whole, inside_whole, whole_no_half}
-use Rattle.coefficients.proofs.Lengths.{some_factors}
+use Rattle.power_reduce.proofs.Shared.{◌≡◌, ℕ, ◌≤◌, true, false, Some, refl, sym, ap, ◌∙◌, subst, arith, is_number, is_reduced, is_num_one, split_product, Tree, mult, Trees, more, count, is_mult}
+use Rattle.power_reduce.proofs.Shared.{GivesTwo, seen, State, goes_inside, parts_of, raised, rewritten, plain, children_of, Forest, IsHanded, Gives, tree_at, root_tree, Stands, forest, given_handed}
+use Rattle.power_reduce.proofs.Shared.{given_other, given_root, given_same, given_told, some_factors}
 
 -- with a coefficient 1, and with another
 pub led_by_one : (ts : Trees) → is_num_one (split_product ts).coefficient ≡ true → parts_of ts ≡ (split_product ts).factors
@@ -34,9 +32,6 @@ many_parts ts h = grind arith
 
 pub some_parts : (t : Tree) → is_mult t ≡ true → is_reduced t ≡ true → is_number t ≡ false → 1 ≤ count (parts_of (children_of t))
 some_parts t m h n = many_parts (children_of t) (some_factors t m h n)
-
-pub powers_rewritten : (b e : Tree) → is_mult b ≡ true → is_number b ≡ false → goes_inside e ≡ true → rewritten b e ≡ Some (mult (raised (parts_of (children_of b)) e))
-powers_rewritten b e m n i = grind (arith, as_whole, whole_no_half, inside_whole)
 
 pub powers_as : (b e t u x a : Tree) → is_mult b ≡ true → is_number b ≡ false → goes_inside e ≡ true → t ≡ mult (raised (children_of u) x) → u ≡ mult (parts_of (children_of a)) → a ≡ b → x ≡ e → rewritten b e ≡ Some t
 powers_as b e t u x a m n i h p q r = grind arith

@@ -1,10 +1,9 @@
 -- A root of the pool that is a power: its sides, and what is left when they are taken.
-use Rattle.std.proofs.Common.{◌≡◌, ℕ, ◌+◌, ◌≤◌, [], ◌∷◌, refl, ap, ◌∙◌, arith, true}
-use Rattle.power_reduce.proofs.Shared.{gives_without, Payload, bare, Tree, num, power, Trees, none, more, size, Fraction, one_fraction, num_least, num_most, whole_size, least_size, GivesTwo, IsOver}
-use Rattle.power_reduce.proofs.Shared.{IsTaken, taken, over_put, once_count, without_put, children_at, seen, expression, State, is_power, base_in, exponent_in, tree_of, AllOnce, IsOwned, IsHanded}
-use Rattle.power_reduce.proofs.Shared.{Ends, Gives, KeepsFront, nth, grown, plain, IsExpression, children_of, Forest, empty, tree, arity, kids, root_payload, root_count, tree_nth, without_nth}
-use Rattle.power_reduce.proofs.Shared.{tree_at, kids_of, root_tree, without_root, put, Stands, forest, all-kids, behind_first, front_same, front_at, front_end, front_put, front_without, gives_as}
-use Rattle.power_reduce.proofs.Shared.{ends_without, ends_as, ends_at, children_of-plain, whole_kids, root_arity}
+use Rattle.power_reduce.proofs.Shared.{once_one, ◌≡◌, ℕ, ◌+◌, ◌≤◌, [], ◌∷◌, refl, ap, ◌∙◌, arith, true, gives_without, Payload, bare, Tree, num, power, Trees, none, more, size, Fraction, one_fraction}
+use Rattle.power_reduce.proofs.Shared.{num_least, num_most, whole_size, least_size, GivesTwo, IsOver, IsTaken, taken, over_put, once_count, without_put, children_at, seen, expression, State, is_power}
+use Rattle.power_reduce.proofs.Shared.{base_in, exponent_in, tree_of, AllOnce, IsOwned, IsHanded, Ends, Gives, KeepsFront, nth, grown, plain, IsExpression, children_of, Forest, empty, tree, arity}
+use Rattle.power_reduce.proofs.Shared.{kids, root_payload, root_count, tree_nth, without_nth, tree_at, kids_of, root_tree, without_root, put, Stands, forest, all-kids, behind_first, front_same}
+use Rattle.power_reduce.proofs.Shared.{front_at, front_end, front_put, front_without, gives_as, ends_without, ends_as, ends_at, children_of-plain, whole_kids, root_arity}
 use Rattle.calc_terms.specs.declared.kind.Kind.TheVariants as kind
 
 -- ---- powers
@@ -53,11 +52,6 @@ pub side_is : {s : State} {i j : ℕ} (k n : ℕ) → Stands s → IsHanded i (f
 side_is {s = s} {i = i} k n st h p e r = r (expression e st h) ∙ ap (λ (t : Tree). nth n (children_of t)) (seen e st h) ∙ ap (nth n) (power_children (tree_of i s) p)
 
 -- ---- owned roots
-
-once_one : (t : Forest) → arity t ≡ 1 → root_count t ≡ 1 → AllOnce (kids t) → AllOnce t
-once_one empty e c h = tt
-once_one (tree l b empty) e c h = (c, h, tt)
-once_one (tree l b (tree m d s)) e c h = absurd (omega arith)
 
 -- a root over trees whose nodes are held once is owned
 pub over_owned : {k : _} {i : ℕ} {ts : Trees} {f : Forest} → IsOver k i ts f → IsOwned i f

@@ -1,8 +1,6 @@
 -- Bytes at hand while the factors of a product are raised one by one.
-use Rattle.std.proofs.Common.{◌≡◌, ℕ, ◌+◌, ◌*◌, ◌<◌, ◌≤◌, ap, arith}
-use Rattle.power_reduce.proofs.Shared.{mapped, Tree, mult, Trees, none, more, append, count, size, sizes, State, free_of, raised, bytes_in, tree_of, IsHanded, tree_at, Stands, forest, KeepsRefusals}
-use Rattle.power_reduce.proofs.{Shared.{tree_of_root, size-plain, root_arity}, Raising.{to_power}}
-use Rattle.coefficients.proofs.Loops.{IsPart, count_append, next_at, part_free}
+use Rattle.power_reduce.proofs.Shared.{◌≡◌, ℕ, ◌+◌, ◌*◌, ◌<◌, ◌≤◌, ap, arith, mapped, Tree, mult, Trees, none, more, append, count, size, sizes, State, free_of, raised, bytes_in, tree_of, IsHanded}
+use Rattle.power_reduce.proofs.{Shared.{tree_at, Stands, forest, KeepsRefusals, tree_of_root, size-plain, root_arity, IsPart, next_at, part_free, count_append}, Raising.{to_power}}
 pub use Rattle.tree_handles.proofs.FreeBytes.{beside_bytes as handed_bytes}
 
 -- a tree that is read

@@ -1,11 +1,8 @@
 -- The factors of a product are raised to an exponent, one by one.
-use Rattle.std.proofs.Common.{◌≡◌, ℕ, ◌+◌, ◌<◌, [], ◌∷◌, eqb, refl, sym, ap, ◌∙◌, subst, arith, true, false}
-use Rattle.power_reduce.proofs.Shared.{Tree, is_mult, mult, power, Trees, none, more, count, raised, plain, children_of, compound, nth, Forest, Gives, KeepsFront, root_tree, without_root, given_rest}
-use Rattle.power_reduce.proofs.Shared.{given_same, given_told, behind_first, behind_later, front_after_one, front_same, front_without, tree-without, ChangesTree, IsHole, changes_as, changes_beside}
-use Rattle.power_reduce.proofs.Shared.{changes_front, changes_same, eqb-sym, hole_beside, hole_stays, mapped, set_child}
-use Rattle.tree_handles.proofs.Filling.{IsAsBefore}
-use Rattle.tree_handles.specs.Holes.{Place}
-use Rattle.coefficients.proofs.Loops.{IsPart, part_all, part_next, part_nth}
+use Rattle.power_reduce.proofs.Shared.{◌≡◌, ℕ, ◌+◌, ◌<◌, [], ◌∷◌, eqb, refl, sym, ap, ◌∙◌, subst, arith, true, false, Tree, is_mult, mult, power, Trees, none, more, count, raised, plain, children_of}
+use Rattle.power_reduce.proofs.Shared.{compound, nth, Forest, Gives, KeepsFront, root_tree, without_root, given_rest, given_same, given_told, behind_first, behind_later, front_after_one, front_same}
+use Rattle.power_reduce.proofs.Shared.{front_without, tree-without, ChangesTree, IsHole, changes_as, changes_beside, changes_front, changes_same, eqb-sym, hole_beside, hole_stays, mapped, set_child}
+use Rattle.power_reduce.proofs.Shared.{IsAsBefore, Place, IsPart, part_all, part_next, part_nth}
 use Rattle.calc_terms.specs.declared.kind.Kind.TheVariants as kind
 
 abbrev pub to_power : Tree → Tree → Tree
@@ -14,9 +11,6 @@ to_power e t = power t e
 raised_mapped : (e : Tree) (ts : Trees) → mapped (to_power e) ts ≡ raised ts e
 raised_mapped e none = refl
 raised_mapped e (more t ts) = ap (more (power t e)) (raised_mapped e ts)
-
-pub product_words : (t : Tree) → is_mult t ≡ true → t ≡ mult (children_of t)
-product_words t m = grind arith
 
 -- ---- one factor
 

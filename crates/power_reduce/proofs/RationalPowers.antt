@@ -1,16 +1,14 @@
 -- Whole powers of rationals.
-use Rattle.std.proofs.Common.{◌≡◌, ◌≢◌, ℕ, ◌<◌, ◌^◌, ◌≤ℤ◌, ◌<ℤ◌, ℤ, pos, negsuc, neg_ℤ, ◌-ℤ◌, zero, suc, Bool, true, false, if◌then◌else◌, Result, refl, sym, ap, ◌∙◌, subst, arith, to_z, of_z}
-use Rattle.std.specs.Prelude.{nat_abs, IfErr}
-use Rattle.power_reduce.proofs.Shared.{ints, w128, IsErrAnd, Operation, pow_op, fraction_power, operation_fits, result_of, Fraction, lowest, whole_fraction, zero_fraction, one_fraction, inverse}
-use Rattle.power_reduce.proofs.Shared.{is_zero_fraction, int_is_zero, PlainValue, calculated, powered, exactly, undefined, overflow, plain_value, Rat, ratio_of, value_of, Ratio, whole, Tree, num}
-use Rattle.power_reduce.proofs.Shared.{undef, power, whole_numerator, whole_denominator, zero_is, KeepsMeanings-eq, number_test, power_of_rational, negative_power_of_rational, power_zero_is_one}
+use Rattle.power_reduce.proofs.Shared.{◌≡◌, ◌≢◌, ℕ, ◌<◌, ◌^◌, ◌≤ℤ◌, ◌<ℤ◌, ℤ, pos, negsuc, neg_ℤ, ◌-ℤ◌, zero, suc, Bool, true, false, Result, refl, sym, ap, ◌∙◌, subst, arith, to_z, of_z, nat_abs}
+use Rattle.power_reduce.proofs.Shared.{IfErr, ints, w128, IsErrAnd, Operation, pow_op, fraction_power, operation_fits, result_of, Fraction, lowest, whole_fraction, zero_fraction, one_fraction}
+use Rattle.power_reduce.proofs.Shared.{inverse, is_zero_fraction, int_is_zero, PlainValue, calculated, powered, exactly, undefined, overflow, plain_value, Rat, ratio_of, value_of, Ratio, whole, Tree}
+use Rattle.power_reduce.proofs.Shared.{num, undef, power, whole_numerator, whole_denominator, zero_is, KeepsMeanings-eq, number_test, power_of_rational, negative_power_of_rational, power_zero_is_one}
 use Rattle.power_reduce.proofs.Shared.{zero_to_nothing, State, plain_overflow, AnswersRationals, IsPowerAnswer, has_no_power, is_at_most_zero, IsWrittenPower, ratio_parts, told, Overflow}
-use Rattle.power_reduce.proofs.{Shared.{IsPlainAnswer, IsPlainOverflow, keeps, NumberFault, by_test}, Answered.{number_answer, undefined_answer}, Written.{zero_exponent, one_exponent, number_power}}
-use Rattle.power_reduce.proofs.Written.{few_classes, rational_classes, first_power}
-use Rattle.rational128.specs.{Refusals.{operation_of}, declared.overflow.Op.TheVariants.{Pow}}
+use Rattle.power_reduce.proofs.{Shared.{IsPlainAnswer, IsPlainOverflow, keeps, NumberFault, by_test, operation_of, Pow, lt_z, le_z}, Answered.{number_answer, undefined_answer}}
+use Rattle.power_reduce.proofs.Written.{zero_exponent, one_exponent, number_power, few_classes, rational_classes, first_power}
+use Rattle.std.proofs.Common.{if◌then◌else◌}
 use Rattle.calc_algebra.proofs.MeaningRewrites as rewrites
 use Rattle.tree_handles.specs.declared.fault.NumberFault.TheVariants as fault
-use lib.Signed.{lt_z, le_z}
 
 -- ---- signs, as the program tests them
 
@@ -91,9 +89,6 @@ unfit_power_of p q y z o e k h op a b = subst (λ (x : Fraction). IsPlainOverflo
 
 pub if_err : {A E : Type 0} (r : Result A E) (o : E) (P : E → Type 0) → IsErrAnd r (λ e. e ≡ o) → P o → IfErr r P
 if_err r o P h k = grind arith
-
-pub zero_rational : (q : Rat) (n : ℤ) → n ≡ (ratio_of q).num → of_z w128 n ≡ 0 → is_zero_fraction (value_of q) ≡ true
-zero_rational q n e h = ap int_is_zero ((ratio_parts q).num ∙ sym (told q.num q.fits) ∙ ap (λ z. to_z w128 (of_z w128 z)) (sym e) ∙ ap (to_z w128) h)
 
 pub no_zero_rational : (q : Rat) (n : ℤ) → n ≡ (ratio_of q).num → (of_z w128 n ≡ 0 → ⊥) → is_zero_fraction (value_of q) ≡ true → ⊥
 no_zero_rational q n e h k = grind (arith, ratio_parts)

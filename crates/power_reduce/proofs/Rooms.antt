@@ -1,16 +1,12 @@
 -- Bytes at hand for a step on a power, and what it needs.
-use Rattle.std.proofs.Common.{◌≡◌, ℕ, ◌+◌, ◌*◌, ◌^◌, ◌<◌, ◌≤◌, List, length, Bool, true, false, Result, refl, ap, subst, arith}
-use Rattle.std.specs.Prelude.{if◌then◌else◌, IfErr, IsOk}
-use Rattle.power_reduce.proofs.Shared.{pow_pos, is_number, is_num_one, is_reduced, is_whole_num, split_product, NoneIs, HasForm, number_test, reduced_words, counted, counted_among, SpansTree}
-use Rattle.power_reduce.proofs.Shared.{SpansTrees, tree_bytes, counted_other, whole_fraction, Tree, num, mult, root, Trees, none, more, AllPartsOf, AllParts, is_mult, size, sizes, GivesTwo, no_split}
-use Rattle.power_reduce.proofs.Shared.{reduced_parts, parts_reduced, in_front, State, free_of, Full, numerator, LacksRoom, full_as, refusal_as, is_power, base_in, exponent_in, parts_of, power_of_root}
-use Rattle.power_reduce.proofs.Shared.{raised, IsShortOfStep, IsShortOfRoot, LacksStep, children_of, Forest, bytes_in, tree_of, IsHanded, Gives, without_root, Stands, forest, KeepsRefusals}
-use Rattle.power_reduce.proofs.{Shared.{NumberFault, bytes_in-join, used_forest, size-plain, split_counts, number_counts_one}, Powers.{power_is, one_bytes}, RaisedBytes.{handed_bytes}}
-use Rattle.power_reduce.proofs.Spanned.{split_spans}
-use Rattle.calc_room.specs.Needs.{power_need, inverse_need}
-use Rattle.calc_room.proofs.NumberBytes.{num_bytes}
-use Rattle.coefficients.specs.Bytes.{bytes_of_coefficient, IsShort}
-use Rattle.tree_room.proofs.{Handed.{raised_factor, raised_number}, Multiples.{scaled}}
+use Rattle.power_reduce.proofs.Shared.{◌≡◌, ℕ, ◌+◌, ◌*◌, ◌^◌, ◌<◌, ◌≤◌, List, length, Bool, true, false, Result, refl, ap, subst, arith, IfErr, IsOk, pow_pos, is_number, is_num_one, is_reduced}
+use Rattle.power_reduce.proofs.Shared.{is_whole_num, split_product, NoneIs, HasForm, number_test, reduced_words, counted, counted_among, SpansTree, SpansTrees, tree_bytes, counted_other}
+use Rattle.power_reduce.proofs.Shared.{whole_fraction, Tree, num, mult, root, Trees, none, more, AllPartsOf, AllParts, is_mult, size, sizes, GivesTwo, no_split, reduced_parts, parts_reduced, in_front}
+use Rattle.power_reduce.proofs.Shared.{State, free_of, Full, numerator, LacksRoom, full_as, refusal_as, is_power, base_in, exponent_in, parts_of, power_of_root, raised, IsShortOfStep, IsShortOfRoot}
+use Rattle.power_reduce.proofs.Shared.{LacksStep, children_of, Forest, bytes_in, tree_of, IsHanded, Gives, without_root, Stands, forest, KeepsRefusals, NumberFault, bytes_in-join, used_forest}
+use Rattle.power_reduce.proofs.Shared.{size-plain, split_counts, number_counts_one, power_need, inverse_need, num_bytes, bytes_of_coefficient, IsShort, raised_factor, raised_number, scaled}
+use Rattle.power_reduce.proofs.{Powers.{power_is, one_bytes}, RaisedBytes.{handed_bytes}, Spanned.{split_spans}}
+use Rattle.std.specs.Prelude.{if◌then◌else◌}
 
 -- ---- both sides of a power stand by themselves
 

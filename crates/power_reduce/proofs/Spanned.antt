@@ -1,16 +1,12 @@
 -- What spans a power spans what a step makes of it, but for the power of a root.
-use Rattle.std.proofs.lemmas.Bool.{or_right, or_parts}
-use Rattle.std.proofs.Common.{◌≡◌, ℕ, zero, suc, ◌≤◌, ℤ, pos, negsuc, List, [], ◌∷◌, length, Bool, true, false, ◌&&◌, ◌||◌, not, Some, None, Result, inl, refl, sym, ap, ◌∙◌, subst, arith}
-use Rattle.std.specs.Prelude.{IfOk, ◌==◌, nat_le}
-use Rattle.power_reduce.proofs.Shared.{and_parts, eqb-true, leb-true, is_number, value, classes, IsNumber, Rises, is_half_num, split_product, KeepsMeanings, Inverts, Surd, surd_of, surd_power}
-use Rattle.power_reduce.proofs.Shared.{AreProper, value_proper, value_rises, number_words, fraction_whole, Spans, SpansTree, SpansTrees, Fraction, whole_fraction, int_is_negative, int_is_zero, Tree}
-use Rattle.power_reduce.proofs.Shared.{num, power, Trees, none, more, is_undef, whole_numerator, zero_is, one_is, State, is_zero, is_power, base_in, exponent_in, has_no_power, has_number_power}
-use Rattle.power_reduce.proofs.Shared.{is_at_most_zero, IsWrittenPower, IsPowerAnswer, IsStep, is_zero_or_one, parts_of, raised, rewritten, rewritten_whole, Step, SpansStep, Forest, tree_of}
-use Rattle.power_reduce.proofs.{Shared.{NumberFault, given_told}, Exponents.{as_whole}, Powers.{power_is}}
-use Rattle.calc_algebra.specs.Meanings.{Means}
-use Rattle.calc_algebra.proofs.{InverseLaws.{inverse_of_term, inverse_of_terms, term_has_inverse, terms_have_inverse}, MeaningLaws.{one_meaning}, NumberValues.{number_means}, SurdLaws.{Agree-Same}}
-use Rattle.calc_algebra.proofs.TermLaws.{Same-refl}
-use Rattle.calc_room.proofs.NumberSpans.{power_spanned, spans_power, spans_same, tree_spanned, value_spanned}
+use Rattle.power_reduce.proofs.Shared.{or_right, or_parts, ◌≡◌, ℕ, zero, suc, ◌≤◌, ℤ, pos, negsuc, List, [], ◌∷◌, length, Bool, true, false, ◌&&◌, ◌||◌, not, Some, None, Result, inl, refl, sym, ap}
+use Rattle.power_reduce.proofs.Shared.{◌∙◌, subst, arith, IfOk, nat_le, and_parts, eqb-true, leb-true, is_number, value, classes, IsNumber, Rises, is_half_num, split_product, KeepsMeanings, Inverts}
+use Rattle.power_reduce.proofs.Shared.{Surd, surd_of, surd_power, AreProper, value_proper, value_rises, number_words, fraction_whole, Spans, SpansTree, SpansTrees, Fraction, whole_fraction}
+use Rattle.power_reduce.proofs.Shared.{int_is_negative, int_is_zero, Tree, num, power, Trees, none, more, is_undef, whole_numerator, zero_is, one_is, State, is_zero, is_power, base_in, exponent_in}
+use Rattle.power_reduce.proofs.Shared.{has_no_power, has_number_power, is_at_most_zero, IsWrittenPower, IsPowerAnswer, IsStep, is_zero_or_one, parts_of, raised, rewritten, rewritten_whole, Step}
+use Rattle.power_reduce.proofs.Shared.{SpansStep, Forest, tree_of, NumberFault, given_told, Means, inverse_of_term, inverse_of_terms, term_has_inverse, terms_have_inverse, one_meaning, number_means}
+use Rattle.power_reduce.proofs.{Shared.{Agree-Same, Same-refl, power_spanned, spans_power, spans_same, tree_spanned, value_spanned}, Exponents.{as_whole}, Powers.{power_is}}
+use Rattle.std.specs.Prelude.{◌==◌}
 use Rattle.reduce_port.specs.declared.step.Step.TheVariants as step
 
 module _ (gs : List ℕ) where

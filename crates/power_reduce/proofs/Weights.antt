@@ -1,9 +1,8 @@
 -- The weights and nests of the parts of a product.
-use Rattle.std.proofs.Common.{◌≡◌, ℕ, ◌+◌, ◌≤◌, ◌<◌, ◌⊎◌, inl, inr, true, false, refl, sym, subst, arith}
-use Rattle.power_reduce.proofs.Shared.{nest, nest_of, load, weight, weight_of_factors, load_of_factor, load_of_factors, has_coefficient, is_number, IsNumber, is_reduced, is_num_one, NoneIs, HasForm}
-use Rattle.power_reduce.proofs.Shared.{IsProductForm, Tree, mult, power, root, Trees, none, more, append, AllParts, AllPartsOf, is_mult, one_test, number_test, number_words, factors_of}
-use Rattle.power_reduce.proofs.Shared.{leading_factors, product_form_of, no_split, AreFactors, one_is_one, reduced_parts, parts_reduced, number_parts, Leads, in_front, IsCoefficient, EachTree}
-use Rattle.power_reduce.proofs.{Shared.{IsLighterPart, AreBoundedPowers, parts_of}, Bounds.{number_load}}
+use Rattle.power_reduce.proofs.Shared.{◌≡◌, ℕ, ◌+◌, ◌≤◌, ◌<◌, ◌⊎◌, inl, inr, true, false, refl, sym, subst, arith, nest, nest_of, load, weight, weight_of_factors, load_of_factor, load_of_factors}
+use Rattle.power_reduce.proofs.Shared.{has_coefficient, is_number, IsNumber, is_reduced, is_num_one, NoneIs, HasForm, IsProductForm, Tree, mult, power, root, Trees, none, more, append, AllParts}
+use Rattle.power_reduce.proofs.Shared.{AllPartsOf, is_mult, one_test, number_test, number_words, factors_of, leading_factors, product_form_of, no_split, AreFactors, one_is_one, reduced_parts}
+use Rattle.power_reduce.proofs.{Shared.{parts_reduced, number_parts, Leads, in_front, IsCoefficient, EachTree, IsLighterPart, AreBoundedPowers, parts_of}, Bounds.{number_load}}
 
 -- ---- weights
 

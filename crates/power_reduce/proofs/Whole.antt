@@ -1,19 +1,13 @@
 -- Whole exponents, as the program tests them.
-use Rattle.std.proofs.Common.{arith, ◌≡◌, ◌≢◌, ◌<◌, ◌^◌, ℤ, pos, Bool, true, false, ◌&&◌, sym, ap, ◌∙◌, to_z, of_z, nat_eq}
-use Rattle.std.specs.Prelude.{nat_abs}
-use Rattle.power_reduce.proofs.Shared.{w128, eq-eqb, whole_fraction, int_is_one, is_number, is_reduced, is_num_one, is_whole_num, is_opaque_exponent, Tree, num, whole_numerator, whole_denominator}
-use Rattle.power_reduce.proofs.{Shared.{reduced_parts, parts_reduced, is_power, exponent_in, told, nth, children_of}, ByRule.{transparent_whole}, Powers.{power_children}}
+use Rattle.power_reduce.proofs.Shared.{and_true, arith, ◌≡◌, ◌≢◌, ◌<◌, ◌^◌, ℤ, pos, Bool, true, false, ◌&&◌, sym, ap, ◌∙◌, to_z, of_z, nat_eq, nat_abs, w128, eq-eqb, whole_fraction, int_is_one}
+use Rattle.power_reduce.proofs.Shared.{is_number, is_reduced, is_num_one, is_whole_num, is_opaque_exponent, Tree, num, whole_numerator, whole_denominator, reduced_parts, parts_reduced, is_power}
+use Rattle.power_reduce.proofs.{Shared.{exponent_in, told, nth, children_of}, ByRule.{transparent_whole}, Powers.{power_children}}
+use Rattle.calc_terms.proofs.SmallLaws.{told_one as one_test}
 
 -- ---- 1
 
-and_true : (b : Bool) → (b && true) ≡ b
-and_true b = grind arith
-
 pub one_bits : (z : ℤ) → nat_abs z < 2 ^ 127 → of_z w128 z ≡ 1 → z ≡ pos 1
 one_bits z fits e = sym (told z fits) ∙ ap (to_z w128) e
-
-one_test : (z : ℤ) → nat_abs z < 2 ^ 127 → nat_eq (of_z w128 z) 1 ≡ int_is_one z
-one_test z h = grind arith
 
 pub no_one_bits : (z : ℤ) → (of_z w128 z ≡ 1 → ⊥) → z ≢ pos 1
 no_one_bits z h e = h (ap (of_z w128) e)

@@ -1,12 +1,12 @@
 -- A whole power of a Number that is held within few bits does not overflow.
-use Rattle.std.proofs.Common.{◌≡◌, ◌≢◌, ℕ, zero, suc, ◌+◌, ◌*◌, ◌≤◌, ℤ, pos, negsuc, [], Bool, true, false, not, Result, Ok, Err, refl, ap, ◌∙◌, subst, arith}
-use Rattle.std.specs.Prelude.{if◌then◌else◌, nat_abs, IfErr}
-use Rattle.power_reduce.proofs.Shared.{is_number, value, term, surd_of, IsHeld, IsPlainOverflow, PlainValue, calculated, exactly, overflow, powered, undefined, no_zero, whole_numerator, one_times}
-use Rattle.power_reduce.proofs.Shared.{times_comm, pow_op, fraction_fits, fraction_power, result_of, Fraction, inverse, one_fraction, times, whole_fraction, zero_fraction, is_zero_fraction, Tree, num}
-use Rattle.power_reduce.proofs.Shared.{power, rational_power, rational_power_over, IsFactorHeld, HasFewBitsRaised, IsPowerMisfit, inverting, raising, NamesPower, RaisingOverflows, WholeOverflows}
-use Rattle.power_reduce.proofs.{Shared.{has_number_power, Overflow, factor_as_tree, held_number, nothing_held, OfOverflow, NumberFault}, RationalPowers.{plain_power}}
-use Rattle.number_forms.proofs.{InverseBits.{inverse_no_larger}, RationalBits.{power_no_larger, power_parts, rational_power_fits}, PowersWithin.{power_within}, WithinBits.{inverse_within}}
-use Rattle.surd_bits.proofs.Inverted.{one_no_larger}
+use Rattle.power_reduce.proofs.Shared.{◌≡◌, ◌≢◌, ℕ, zero, suc, ◌+◌, ◌*◌, ◌≤◌, ℤ, pos, negsuc, [], Bool, true, false, not, Result, Ok, Err, refl, ap, ◌∙◌, subst, arith, nat_abs, IfErr, is_number}
+use Rattle.power_reduce.proofs.Shared.{value, term, surd_of, IsHeld, IsPlainOverflow, PlainValue, calculated, exactly, overflow, powered, undefined, no_zero, whole_numerator, one_times, times_comm}
+use Rattle.power_reduce.proofs.Shared.{pow_op, fraction_fits, fraction_power, result_of, Fraction, inverse, one_fraction, times, whole_fraction, zero_fraction, is_zero_fraction, Tree, num, power}
+use Rattle.power_reduce.proofs.Shared.{rational_power, rational_power_over, IsFactorHeld, HasFewBitsRaised, IsPowerMisfit, inverting, raising, NamesPower, RaisingOverflows, WholeOverflows}
+use Rattle.power_reduce.proofs.Shared.{has_number_power, Overflow, factor_as_tree, held_number, nothing_held, OfOverflow, NumberFault, inverse_no_larger, power_no_larger, power_parts}
+use Rattle.power_reduce.proofs.{Shared.{rational_power_fits, power_within, inverse_within, one_no_larger}, RationalPowers.{plain_power}}
+use Rattle.surd_terms.proofs.Values.{times_whole_one as itself_by_one}
+use Rattle.std.specs.Prelude.{if◌then◌else◌}
 use Rattle.tree_handles.specs.declared.fault.NumberFault.TheVariants as fault
 
 pub number_is_held : (b : Tree) (h l : ℕ) → is_number b ≡ true → IsFactorHeld b h l → IsHeld (value b) h l
@@ -18,10 +18,6 @@ number_is_held b h l n a = held_number n (factor_as_tree b h l a)
 pub rational_raised : (q r : Fraction) (n h l : ℕ) → 1 ≤ n → r ≡ fraction_power q n → IsHeld (value (num q)) h l → IsHeld (value (num r)) (n * h) (n * l)
 rational_raised q r n h l o e k =
     (power_no_larger o (rational_power_over r (fraction_power q n) (num r) (value (num q)) n e refl (rational_power q n (num q) refl) (power_parts q n (num q) refl))).held h l k
-
-itself_by_one : (q : Fraction) → times q (whole_fraction (pos 1)) ≡ q
-unfolding one_fraction
-itself_by_one q = times_comm q (whole_fraction (pos 1)) ∙ one_times q
 
 -- the inverse
 pub rational_inverted : (q : Fraction) (h l : ℕ) → is_zero_fraction q ≡ false → IsHeld (value (num q)) h l → IsHeld (value (num (inverse q))) (h + 2 * l) (2 * h + 2 * l)

@@ -1,9 +1,8 @@
 -- Which tree stands for a power, where a rule names it.
-use Rattle.std.proofs.{lemmas.Bool.{or_right}, Common.{◌≡◌, ◌≢◌, ◌≤◌, ◌≤ℤ◌, ℤ, pos, Bool, true, false, ◌||◌, not, refl, sym, ap, ◌∙◌, arith}}
-use Rattle.std.specs.Prelude.{nat_le}
-use Rattle.power_reduce.proofs.Shared.{le-leb, whole_numerator, whole_denominator, one_times, times_comm, Fraction, whole_fraction, zero_fraction, one_fraction, fraction_power, int_is_negative, Tree}
-use Rattle.power_reduce.proofs.Shared.{num, power, number_test, is_number, classes, num_one, has_number_power, IsWrittenPower, is_zero_or_one}
-use Rattle.number_forms.proofs.RationalCalls.{num_same}
+use Rattle.power_reduce.proofs.Shared.{or_right, ◌≡◌, ◌≢◌, ◌≤◌, ◌≤ℤ◌, ℤ, pos, Bool, true, false, ◌||◌, not, refl, sym, ap, ◌∙◌, arith, nat_le, le-leb, whole_numerator, whole_denominator, one_times}
+use Rattle.power_reduce.proofs.Shared.{times_comm, Fraction, whole_fraction, zero_fraction, one_fraction, fraction_power, int_is_negative, Tree, num, power, number_test, is_number, classes, num_one}
+use Rattle.power_reduce.proofs.Shared.{has_number_power, IsWrittenPower, is_zero_or_one, num_same}
+use Rattle.calc_terms.proofs.SmallLaws.{contradiction as clash}
 
 -- ---- exponents
 
@@ -45,9 +44,6 @@ pub first_power : (q : Fraction) → fraction_power q 1 ≡ q
 first_power q = times_comm q one_fraction ∙ one_times q
 
 -- ---- which tree it is
-
-pub clash : {A : Type 0} {b : Bool} → b ≡ true → b ≡ false → A
-clash e f = absurd cc
 
 pub zero_written : (b : Tree) → IsWrittenPower b (num zero_fraction) num_one
 zero_written b = record { zero = λ e. refl; one = λ e. absurd (apart e); kept = λ h. clash zero_is_none h.other }

@@ -157,7 +157,7 @@ fn whole_power_of_other(pool: &mut Pool, power: Handle, n: i128) -> Result<Step,
 }
 
 /// A power whose exponent is no whole number: with half of one it is a power of a root, and any other is kept.
-#[tactic(auto, using(crate::proofs::Cases::broken_other, crate::proofs::Cases::again, tree_handles::proofs::Outcomes::passed_on))]
+#[tactic(auto, using(crate::proofs::Cases::broken_other, crate::proofs::Cases::again, calc_terms::proofs::SmallLaws::passed_on))]
 fn other_power(pool: &mut Pool, power: Handle) -> Result<Step, NumberFault>
     requires stands { Stands pool.old }
     requires handed { IsHanded power (forest pool.old) }

@@ -1,9 +1,8 @@
 -- A product beside its first Number, or 1, and what it leaves when the others are multiplied in.
-use Rattle.std.proofs.Common.{ℕ, ◌+◌, ◌≤◌, ◌≡◌, true, refl, sym, ap, ◌∙◌, subst, arith}
-use Rattle.product_reduce.proofs.Shared.{is_number, are_reduced, num_one, Trees, count, size, LeavesChildren, IsNextNumber, NoNumberBetween, IsMany, IsOut, all_bytes, handed_bytes, put_bytes, State}
-use Rattle.product_reduce.proofs.Shared.{free_of, plain, Forest, bytes_in, kids, tree_of, IsHanded, Gives, root_tree, without_root, put, Stands, forest, KeepsRefusals, gives_as, given_handed}
-use Rattle.product_reduce.proofs.Shared.{given_rest, given_told, ends_as, last_tree, other_apart, put-put, put-same, IsBegun, IsUnderway, IsProduct, IsTakenOut}
-use Rattle.product_reduce.proofs.{Beside.{beside_given, beside_product}, Products.{becomes_put, product_beside}, Progress.{started, started_at_one}}
+use Rattle.product_reduce.proofs.Shared.{ℕ, ◌+◌, ◌≤◌, ◌≡◌, true, refl, sym, ap, ◌∙◌, subst, arith, is_number, are_reduced, num_one, Trees, count, size, LeavesChildren, IsNextNumber, NoNumberBetween}
+use Rattle.product_reduce.proofs.Shared.{IsMany, IsOut, all_bytes, handed_bytes, put_bytes, State, free_of, plain, Forest, bytes_in, kids, tree_of, IsHanded, Gives, root_tree, without_root, put}
+use Rattle.product_reduce.proofs.Shared.{Stands, forest, KeepsRefusals, gives_as, given_handed, given_rest, given_told, ends_as, last_tree, other_apart, put-put, put-same, IsBegun, IsUnderway}
+use Rattle.product_reduce.proofs.{Shared.{IsProduct, IsTakenOut}, Beside.{beside_given, beside_product}, Products.{becomes_put, product_beside}, Progress.{started, started_at_one}}
 
 pub underway_first : {i n h : ℕ} {ts : Trees} {f new : Forest} → IsOut i n ts f new h → are_reduced ts ≡ true → IsNextNumber 0 n ts → IsUnderway i ts f new h
 underway_first {n = n} {ts = ts} o r w = record {

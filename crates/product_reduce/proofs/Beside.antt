@@ -1,10 +1,8 @@
 -- Roots beside others.
-use Rattle.std.proofs.Common.{arith, ℕ, ◌<◌, ◌≡◌, List, eqb, true, false, refl, sym, ap, ◌∙◌}
-use Rattle.product_reduce.proofs.Shared.{represents_nth, represents_without, removed, ne_eqb, Tree, Trees, count, State, nth, plain, Forest, arity, kids, tree_nth, without_nth, IsHanded, Represents}
-use Rattle.product_reduce.proofs.Shared.{Ends, Gives, KeepsFront, has_root, root_tree, without_root, put, Stands, forest, IsBehind, not_first, gives, given_handed, given_rest, given_told}
-use Rattle.product_reduce.proofs.Shared.{handed_beside, handed_at, eqb-sym, root-without, tree-without, without-swap, IsProduct, Becomes, IsBeside}
-use Rattle.product_reduce.proofs.Products.{product_arity, product_kids, becomes_put}
-use Rattle.tree_handles.proofs.{Distinct.{distinct}, Filling.{gone}}
+use Rattle.product_reduce.proofs.Shared.{arith, ℕ, ◌<◌, ◌≡◌, List, eqb, true, false, refl, sym, ap, ◌∙◌, represents_nth, represents_without, removed, ne_eqb, Tree, Trees, count, State, nth, plain}
+use Rattle.product_reduce.proofs.Shared.{Forest, arity, kids, tree_nth, without_nth, IsHanded, Represents, Ends, Gives, KeepsFront, has_root, root_tree, without_root, put, Stands, forest, IsBehind}
+use Rattle.product_reduce.proofs.Shared.{not_first, gives, given_handed, given_rest, given_told, handed_beside, handed_at, eqb-sym, root-without, tree-without, without-swap, IsProduct, Becomes}
+use Rattle.product_reduce.proofs.{Shared.{IsBeside, distinct, gone}, Products.{product_arity, product_kids, becomes_put}}
 
 pub beside_handed : {s : State} (i : ℕ) → Stands s → IsHanded i (forest s) → IsBeside i (plain (root_tree i (forest s))) (without_root i (forest s)) (forest s)
 beside_handed {s = s} i st h = record { handed = h; tree = refl; rest = refl; clear = gone i (forest s) (distinct s st) }

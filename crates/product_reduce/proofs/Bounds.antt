@@ -1,8 +1,7 @@
 -- Nest and Load of the factors of a product.
-use Rattle.std.proofs.Common.{ℕ, ◌+◌, ◌≤◌, ◌≡◌, true, refl, ap, ◌∙◌, arith}
-use Rattle.product_reduce.proofs.Shared.{factors_of, nest_of, load, load_of_factor, load_of_factors, is_number, IsNumber, product_tree, Tree, mult, Trees, none, more, Permuted, permuted_none}
-use Rattle.product_reduce.proofs.Shared.{permuted_more, permuted_swap, permuted_trans, number_words, number_test, opened, others_in, coefficient_before, nest-append, nest_number}
-use Rattle.coefficients.proofs.Bounds.{of_factors_nest, append_load, of_factors_load}
+use Rattle.product_reduce.proofs.Shared.{ℕ, ◌+◌, ◌≤◌, ◌≡◌, true, refl, ap, ◌∙◌, arith, factors_of, nest_of, load, load_of_factor, load_of_factors, is_number, IsNumber, product_tree, Tree, mult, Trees}
+use Rattle.product_reduce.proofs.Shared.{none, more, Permuted, permuted_none, permuted_more, permuted_swap, permuted_trans, number_words, number_test, opened, others_in, coefficient_before}
+use Rattle.product_reduce.proofs.Shared.{nest-append, nest_number, of_factors_nest, append_load, of_factors_load}
 
 -- ---- Nest
 

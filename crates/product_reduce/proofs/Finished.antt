@@ -1,20 +1,17 @@
 -- The trees that a step on a product gives.
-use Rattle.std.proofs.Common.{◌≡◌, Bool, true, false, ◌&&◌, ◌||◌, refl, if◌then◌else◌, sym, ap, ◌∙◌, subst, arith, ℕ, zero, suc, ◌<◌, not}
-use Rattle.std.specs.{Prelude.{ℤ, Option, MatchOption}, Option.{is_some}}
-use Rattle.product_reduce.proofs.Shared.{has_undef, are_rationals, Tree, num, undef, mult, power, Trees, none, more, append, names, names_of, is_undef, in_mult, root_kind, count, are_numbers}
-use Rattle.product_reduce.proofs.Shared.{is_number, are_reduced, is_reduced, has_form, all_parts, is_whole_num, is_opaque_exponent, factors_of, is_zero, and_parts, or_right, zero_fraction, lowest}
-use Rattle.product_reduce.proofs.Shared.{whole_fraction, gcd, load, load_of_factor, Same-eq, nth, children_of, whole_denominator, zero_is, Same-sym, KeepsMeanings, KeepsMeanings-refl}
-use Rattle.product_reduce.proofs.Shared.{KeepsMeanings-eq, KeepsMeanings-trans, KeepsMeanings-product_more, zero_product, number_zero, number_words, numbers_defined, Same-trans, keeps, reduces_after}
-use Rattle.product_reduce.proofs.Shared.{IsFinished, IsEnding, IsStop, at_zero, at_end, opened, others_in, IsCoefficient, coefficient_before, have_partners, Within, within_eq, within_none}
-use Rattle.product_reduce.proofs.Shared.{within_both, within_trans, number_names, no_new_name, nest_number, parts_reduced, parts_defined, number_parts, HasForm}
+use Rattle.product_reduce.proofs.Shared.{◌≡◌, Bool, true, false, ◌&&◌, ◌||◌, refl, if◌then◌else◌, sym, ap, ◌∙◌, subst, arith, ℕ, zero, suc, ◌<◌, not, Option, MatchOption, has_undef, are_rationals}
+use Rattle.product_reduce.proofs.Shared.{Tree, num, undef, mult, power, Trees, none, more, append, names, names_of, is_undef, in_mult, root_kind, count, are_numbers, is_number, are_reduced}
+use Rattle.product_reduce.proofs.Shared.{is_reduced, has_form, all_parts, is_whole_num, is_opaque_exponent, factors_of, is_zero, and_parts, or_right, zero_fraction, lowest, whole_fraction, gcd, load}
+use Rattle.product_reduce.proofs.Shared.{load_of_factor, Same-eq, nth, children_of, whole_denominator, zero_is, Same-sym, KeepsMeanings, KeepsMeanings-refl, KeepsMeanings-eq, KeepsMeanings-trans}
+use Rattle.product_reduce.proofs.Shared.{KeepsMeanings-product_more, zero_product, number_zero, number_words, numbers_defined, Same-trans, keeps, reduces_after, IsFinished, IsEnding, IsStop, at_zero}
+use Rattle.product_reduce.proofs.Shared.{at_end, opened, others_in, IsCoefficient, coefficient_before, have_partners, Within, within_eq, within_none, within_both, within_trans, number_names}
+use Rattle.product_reduce.proofs.Shared.{no_new_name, nest_number, parts_reduced, parts_defined, number_parts, HasForm, undef_part, undef_inside, reduced_formed, formed_reduced, zero_value}
 use Rattle.product_reduce.proofs.{Opened.{opened_keeps, collected, coefficient_in_front}, NoNewNames.{names_opened, names_others, names_with_coefficient}, Bounds.{nest_opened, nest_others}}
 use Rattle.product_reduce.proofs.{Bounds.{load_opened, load_others, load_product}, Forms.{opened_parts}}
-use Rattle.calc_algebra.proofs.UndefRewrites.{undef_part}
-use Rattle.tree_handles.proofs.UndefChildren.{undef_inside}
-use Rattle.like_children.proofs.Parts.{reduced_formed, formed_reduced}
-use Rattle.calc_terms.specs.declared.kind.Kind.TheVariants as kind
-use Rattle.number_forms.proofs.Kept.{zero_value}
+use Rattle.calc_measures.proofs.SmallLaws.{number_load as load_of_number}
+use Rattle.std.specs.{Prelude.{ℤ}, Option.{is_some}}
 pub use Rattle.like_children.proofs.Folds.{rational_others as rationals_alone}
+use Rattle.calc_terms.specs.declared.kind.Kind.TheVariants as kind
 
 -- ---- reduced factors
 
@@ -57,9 +54,6 @@ zero_words c h = grind (arith, zero_is)
 zero_again : (b c : Tree) (ts : Trees) → IsCoefficient b ts → IsCoefficient c ts → is_zero c ≡ true → is_zero b ≡ true
 unfolding zero_fraction lowest gcd
 zero_again b c ts k h z = ap is_zero (number_zero b (number_words b k.number) (Same-trans k.same (Same-trans (Same-sym h.same) (Same-eq (zero_value c z)))))
-
-pub load_of_number : (t : Tree) → is_number t ≡ true → load t ≡ 0
-load_of_number t h = ap (λ (k : Bool). if k || is_undef t then 0 else load_of_factor t) h
 
 pub zero_finished : (c : Tree) (ts : Trees) → has_undef ts ≡ false → IsCoefficient c (opened ts) → is_zero c ≡ true → IsFinished ts c
 zero_finished c ts d h z =

@@ -1,10 +1,7 @@
 -- A coefficient before factors that are no Numbers, sorted by their bases, is a product in its form.
-use Rattle.std.proofs.Common.{arith, ◌≡◌, Bool, true}
-use Rattle.product_reduce.proofs.Shared.{factors_of, is_number, num_one, split, split_product, NoneIs, HasForm, Tree, Trees, none, more, append, is_mult, opened, others_in, AllPartsOf}
-use Rattle.product_reduce.proofs.Shared.{AllPartsOf-append, numbers_in}
+use Rattle.product_reduce.proofs.Shared.{arith, ◌≡◌, Bool, true, factors_of, is_number, num_one, split, split_product, NoneIs, HasForm, Tree, Trees, none, more, append, is_mult, opened, others_in}
+use Rattle.product_reduce.proofs.Shared.{AllPartsOf, AllPartsOf-append, numbers_in, NoneIs-append, own_form, factors_parts}
 pub use Rattle.like_children.proofs.NumbersIn.{none_number as others_no_numbers}
-use Rattle.coefficients.proofs.{Forms.{own_form}, Splits.{NoneIs-append}}
-use Rattle.like_children.proofs.Parts.{factors_parts}
 
 -- ---- the split
 

@@ -1,12 +1,9 @@
 -- Free bytes and those of a product, from one pool to the next.
-use Rattle.std.proofs.Common.{◌≡◌, ℕ, ◌+◌, ◌*◌, ◌<◌, ◌≤◌, Result, ap, arith}
-use Rattle.std.specs.Prelude.{IfErr}
-use Rattle.product_reduce.proofs.Shared.{base_of, sizes_taken, all_bytes, handed_bytes, Tree, mult, Trees, none, more, count, size, sizes, factors_of, put_room, mul-le, opened, State, free_of}
-use Rattle.product_reduce.proofs.Shared.{removed, nth, Forest, bytes_in, kids, tree_nth, without_nth, tree_of, IsHanded, Ends, root_tree, without_root, put, Stands, forest, KeepsRefusals, exponent_of}
-use Rattle.product_reduce.proofs.{Shared.{IsProduct, Becomes, IsBeside, IsTakenOut, IsSplit}, Beside.{taken_factor, without_factor}}
-use Rattle.calc_room.specs.Needs.{product_need}
-use Rattle.coefficients.proofs.Rooms.{sizes_append}
-use Rattle.tree_room.specs.Needs.{product_step_room}
+use Rattle.product_reduce.proofs.Shared.{◌≡◌, ℕ, ◌+◌, ◌*◌, ◌<◌, ◌≤◌, ap, arith, IfErr, base_of, sizes_taken, all_bytes, handed_bytes, Tree, mult, Trees, none, more, count, size, sizes, factors_of}
+use Rattle.product_reduce.proofs.Shared.{put_room, mul-le, opened, State, free_of, removed, nth, Forest, bytes_in, kids, tree_nth, without_nth, tree_of, IsHanded, Ends, root_tree, without_root, put}
+use Rattle.product_reduce.proofs.Shared.{Stands, forest, KeepsRefusals, exponent_of, IsProduct, Becomes, IsBeside, IsTakenOut, IsSplit, product_need, sizes_append, product_step_room}
+use Rattle.product_reduce.proofs.Beside.{taken_factor, without_factor}
+use Rattle.std.proofs.Common.{Result}
 
 pub product_bytes : {i : ℕ} {f : Forest} {ts : Trees} → IsProduct i f ts → bytes_in f ≡ bytes_in (without_root i f) + size (mult ts)
 product_bytes {i = i} {f = f} p = omega (arith, handed_bytes i f p.handed, ap size p.tree)

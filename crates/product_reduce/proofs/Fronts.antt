@@ -1,8 +1,7 @@
 -- A coefficient comes before the factors of a product.
-use Rattle.std.proofs.Common.{ℕ, ◌≡◌, Bool, true, false, if◌then◌else◌, refl, sym, ap, ◌∙◌, arith}
-use Rattle.product_reduce.proofs.Shared.{factors_of, is_num_one, Tree, Trees, more, append, is_mult, Forest, kids, merged_nth, with_nth, root_tree, without_root, put, represents_handed}
-use Rattle.product_reduce.proofs.{Shared.{represents_with, represents_as, coefficient_before, IsProduct, Becomes, IsBeside}, Beside.{beside_product}, Products.{becomes_put, becomes_as, becomes_after}}
-use Rattle.product_reduce.proofs.Products.{becomes_merged, product_kids}
+use Rattle.product_reduce.proofs.Shared.{ℕ, ◌≡◌, Bool, true, false, if◌then◌else◌, refl, sym, ap, ◌∙◌, arith, factors_of, is_num_one, Tree, Trees, more, append, is_mult, Forest, kids, merged_nth}
+use Rattle.product_reduce.proofs.Shared.{with_nth, root_tree, without_root, put, represents_handed, represents_with, represents_as, coefficient_before, IsProduct, Becomes, IsBeside}
+use Rattle.product_reduce.proofs.{Beside.{beside_product}, Products.{becomes_put, becomes_as, becomes_after, becomes_merged, product_kids}}
 pub use Rattle.coefficients.proofs.{Factors.{single_factors as single_factor}, FirstFactors.{product_children as product_factors}}
 
 -- 1 is left out

@@ -1,13 +1,11 @@
 -- From a coefficient beside ordered factors to the gathered product.
-use Rattle.std.proofs.{Common.{◌≡◌, true, false, refl, sym, ap, ◌∙◌, subst, arith}, lemmas.Bool.{or_parts}}
-use Rattle.product_reduce.proofs.Shared.{and_parts, and_from, IsPermutation-trans, base_of, is_reduced, are_reduced, NoneIs, KeepsMeanings-refl, KeepsMeanings-product_more, Permuted, permuted_none}
-use Rattle.product_reduce.proofs.Shared.{permuted_more, permuted_swap, permuted_trans, Permuted-sym, permuted_product, within_same, within_beside, names_permuted, no_new_name, keeps, reduces_after}
-use Rattle.product_reduce.proofs.Shared.{nest_of, load_of_factors, nest_permuted, Tree, mult, Trees, none, more, is_undef, has_undef, names, names_of, IsSorting, list_of, Overflow, children_of}
-use Rattle.product_reduce.proofs.{Shared.{AreOthers, IsEnding, opened, others_in, IsCoefficient, coefficient_before, IsGathered, IsOrdered, have_partners, SpreadingOverflows}, Bounds.{nest_with}}
-use Rattle.product_reduce.proofs.{Bounds.{nest_others, nest_opened, load_with, load_others, load_opened, load_permuted}, Finished.{product_keeps, product_within}}
-use Rattle.product_reduce.proofs.{JointPlaces.{in_front, before_is, front_reduced, reduced-append}, LastSteps.{permuted_none_is}, Misfits.{permuted_one_is}, Stepped.{others_are}}
-use Rattle.calc_algebra.specs.Rewritings.{Rewrites}
-use Rattle.like_children.proofs.Permutations.{none_permuted, of_lists}
+use Rattle.product_reduce.proofs.Shared.{◌≡◌, true, false, refl, sym, ap, ◌∙◌, subst, arith, or_parts, and_parts, and_from, IsPermutation-trans, base_of, is_reduced, are_reduced, NoneIs}
+use Rattle.product_reduce.proofs.Shared.{KeepsMeanings-refl, KeepsMeanings-product_more, Permuted, permuted_none, permuted_more, permuted_swap, permuted_trans, Permuted-sym, permuted_product}
+use Rattle.product_reduce.proofs.Shared.{within_same, within_beside, names_permuted, no_new_name, keeps, reduces_after, nest_of, load_of_factors, nest_permuted, Tree, mult, Trees, none, more}
+use Rattle.product_reduce.proofs.Shared.{is_undef, has_undef, names, names_of, IsSorting, list_of, Overflow, children_of, AreOthers, IsEnding, opened, others_in, IsCoefficient, coefficient_before}
+use Rattle.product_reduce.proofs.{Shared.{IsGathered, IsOrdered, have_partners, SpreadingOverflows, Rewrites, none_permuted, of_lists}, Bounds.{nest_with, nest_others, nest_opened, load_with}}
+use Rattle.product_reduce.proofs.{Bounds.{load_others, load_opened, load_permuted}, Finished.{product_keeps, product_within}, JointPlaces.{in_front, before_is, front_reduced, reduced-append}}
+use Rattle.product_reduce.proofs.{LastSteps.{permuted_none_is}, Misfits.{permuted_one_is}, Stepped.{others_are}}
 
 -- ---- factors that changed places
 

@@ -1,10 +1,9 @@
 -- The factors of a product are gathered to what counts no more.
-use Rattle.std.proofs.Common.{◌≡◌, ℕ, ◌≤◌, max, true, false, refl, sym, ap, subst, arith}
-use Rattle.product_reduce.proofs.Shared.{Tree, mult, Trees, none, more, append, has_undef, IsNumber, is_number, is_whole_num, base_of, NoneIs, are_reduced, Permuted, permuted_none, permuted_more}
-use Rattle.product_reduce.proofs.Shared.{number_words, counted, counted_among, factors_of, IsMonic, factors_monic, IsSorting, is_zero, children_of, numbers_among, product_count, appended}
-use Rattle.product_reduce.proofs.Shared.{flat_product, number_counts_one, AreOthers, IsWritten, IsWrittenProduct, opened, others_in, coefficient_before, coefficient_times, IsGathered}
-use Rattle.product_reduce.proofs.{Forms.{others_no_numbers}, Gathered.{others_permuted}, LastSteps.{sorted_factors}, Stepped.{others_are}}
-use Rattle.like_children.proofs.{Counted.{number_factors, permuted_counted, put_counted}, Permutations.{none_permuted, of_lists}}
+use Rattle.product_reduce.proofs.Shared.{◌≡◌, ℕ, ◌≤◌, max, true, false, refl, sym, ap, subst, arith, Tree, mult, Trees, none, more, append, has_undef, IsNumber, is_number, is_whole_num, base_of}
+use Rattle.product_reduce.proofs.Shared.{NoneIs, are_reduced, Permuted, permuted_none, permuted_more, number_words, counted, counted_among, factors_of, IsMonic, factors_monic, IsSorting, is_zero}
+use Rattle.product_reduce.proofs.Shared.{children_of, numbers_among, product_count, appended, flat_product, number_counts_one, AreOthers, IsWritten, IsWrittenProduct, opened, others_in}
+use Rattle.product_reduce.proofs.{Shared.{coefficient_before, coefficient_times, IsGathered, number_factors, permuted_counted, put_counted, none_permuted, of_lists}, Forms.{others_no_numbers}}
+use Rattle.product_reduce.proofs.{Gathered.{others_permuted}, LastSteps.{sorted_factors}, Stepped.{others_are}}
 use Rattle.coefficients.proofs.Rooms.{no_numbers}
 
 -- ---- factors that are opened, parted, and change places

@@ -1,10 +1,9 @@
 -- What holds of each part of the factors of a product holds of each part of what they are gathered to.
-use Rattle.std.proofs.Common.{arith, ◌≡◌, ℕ, List, Bool, true, false, if◌then◌else◌, refl, sym, subst}
-use Rattle.product_reduce.proofs.Shared.{Fraction, Tree, num, add, mult, Trees, none, more, AllParts, AllPartsOf, is_number, value, number_words, IsPowerOf, HasPowersOf, Spans, SpansRoot, SpansTree}
-use Rattle.product_reduce.proofs.Shared.{SpansTrees, AllPartsOf-append, is_zero, IsWritten, IsWrittenProduct, opened, numbers_in, others_in, product_of_values, IsCoefficient, coefficient_before}
-use Rattle.product_reduce.proofs.{Shared.{coefficient_times, IsGathered}, Forms.{opened_parts, numbers_parts, others_parts}}
-use Rattle.calc_room.proofs.{NumberSpans.{spans_times, spans_same, tree_spanned, value_spanned}, SpanLaws.{one_spanned}}
-use Rattle.like_children.proofs.{OwnPowers.{number_powers, own_powers_of}, Parts.{permuted_parts, product_tree_parts, with_parts}, Permutations.{of_lists}}
+use Rattle.product_reduce.proofs.Shared.{arith, ◌≡◌, ℕ, List, Bool, true, false, if◌then◌else◌, refl, sym, subst, Fraction, Tree, num, add, mult, Trees, none, more, AllParts, AllPartsOf, is_number}
+use Rattle.product_reduce.proofs.Shared.{value, number_words, IsPowerOf, HasPowersOf, Spans, SpansRoot, SpansTree, SpansTrees, AllPartsOf-append, is_zero, IsWritten, IsWrittenProduct, opened}
+use Rattle.product_reduce.proofs.Shared.{numbers_in, others_in, product_of_values, IsCoefficient, coefficient_before, coefficient_times, IsGathered, spans_times, spans_same, tree_spanned}
+use Rattle.product_reduce.proofs.Shared.{value_spanned, one_spanned, number_powers, own_powers_of, permuted_parts, product_tree_parts, with_parts, of_lists}
+use Rattle.product_reduce.proofs.Forms.{opened_parts, numbers_parts, others_parts}
 
 -- ---- gathered
 

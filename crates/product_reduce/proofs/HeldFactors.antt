@@ -1,14 +1,12 @@
 -- What holds factors one by one holds them opened, their Numbers apart from the others, and these in any order.
-use Rattle.std.proofs.Common.{◌≡◌, ◌≢◌, ℕ, ◌+◌, ◌-◌, ◌≤◌, ◌⊎◌, List, inl, inr, [], ◌∷◌, Bool, true, false, if◌then◌else◌, refl, sym, ap, ◌∙◌, subst, arith}
-use Rattle.product_reduce.proofs.Shared.{Fraction, zero_fraction, one_fraction, zero_test, Tree, num, add, mult, root, Trees, none, more, append, is_mult, is_number, value, IsNumber, NoneIs, HasForm}
-use Rattle.product_reduce.proofs.Shared.{IsProductForm, Split, split, split_product, num_one, is_num_one, Term, Surd, term, surd_of, surd_one, Permuted, permuted_none, permuted_more, permuted_swap}
-use Rattle.product_reduce.proofs.Shared.{permuted_trans, one_not_zero, number_words, number_test, has_coefficient, no_split, Leads, in_front, IsHeld, IsSumHeld, as_factor, counts_of, Addend, addend}
-use Rattle.product_reduce.proofs.Shared.{addend_of, exponent_in, power_high, power_low, AreWeighted, none_weighted, more_weighted, IsPartHeld, no_factor_held, Weighted, weighted, AreHeld, wider}
-use Rattle.product_reduce.proofs.Shared.{parts_multiply, one_weighted, split_off, IsFactorHeld, AreFactorsHeld, none_held, factor_held, term_held, factors_of, opened, numbers_in, others_in}
-use Rattle.product_reduce.proofs.{Shared.{coefficient_before, AllParts, AllPartsOf}, HeldNumbers.{value_held, number_as_factor}}
-use Rattle.coefficients.proofs.TermMultiples.{behind_none}
+use Rattle.product_reduce.proofs.Shared.{◌≡◌, ◌≢◌, ℕ, ◌+◌, ◌-◌, ◌≤◌, ◌⊎◌, List, inl, inr, [], ◌∷◌, Bool, true, false, if◌then◌else◌, refl, sym, ap, ◌∙◌, subst, arith, Fraction, zero_fraction}
+use Rattle.product_reduce.proofs.Shared.{one_fraction, zero_test, Tree, num, add, mult, root, Trees, none, more, append, is_mult, is_number, value, IsNumber, NoneIs, HasForm, IsProductForm, Split}
+use Rattle.product_reduce.proofs.Shared.{split, split_product, num_one, is_num_one, Term, Surd, term, surd_of, surd_one, Permuted, permuted_none, permuted_more, permuted_swap, permuted_trans}
+use Rattle.product_reduce.proofs.Shared.{one_not_zero, number_words, number_test, has_coefficient, no_split, Leads, in_front, IsHeld, IsSumHeld, as_factor, counts_of, Addend, addend, addend_of}
+use Rattle.product_reduce.proofs.Shared.{exponent_in, power_high, power_low, AreWeighted, none_weighted, more_weighted, IsPartHeld, no_factor_held, Weighted, weighted, AreHeld, wider, parts_multiply}
+use Rattle.product_reduce.proofs.Shared.{one_weighted, split_off, IsFactorHeld, AreFactorsHeld, none_held, factor_held, term_held, factors_of, opened, numbers_in, others_in, coefficient_before}
+use Rattle.product_reduce.proofs.{Shared.{AllParts, AllPartsOf, behind_none, swapped}, HeldNumbers.{value_held, number_as_factor}}
 use Rattle.tree_bits.specs.HeldTrees as held
-use Rattle.tree_bits.proofs.Joined.{swapped}
 
 -- ---- more bits, and lists behind one another
 

@@ -1,15 +1,12 @@
 -- What holds Numbers one by one holds their product, also while they are multiplied from left to right.
-use Rattle.std.proofs.Common.{◌≡◌, ℕ, zero, suc, ◌+◌, ◌*◌, ◌^◌, ◌<◌, ◌≤◌, [], ◌∷◌, Bool, true, false, ◌&&◌, if◌then◌else◌, max, pos, refl, sym, ap, ◌∙◌, subst, arith}
-use Rattle.product_reduce.proofs.Shared.{mul-le, false_from_ne_true, Fraction, one_fraction, is_zero_fraction, Tree, num, root, Trees, none, more, append, is_number, are_numbers, natural_of, value}
+use Rattle.product_reduce.proofs.Shared.{◌≡◌, ℕ, zero, suc, ◌+◌, ◌*◌, ◌^◌, ◌<◌, ◌≤◌, [], ◌∷◌, Bool, true, false, ◌&&◌, if◌then◌else◌, max, pos, refl, sym, ap, ◌∙◌, subst, arith, mul-le}
+use Rattle.product_reduce.proofs.Shared.{false_from_ne_true, Fraction, one_fraction, is_zero_fraction, Tree, num, root, Trees, none, more, append, is_number, are_numbers, natural_of, value}
 use Rattle.product_reduce.proofs.Shared.{IsBelowAll, Rises, are_alike, Same, Term, Surd, term, surd_of, surd_one, surd_times, term_times, AreProper, value_proper, value_rises, number_words, Alike}
 use Rattle.product_reduce.proofs.Shared.{alike_from, alike_true, Same-trans, square_root, surd_times_assoc, surd_times-surd_one, Same-refl, Same-eq, Same-surd_times, root_above, mass_from, IsHeld}
 use Rattle.product_reduce.proofs.Shared.{IsSumHeld, Addend, addend, addend_of, none_weighted, more_weighted, no_factor_held, weighted, AreHeld, factor_as_tree, held_number, held_wider, nothing_held}
-use Rattle.product_reduce.proofs.Shared.{put_before, both_true, IsFactorHeld, AreFactorsHeld, none_held, factor_held, term_held, product_of_values}
-use Rattle.calc_algebra.proofs.SquareRootLaws.{square_from_scaled}
-use Rattle.calc_bits.specs.Denominators.{Parts, magnitude_over}
-use Rattle.calc_bits.proofs.{ClassMasses.{mass_same}, Held.{held_power, held_times}, MassLaws.{parts_scale, parts_times}, Quotients.{den_divides}, RootsAbove.{root_enough, root_least}}
-use Rattle.coefficients.proofs.NumberMultiples.{times_one}
-use Rattle.like_children.proofs.Addends.{num_value}
+use Rattle.product_reduce.proofs.Shared.{put_before, both_true, IsFactorHeld, AreFactorsHeld, none_held, factor_held, term_held, product_of_values, square_from_scaled, Parts, magnitude_over}
+use Rattle.product_reduce.proofs.Shared.{mass_same, held_power, held_times, parts_scale, parts_times, den_divides, root_enough, root_least, times_one}
+use Rattle.number_forms.proofs.RationalCalls.{rational_value as num_value}
 
 -- ---- one Number
 

@@ -1,9 +1,8 @@
 -- What holds factors one by one, where two neighbours of one base are taken out and another factor is put in their place.
-use Rattle.std.proofs.{Common.{List, [], ◌∷◌, ℕ, zero, suc, ◌+◌, ◌≤◌, ◌<◌, ◌≡◌, true, false, ◌&&◌, refl, sym, ◌∙◌, arith}, lemmas.Bool.{true≢false}}
-use Rattle.product_reduce.proofs.Shared.{and_parts, is_number, natural_of, is_reduced, are_reduced, term, IsHeld, Fraction, Tree, num, root, mult, Trees, none, more, count, is_mult, removed}
-use Rattle.product_reduce.proofs.Shared.{AreTreesHeld, ArePositive, high_sum, low_sum, IsPartHeld, factor_is_held, parts_multiply, nth, inserted, IsFactorHeld, AreFactorsHeld, none_held, factor_held}
-use Rattle.product_reduce.proofs.{Shared.{term_held, is_single, is_pair, IsPairAt, reduced_parts}, HeldFactors.{single_part, factors_held, root_number}}
-use Rattle.calc_measures.specs.Measures.{HighLow}
+use Rattle.product_reduce.proofs.Shared.{List, [], ◌∷◌, ℕ, zero, suc, ◌+◌, ◌≤◌, ◌<◌, ◌≡◌, true, false, ◌&&◌, refl, sym, ◌∙◌, arith, true≢false, and_parts, is_number, natural_of, is_reduced}
+use Rattle.product_reduce.proofs.Shared.{are_reduced, term, IsHeld, Fraction, Tree, num, root, mult, Trees, none, more, count, is_mult, removed, AreTreesHeld, ArePositive, high_sum, low_sum}
+use Rattle.product_reduce.proofs.Shared.{IsPartHeld, factor_is_held, parts_multiply, nth, inserted, IsFactorHeld, AreFactorsHeld, none_held, factor_held, term_held, is_single, is_pair, IsPairAt}
+use Rattle.product_reduce.proofs.{Shared.{reduced_parts, HighLow}, HeldFactors.{single_part, factors_held, root_number}}
 
 -- ---- trees
 

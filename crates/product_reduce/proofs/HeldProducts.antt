@@ -1,15 +1,14 @@
 -- What holds the factors of a product one by one holds what they are gathered to.
-use Rattle.std.proofs.{Common.{◌≡◌, ◌≤◌, ◌+◌, ℕ, List, [], ◌∷◌, Bool, true, false, not, if◌then◌else◌, refl, sym, ap, ◌∙◌, subst, arith}, lemmas.Bool.{true≢false}}
-use Rattle.product_reduce.proofs.Shared.{Fraction, zero_fraction, is_zero_fraction, is_one_fraction, no_zero, Tree, num, add, mult, Trees, none, more, append, count, is_mult, has_undef, is_number}
-use Rattle.product_reduce.proofs.Shared.{value, NoneIs, Split, split, split_product, product_tree, num_one, are_reduced, Surd, surd_of, IsHeld, factors_of, rational_before, with_coefficient, IsMonic}
-use Rattle.product_reduce.proofs.Shared.{mapped, rational_times_term, monic_sum, monic_parts, IsFactor, not_one_is, factors_no_number, is_zero, IsSumHeld, as_factor, distributed, Addend, addend}
-use Rattle.product_reduce.proofs.Shared.{addend_of, addends, none_weighted, more_weighted, IsPartHeld, weighted, AreHeld, distributed_held, factor_as_tree, factor_is_held, wider, held_wider}
-use Rattle.product_reduce.proofs.Shared.{one_counts, one_weighted, wider_held, put_before, children_of, AreOthers, IsWritten, IsWrittenProduct, IsFactorHeld, AreFactorsHeld, opened, others_in}
-use Rattle.product_reduce.proofs.{Shared.{coefficient_times, IsGathered, number_parts, number_words, HasForm}, Forms.{opened_flat, split_of_number, split_of_others, opened_parts}}
-use Rattle.product_reduce.proofs.{Gathered.{others_permuted}, GatheredCounts.{single_monic}, HeldFactors.{AreHeldApart, before_held, held_apart, opened_held, part_permuted, part_single}}
-use Rattle.product_reduce.proofs.{HeldNumbers.{number_as_factor}, Leads.{factors_again}, Stepped.{others_are}}
-use Rattle.like_children.proofs.{Addends.{one_value, multiple_addends, rational_value, split_sum}, Parts.{reduced_formed}, Permutations.{of_lists}}
-use Rattle.tree_bits.proofs.Children.{tree_as_sum, sum_as_tree}
+use Rattle.product_reduce.proofs.Shared.{◌≡◌, ◌≤◌, ◌+◌, ℕ, List, [], ◌∷◌, Bool, true, false, not, if◌then◌else◌, refl, sym, ap, ◌∙◌, subst, arith, true≢false, Fraction, zero_fraction}
+use Rattle.product_reduce.proofs.Shared.{is_zero_fraction, is_one_fraction, no_zero, Tree, num, add, mult, Trees, none, more, append, count, is_mult, has_undef, is_number, value, NoneIs, Split, split}
+use Rattle.product_reduce.proofs.Shared.{split_product, product_tree, num_one, are_reduced, Surd, surd_of, IsHeld, factors_of, rational_before, with_coefficient, IsMonic, mapped, rational_times_term}
+use Rattle.product_reduce.proofs.Shared.{monic_sum, monic_parts, IsFactor, not_one_is, factors_no_number, is_zero, IsSumHeld, as_factor, distributed, Addend, addend, addend_of, addends, none_weighted}
+use Rattle.product_reduce.proofs.Shared.{more_weighted, IsPartHeld, weighted, AreHeld, distributed_held, factor_as_tree, factor_is_held, wider, held_wider, one_counts, one_weighted, wider_held}
+use Rattle.product_reduce.proofs.Shared.{put_before, children_of, AreOthers, IsWritten, IsWrittenProduct, IsFactorHeld, AreFactorsHeld, opened, others_in, coefficient_times, IsGathered, number_parts}
+use Rattle.product_reduce.proofs.Shared.{number_words, HasForm, one_value, multiple_addends, split_sum, reduced_formed, of_lists, tree_as_sum, sum_as_tree}
+use Rattle.product_reduce.proofs.{Forms.{opened_flat, split_of_number, split_of_others, opened_parts}, Gathered.{others_permuted}, GatheredCounts.{single_monic}, HeldFactors.{AreHeldApart}}
+use Rattle.product_reduce.proofs.{HeldFactors.{before_held, held_apart, opened_held, part_permuted, part_single}, HeldNumbers.{number_as_factor}, Leads.{factors_again}, Stepped.{others_are}}
+use Rattle.surd_bits.proofs.Rooted.{as_rational as rational_value}
 
 -- ---- a product as one factor
 

@@ -1,9 +1,7 @@
 -- Two factors of one base, joined: meanings are kept.
-use Rattle.std.proofs.Common.{arith, ◌≡◌, Bool, true, false, refl, if◌then◌else◌}
-use Rattle.product_reduce.proofs.Shared.{Ordering, Equal, is_eq, base_of, tree_cmp, Tree, mult, Trees, none, more, KeepsMeanings, KeepsMeanings-refl, KeepsMeanings-trans, KeepsMeanings-product_more}
-use Rattle.product_reduce.proofs.Shared.{Permuted, permuted_more, permuted_swap, permuted_trans, Permuted-refl, permuted_product, joined_in_product, tree_cmp_equal, is_partner, has_partner}
-use Rattle.product_reduce.proofs.Shared.{first_partner, without_partner, joint, joined}
-use Rattle.calc_algebra.proofs.PowerRewrites.{same_bases}
+use Rattle.product_reduce.proofs.Shared.{arith, ◌≡◌, Bool, true, false, refl, if◌then◌else◌, Ordering, Equal, is_eq, base_of, tree_cmp, Tree, mult, Trees, none, more, KeepsMeanings}
+use Rattle.product_reduce.proofs.Shared.{KeepsMeanings-refl, KeepsMeanings-trans, KeepsMeanings-product_more, Permuted, permuted_more, permuted_swap, permuted_trans, Permuted-refl, permuted_product}
+use Rattle.product_reduce.proofs.Shared.{joined_in_product, tree_cmp_equal, is_partner, has_partner, first_partner, without_partner, joint, joined, same_bases}
 
 equal_words : (o : Ordering) → is_eq o ≡ true → o ≡ Equal
 equal_words o h = grind arith

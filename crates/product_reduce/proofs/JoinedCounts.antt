@@ -1,9 +1,9 @@
 -- A product in which a pair was joined counts one more at most.
-use Rattle.std.proofs.Common.{◌≡◌, ℕ, ◌+◌, ◌≤◌, Bool, true, false, if◌then◌else◌, refl, ap, arith}
-use Rattle.product_reduce.proofs.Shared.{Tree, power, Trees, none, more, is_number, base_of, NoneIs, num_one, counted, counted_among, counts_one, is_mult, children_of, opened, others_in, IsJoined}
-use Rattle.product_reduce.proofs.{Shared.{exponent_of, has_partner, first_partner, without_partner, joint, joined}, Forms.{others_no_numbers}, GatheredCounts.{before_counted, opened_counted}}
-use Rattle.product_reduce.proofs.{GatheredCounts.{others_counted, whole_number}, Joined.{one_base, partner_is, partner_first}, Stepped.{mult_words}}
-use Rattle.like_children.proofs.{Counted.{counted_at_most, counted_in, permuted_counted}, Permutations.{none_permuted}}
+use Rattle.product_reduce.proofs.Shared.{◌≡◌, ℕ, ◌+◌, ◌≤◌, Bool, true, false, if◌then◌else◌, refl, ap, arith, Tree, power, Trees, none, more, is_number, base_of, NoneIs, num_one, counted}
+use Rattle.product_reduce.proofs.Shared.{counted_among, counts_one, is_mult, children_of, opened, others_in, IsJoined, exponent_of, has_partner, first_partner, without_partner, joint, joined}
+use Rattle.product_reduce.proofs.{Shared.{counted_at_most, counted_in, permuted_counted, none_permuted}, Forms.{others_no_numbers}, GatheredCounts.{before_counted, opened_counted, others_counted}}
+use Rattle.product_reduce.proofs.{GatheredCounts.{whole_number}, Joined.{one_base, partner_is, partner_first}}
+use Rattle.tree_handles.proofs.SmallLaws.{mult_is as mult_words}
 
 one_is_free : counted_in num_one ≡ 0
 unfolding is_number

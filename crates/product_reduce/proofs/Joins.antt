@@ -1,11 +1,7 @@
 -- The first factor of a pair becomes a power in its place, once the exponent of the second is out.
-use Rattle.std.proofs.Common.{ℕ, ◌<◌, ◌≤◌, ◌≡◌, eqb, false, refl, ap, ◌∙◌}
-use Rattle.product_reduce.proofs.Shared.{removed, Tree, Trees, mult, none, more, count, nth, plain, children_of, inserted, Forest, kids, with_nth, Gives, root_tree, without_root, put, eqb-sym}
-use Rattle.product_reduce.proofs.Shared.{given_handed, given_rest, given_same, given_told, represents_handed, represents_with, represents_as, Becomes, IsTakenOut}
-use Rattle.product_reduce.proofs.{Beside.{beside_apart, beside_product, beside_given}, Products.{becomes_put, becomes_after, product_kids}}
-use Rattle.coefficients.proofs.Loops.{set_removed}
-use Rattle.tree_handles.proofs.Filling.{IsAsBefore, as_before, changes_front, changes_rest}
-use Rattle.tree_handles.specs.Holes.{ChangesTree, IsHole, Place, set_child}
+use Rattle.product_reduce.proofs.Shared.{ℕ, ◌<◌, ◌≡◌, eqb, false, ap, ◌∙◌, removed, Tree, Trees, mult, none, more, count, nth, plain, children_of, inserted, Forest, Gives, root_tree, without_root}
+use Rattle.product_reduce.proofs.Shared.{eqb-sym, given_told, Becomes, IsTakenOut, set_removed, IsAsBefore, as_before, changes_front, changes_rest, ChangesTree, IsHole, Place, set_child}
+use Rattle.product_reduce.proofs.{Beside.{beside_apart, beside_product}, Products.{becomes_after}}
 
 -- ---- the first of a pair is rewritten, once the exponent of the second is out
 
@@ -33,11 +29,3 @@ pair_out {i = i} {n = n} {e = e} y o k =
     record { clear = clear; beside = b; factor = given_told k ∙ ap (λ (t : Tree). nth n (children_of t)) product.tree; exponent = b.same ∙ y.beside.tree }
 
 -- ---- the power comes back
-
-pub put_back : (i at h : ℕ) (us : Trees) (f l g new : Forest) (u : Tree) → Becomes i f l us → Gives l g h (λ t. t ≡ u) → at ≤ count us
-    → new ≡ put i (with_nth at (root_tree h g) (kids (root_tree i g))) (without_root h g) → Becomes i f new (inserted at (more u none) us)
-put_back i at h us f l g new u b k w e =
-    let product = beside_product (beside_given k) b.product in
-    let same = given_same i k b.product.handed.root in
-    let r = represents_as (represents_with at (represents_handed (given_handed k)) (product_kids product)) refl (ap (λ (t : Tree). inserted at (more t none) us) (given_told k)) in
-    becomes_after b (becomes_put b.product r (e ∙ ap (put i (with_nth at (root_tree h g) (kids (root_tree i g)))) (given_rest k)))

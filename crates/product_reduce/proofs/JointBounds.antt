@@ -1,13 +1,12 @@
 -- A product with two factors joined is bounded by the product before.
-use Rattle.std.proofs.Common.{ℕ, suc, ◌+◌, ◌≤◌, ◌<◌, max, ◌≡◌, inl, Bool, true, false, if◌then◌else◌, refl, sym, ap, ◌∙◌, subst, arith}
-use Rattle.product_reduce.proofs.Shared.{and_parts, nest, nest_of, weight, load, load_of_factor, load_of_factors, Fraction, is_number, are_numbers, is_reduced, num_one, NoneIs, base_of, are_reduced}
-use Rattle.product_reduce.proofs.Shared.{Tree, num, add, mult, power, undef, Trees, none, more, append, count, is_mult, reduced_parts, parts_reduced, removed, nth, children_of, IsJoined, opened}
-use Rattle.product_reduce.proofs.Shared.{others_in, coefficient_before, exponent_of, has_partner, first_partner, without_partner, joint, have_partners, joined, nest_number, nest_permuted, AllPartsOf}
-use Rattle.product_reduce.proofs.{Shared.{HasForm, factors_of}, Bounds.{nest_others, nest_opened, load_with, load_others, load_opened, load_product, load_permuted}, Forms.{opened_flat, others_none}}
-use Rattle.product_reduce.proofs.{Forms.{others_no_numbers, opened_parts, others_parts}, Joined.{one_base, partner_is, partner_first}, Joints.{IsSmall, is_within, is_over, AllSmall, all_within}}
-use Rattle.product_reduce.proofs.Joints.{joint_small, small_at, small_removed, joint_of_numbers_is_not_reduced, sum_is_no_number, exponent_words, flat_load, joint_load, load_split, base_weight}
-use Rattle.like_children.proofs.{Parts.{reduced_formed}, Permutations.{none_permuted}}
-use Rattle.coefficients.proofs.Bounds.{of_factors_nest}
+use Rattle.product_reduce.proofs.Shared.{ℕ, suc, ◌+◌, ◌≤◌, ◌<◌, max, ◌≡◌, inl, Bool, true, false, if◌then◌else◌, refl, sym, ap, ◌∙◌, subst, arith, and_parts, nest, nest_of, weight, load}
+use Rattle.product_reduce.proofs.Shared.{load_of_factor, load_of_factors, Fraction, is_number, are_numbers, is_reduced, num_one, NoneIs, base_of, are_reduced, Tree, num, add, mult, power, undef}
+use Rattle.product_reduce.proofs.Shared.{Trees, none, more, append, count, is_mult, reduced_parts, parts_reduced, removed, nth, children_of, IsJoined, opened, others_in, coefficient_before}
+use Rattle.product_reduce.proofs.Shared.{exponent_of, has_partner, first_partner, without_partner, joint, have_partners, joined, nest_number, nest_permuted, AllPartsOf, HasForm, factors_of}
+use Rattle.product_reduce.proofs.{Shared.{reduced_formed, none_permuted, of_factors_nest}, Bounds.{nest_others, nest_opened, load_with, load_others, load_opened, load_product, load_permuted}}
+use Rattle.product_reduce.proofs.{Forms.{opened_flat, others_none, others_no_numbers, opened_parts, others_parts}, Joined.{one_base, partner_is, partner_first}, Joints.{IsSmall, is_within, is_over}}
+use Rattle.product_reduce.proofs.Joints.{AllSmall, all_within, joint_small, small_at, small_removed, joint_of_numbers_is_not_reduced, sum_is_no_number, exponent_words, flat_load, joint_load}
+use Rattle.product_reduce.proofs.Joints.{load_split, base_weight}
 
 -- ---- the factors after a joining
 

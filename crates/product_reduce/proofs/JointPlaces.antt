@@ -1,8 +1,6 @@
 -- Places in lists, and what stands before factors.
-use Rattle.std.proofs.Common.{ℕ, zero, suc, ◌+◌, ◌≤◌, ◌≡◌, true, if◌then◌else◌, refl, ap, ◌∙◌, arith}
-use Rattle.product_reduce.proofs.Shared.{and_parts, and_from, is_number, is_num_one, is_reduced, are_reduced, Tree, Trees, none, more, append, count, factors_of, removed, nth, count_append}
-use Rattle.product_reduce.proofs.Shared.{coefficient_before, number_parts, number_words, HasForm}
-use Rattle.like_children.proofs.Parts.{formed_reduced, factors_parts}
+use Rattle.product_reduce.proofs.Shared.{ℕ, zero, suc, ◌+◌, ◌≤◌, ◌≡◌, true, if◌then◌else◌, refl, ap, ◌∙◌, arith, and_parts, and_from, is_number, is_num_one, is_reduced, are_reduced, Tree, Trees, none}
+use Rattle.product_reduce.proofs.Shared.{more, append, count, factors_of, removed, nth, count_append, coefficient_before, number_parts, number_words, HasForm, formed_reduced, factors_parts}
 
 -- ---- places in lists
 

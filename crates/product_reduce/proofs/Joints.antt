@@ -1,12 +1,8 @@
 -- The joint of two factors: its exponents, its nest and its load.
-use Rattle.std.proofs.{Common.{ℕ, zero, suc, ◌+◌, ◌≤◌, ◌<◌, max, ◌≡◌, Bool, true, false, ◌&&◌, not, if◌then◌else◌, refl, ap, arith}, lemmas.Bool.{true≢false}}
-use Rattle.std.specs.Prelude.{⊤}
-use Rattle.product_reduce.proofs.Shared.{Fraction, one_fraction, nest, nest_of, weight, weight_of_factors, load_of_factor, load_of_factors, is_number, IsNumber, is_whole_num, is_reduced, HasForm}
-use Rattle.product_reduce.proofs.Shared.{IsSumForm, base_of, Tree, num, add, mult, power, root, Trees, none, more, count, is_mult, number_words, number_test, reduced_parts, removed, nth, exponent_of}
-use Rattle.product_reduce.proofs.Shared.{joint, AllParts}
-use Rattle.calc_measures.proofs.Weights.{some_weight}
-use Rattle.tree_room.proofs.PowerCounts.{power_no_number}
-use Rattle.coefficients.proofs.Forms.{own_form}
+use Rattle.product_reduce.proofs.Shared.{ℕ, zero, suc, ◌+◌, ◌≤◌, ◌<◌, max, ◌≡◌, Bool, true, false, ◌&&◌, not, if◌then◌else◌, refl, ap, arith, true≢false, ⊤, Fraction, one_fraction, nest, nest_of}
+use Rattle.product_reduce.proofs.Shared.{weight, weight_of_factors, load_of_factor, load_of_factors, is_number, IsNumber, is_whole_num, is_reduced, HasForm, IsSumForm, base_of, Tree, num, add, mult}
+use Rattle.product_reduce.proofs.Shared.{power, root, Trees, none, more, count, is_mult, number_words, number_test, reduced_parts, removed, nth, exponent_of, joint, AllParts, some_weight}
+use Rattle.product_reduce.proofs.Shared.{power_no_number, own_form}
 
 -- ---- the exponents of a joint
 

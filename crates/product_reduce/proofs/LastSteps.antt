@@ -1,13 +1,11 @@
 -- A coefficient and sorted factors whose bases differ make a reduced tree.
-use Rattle.std.proofs.Common.{◌≡◌, ◌≤◌, [], true, refl, ap, arith}
-use Rattle.product_reduce.proofs.Shared.{is_number, product_tree, RisesBy, HasForm, base_of, Tree, mult, Trees, none, more, count, names, names_of, KeepsMeanings, KeepsMeanings-refl}
-use Rattle.product_reduce.proofs.Shared.{KeepsMeanings-trans, KeepsMeanings-product_more, Permuted, permuted_none, permuted_more, permuted_swap, permuted_trans, permuted_product, single_product}
-use Rattle.product_reduce.proofs.Shared.{to_single_product, number_words, product_tree_keeps, with_coefficient, put_formed, put_reduces, AreFactors, factors_monic, parts_defined, keeps, reduces_after}
-use Rattle.product_reduce.proofs.Shared.{IsPermutation-refl, IsSorting, AreOthers, IsEnding, coefficient_times, nest_number, nest_permuted, within_left, within_same, within_trans, within_both}
-use Rattle.product_reduce.proofs.{Shared.{within_beside, within_none, names_permuted, no_new_name, within_eq, number_parts, parts_reduced, is_mult}, Bounds.{load_tree, load_permuted}}
-use Rattle.product_reduce.proofs.Finished.{load_of_number}
-use Rattle.coefficients.proofs.{Bounds.{coefficient_nest, coefficient_load, tree_nest}, Keeps.{tree_names}}
-use Rattle.like_children.proofs.{Permutations.{none_permuted}, Parts.{reduced_formed, permuted_parts}}
+use Rattle.product_reduce.proofs.Shared.{◌≡◌, ◌≤◌, [], true, refl, ap, arith, is_number, product_tree, RisesBy, HasForm, base_of, Tree, mult, Trees, none, more, count, names, names_of, KeepsMeanings}
+use Rattle.product_reduce.proofs.Shared.{KeepsMeanings-refl, KeepsMeanings-trans, KeepsMeanings-product_more, Permuted, permuted_none, permuted_more, permuted_swap, permuted_trans, permuted_product}
+use Rattle.product_reduce.proofs.Shared.{single_product, to_single_product, number_words, product_tree_keeps, with_coefficient, put_formed, put_reduces, AreFactors, factors_monic, parts_defined}
+use Rattle.product_reduce.proofs.Shared.{keeps, reduces_after, IsPermutation-refl, IsSorting, AreOthers, IsEnding, coefficient_times, nest_number, nest_permuted, within_left, within_same}
+use Rattle.product_reduce.proofs.Shared.{within_trans, within_both, within_beside, within_none, names_permuted, no_new_name, within_eq, number_parts, parts_reduced, is_mult, coefficient_nest}
+use Rattle.product_reduce.proofs.{Shared.{coefficient_load, tree_nest, tree_names, none_permuted, reduced_formed, permuted_parts}, Bounds.{load_tree, load_permuted}}
+use Rattle.calc_measures.proofs.SmallLaws.{number_load as load_of_number}
 
 -- ---- the coefficient alone
 

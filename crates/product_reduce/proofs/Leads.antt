@@ -1,17 +1,15 @@
 -- A coefficient that stands first as it is written, and factors put in order behind it.
-use Rattle.std.specs.Prelude.{Option, MatchOption, is_some}
-use Rattle.std.proofs.{Common.{ℕ, zero, suc, ◌+◌, ◌≤◌, ◌≡◌, ◌≢◌, Bool, true, false, if◌then◌else◌, refl, sym, ap, ◌∙◌, subst, arith}, lemmas.Bool.{true≢false}}
-use Rattle.product_reduce.proofs.Shared.{is_number, value, base_of, is_num_one, is_one_add, num_one, product_tree, NoneIs, HasForm, are_reduced, Same-sym, Permuted, Permuted-sym, Same-trans}
-use Rattle.product_reduce.proofs.Shared.{Agree-Same, surd_times-one, Same-eq, one_fraction, lowest, gcd, Tree, mult, Trees, none, more, append, count, is_add, is_mult, factors_of, with_coefficient}
-use Rattle.product_reduce.proofs.Shared.{IsNextNumber, NoNumberBetween, IsSorting, is_zero, removed, nth, AreOthers, IsStop, at_end, IsEnding, AreFactorsHeld, opened, numbers_in, others_in}
-use Rattle.product_reduce.proofs.Shared.{product_of_values, coefficient_times, IsLead, IsOrdered, have_partners, IsPairAt, IsNextPair, NoPairBetween, no_numbers, count_append, no_numbers_none}
-use Rattle.product_reduce.proofs.{Shared.{no_numbers_others, AllPartsOf}, Fronts.{one_in_front, other_in_front, single_factor}, Gathered.{others_permuted, reduced_permuted}}
-use Rattle.product_reduce.proofs.{HeldNumbers.{alone_held, no_factors_held}, LastSteps.{ending, permuted_none_is, times_written}, Misfits.{permuted_one_is}}
-use Rattle.product_reduce.proofs.{Neighbours.{pair_partners, sorted_apart, apart_before}, Sorted.{sorted_rising}}
-use Rattle.like_children.proofs.{Addends.{one_value}, Permutations.{none_permuted, of_lists, IsBehind, sorted_behind}}
-pub use Rattle.calc_algebra.proofs.ReducedLaws.{from_not as off}
-use Rattle.calc_algebra.proofs.MeaningRewrites.{Permuted-append_right}
-use Rattle.coefficients.proofs.Forms.{own_form}
+use Rattle.product_reduce.proofs.Shared.{Option, MatchOption, ℕ, zero, suc, ◌+◌, ◌≤◌, ◌≡◌, ◌≢◌, Bool, true, false, if◌then◌else◌, refl, sym, ap, ◌∙◌, subst, arith, true≢false, is_number, value}
+use Rattle.product_reduce.proofs.Shared.{base_of, is_num_one, is_one_add, num_one, product_tree, NoneIs, HasForm, are_reduced, Same-sym, Permuted, Permuted-sym, Same-trans, Agree-Same, surd_times-one}
+use Rattle.product_reduce.proofs.Shared.{Same-eq, one_fraction, lowest, gcd, Tree, mult, Trees, none, more, append, count, is_add, is_mult, factors_of, with_coefficient, IsNextNumber, NoNumberBetween}
+use Rattle.product_reduce.proofs.Shared.{IsSorting, is_zero, removed, nth, AreOthers, IsStop, at_end, IsEnding, AreFactorsHeld, opened, numbers_in, others_in, product_of_values, coefficient_times}
+use Rattle.product_reduce.proofs.Shared.{IsLead, IsOrdered, have_partners, IsPairAt, IsNextPair, NoPairBetween, no_numbers, count_append, no_numbers_none, no_numbers_others, AllPartsOf, one_value}
+use Rattle.product_reduce.proofs.{Shared.{none_permuted, of_lists, sorted_behind, Permuted-append_right, own_form}, Fronts.{one_in_front, other_in_front, single_factor}}
+use Rattle.product_reduce.proofs.{Gathered.{others_permuted, reduced_permuted}, HeldNumbers.{alone_held, no_factors_held}, LastSteps.{ending, permuted_none_is, times_written}}
+use Rattle.product_reduce.proofs.{Misfits.{permuted_one_is}, Neighbours.{pair_partners, sorted_apart, apart_before}, Sorted.{sorted_rising}}
+use Rattle.std.specs.Prelude.{is_some}
+use Rattle.like_children.proofs.Permutations.{IsBehind}
+pub use Rattle.calc_terms.proofs.Names.{not_true as off}
 
 -- ---- opened factors are some
 

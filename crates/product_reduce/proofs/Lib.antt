@@ -12,7 +12,6 @@ pub mod Joins
 pub mod Ones
 pub mod Fronts
 pub mod Progress
-pub mod Results
 pub mod Begun
 pub mod Sorted
 pub mod OneOrder

@@ -1,10 +1,8 @@
 -- Which operation of a product does not fit, from the call that was refused.
-use Rattle.std.proofs.Common.{arith, ◌≡◌, ℕ, ◌&&◌, false, Result, Ok, Err}
-use Rattle.std.specs.Prelude.{IfErr, IsErrAnd}
-use Rattle.product_reduce.proofs.Shared.{Permuted, permuted_none, permuted_more, permuted_swap, permuted_trans, value, product_tree, IsPlainOverflow, calculated, mul_op, Fraction, Tree, num, Trees}
-use Rattle.product_reduce.proofs.{Shared.{none, more, is_num, NamesPut, State, AnswersRationals, OfOverflow, NamesProduct, SpreadingOverflows, Overflow, NumberFault}, LastSteps.{permuted_none_is}}
-use Rattle.node_pool.specs.declared.full.Full.{Full}
-use Rattle.number_forms.specs.Overflows.{ProductOverflows}
+use Rattle.product_reduce.proofs.Shared.{arith, ◌≡◌, ℕ, ◌&&◌, false, Ok, Err, IfErr, IsErrAnd, Permuted, permuted_none, permuted_more, permuted_swap, permuted_trans, value, product_tree}
+use Rattle.product_reduce.proofs.Shared.{IsPlainOverflow, calculated, mul_op, Fraction, Tree, num, Trees, none, more, is_num, NamesPut, State, AnswersRationals, OfOverflow, NamesProduct}
+use Rattle.product_reduce.proofs.{Shared.{SpreadingOverflows, Overflow, NumberFault, Full, ProductOverflows}, LastSteps.{permuted_none_is}}
+use Rattle.std.proofs.Common.{Result}
 use Rattle.tree_handles.specs.declared.fault.NumberFault.TheVariants as fault
 
 -- ---- two Numbers

@@ -1,11 +1,9 @@
 -- Neighbours among sorted factors, and what their bases tell of all factors.
-use Rattle.std.specs.Prelude.{IsSortedByKey, IsPermutation}
-use Rattle.std.proofs.Common.{ℕ, zero, suc, ◌<◌, ◌+◌, ◌≡◌, Bool, true, false, not, ◌&&◌, if◌then◌else◌, refl, sym, ap, ◌∙◌, arith, add-one}
-use Rattle.product_reduce.proofs.Shared.{is_eq, is_lt, count_removed, and_parts, is_number, base_of, NoneIs, RisesBy, are_reduced, tree_cmp, Permuted, Permuted-sym, tree_cmp_total, Tree, Trees, none}
-use Rattle.product_reduce.proofs.Shared.{more, count, is_mult, list_of, nth, count_append, coefficient_before, is_partner, has_partner, have_partners, joint, IsJointAt, is_single, is_pair, IsPairAt}
-use Rattle.product_reduce.proofs.{Shared.{NoPairBetween, joined_pair}, Finished.{reduced_nth}, JointPlaces.{before_is, nth_behind, reduced_removed}}
-use Rattle.product_reduce.proofs.Sorted.{AreApart, apart_words, apart_permuted, less_of}
-use Rattle.like_children.proofs.{Places.{count_inserted, nth_inserted, removed_inserted}, Permutations.{of_lists}}
+use Rattle.product_reduce.proofs.Shared.{IsSortedByKey, IsPermutation, ℕ, zero, suc, ◌<◌, ◌+◌, ◌≡◌, Bool, true, false, not, ◌&&◌, if◌then◌else◌, refl, sym, ap, ◌∙◌, arith, add-one, is_eq, is_lt}
+use Rattle.product_reduce.proofs.Shared.{count_removed, and_parts, is_number, base_of, NoneIs, RisesBy, are_reduced, tree_cmp, Permuted, Permuted-sym, tree_cmp_total, Tree, Trees, none, more, count}
+use Rattle.product_reduce.proofs.Shared.{is_mult, list_of, nth, count_append, coefficient_before, is_partner, has_partner, have_partners, joint, IsJointAt, is_single, is_pair, IsPairAt, NoPairBetween}
+use Rattle.product_reduce.proofs.{Shared.{joined_pair, less_of, count_inserted, nth_inserted, removed_inserted, of_lists}, Finished.{reduced_nth}, JointPlaces.{before_is, nth_behind, reduced_removed}}
+use Rattle.product_reduce.proofs.Sorted.{AreApart, apart_words, apart_permuted}
 
 -- ---- a pair tells that some factors have partners
 

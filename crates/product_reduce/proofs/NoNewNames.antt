@@ -1,8 +1,7 @@
 -- Steps on a product bring no new name.
-use Rattle.std.proofs.Common.{arith, ◌≡◌, Bool, true, false, [], ◌++◌, refl, if◌then◌else◌, append_assoc}
-use Rattle.product_reduce.proofs.Shared.{factors_of, is_number, base_of, is_num_one, Tree, Trees, none, more, append, names, names_of, opened, others_in, coefficient_before, exponent_of, has_partner}
-use Rattle.product_reduce.proofs.Shared.{first_partner, without_partner, joint, joined, Within, within_eq, within_same, within_trans, within_both, within_left, within_right, within_beside}
-use Rattle.product_reduce.proofs.{Shared.{within_none, names_of-append, names_permuted, number_names}, Joined.{partner_first}}
+use Rattle.product_reduce.proofs.Shared.{arith, ◌≡◌, Bool, true, false, [], ◌++◌, refl, if◌then◌else◌, append_assoc, factors_of, is_number, base_of, is_num_one, Tree, Trees, none, more, append, names}
+use Rattle.product_reduce.proofs.Shared.{names_of, opened, others_in, coefficient_before, exponent_of, has_partner, first_partner, without_partner, joint, joined, Within, within_eq, within_same}
+use Rattle.product_reduce.proofs.{Shared.{within_trans, within_both, within_left, within_right, within_beside, within_none, names_of-append, names_permuted, number_names}, Joined.{partner_first}}
 
 -- ---- factors
 

@@ -1,7 +1,6 @@
 -- Factors no two of which have identical bases have one order, and with a coefficient they are one tree.
-use Rattle.std.proofs.Common.{◌≡◌, false, sym, ap, ◌∙◌}
-use Rattle.product_reduce.proofs.{Shared.{base_of, Tree, Trees, permuted_trans, Permuted-sym, IsSorting, IsWritten, coefficient_times, have_partners}, Sorted.{sorted_rising}}
-use Rattle.like_children.proofs.{OneOrder.{rising_once}, Permutations.{of_lists}}
+use Rattle.product_reduce.proofs.Shared.{◌≡◌, false, sym, ap, ◌∙◌, base_of, Tree, Trees, permuted_trans, Permuted-sym, IsSorting, IsWritten, coefficient_times, have_partners, rising_once, of_lists}
+use Rattle.product_reduce.proofs.Sorted.{sorted_rising}
 
 sorted_once : (ts us vs : Trees) → have_partners ts ≡ false → IsSorting 0 base_of ts us → IsSorting 0 base_of ts vs → us ≡ vs
 sorted_once ts us vs h a b =

@@ -1,7 +1,6 @@
 -- The rational 1 by its parts.
-use Rattle.std.proofs.Common.{arith, ◌≡◌, ℕ, ℤ, Bool, true, false, ◌↔◌, FitsSigned, of_z, nat_eq}
-use Rattle.std.specs.Prelude.{IsTrue}
-use Rattle.product_reduce.proofs.Shared.{w128, Fraction, is_one_fraction}
+use Rattle.product_reduce.proofs.Shared.{arith, ◌≡◌, ℕ, Bool, true, false, ◌↔◌, FitsSigned, of_z, nat_eq, IsTrue, w128, Fraction, is_one_fraction}
+use Rattle.std.proofs.Common.{ℤ}
 
 -- a numerator, over 1
 pub one_over_one : (q : Fraction) (z : ℤ) → FitsSigned w128 z → z ≡ q.num → q.den ≡ 1 → nat_eq (of_z w128 z) 1 ≡ is_one_fraction q

@@ -1,10 +1,8 @@
 -- A product whose factors are opened and whose Numbers are one coefficient keeps its meanings.
-use Rattle.std.proofs.Common.{arith, ◌≡◌, Bool, true, false, refl, if◌then◌else◌}
-use Rattle.product_reduce.proofs.Shared.{factors_of, one_fraction, is_number, is_num_one, Same, Surd, Tree, num, mult, Trees, none, more, append, one_is, KeepsMeanings, KeepsMeanings-refl}
-use Rattle.product_reduce.proofs.Shared.{KeepsMeanings-trans, KeepsMeanings-product_more, KeepsMeanings-product_append, nested_product, permuted_product, one_factor_of_product, product_parts}
-use Rattle.product_reduce.proofs.Shared.{none_product, number_words, number_value, value_means, Same-trans, Same-sym, Same-surd_times, numbers_first, opened, numbers_in, others_in, product_of_values}
-use Rattle.product_reduce.proofs.Shared.{IsCoefficient, coefficient_before}
-use Rattle.calc_algebra.specs.Meanings.{Assignment, IsAssignment, Means}
+use Rattle.product_reduce.proofs.Shared.{arith, ◌≡◌, Bool, true, false, refl, if◌then◌else◌, factors_of, one_fraction, is_number, is_num_one, Same, Surd, Tree, num, mult, Trees, none, more, append}
+use Rattle.product_reduce.proofs.Shared.{one_is, KeepsMeanings, KeepsMeanings-refl, KeepsMeanings-trans, KeepsMeanings-product_more, KeepsMeanings-product_append, nested_product, permuted_product}
+use Rattle.product_reduce.proofs.Shared.{one_factor_of_product, product_parts, none_product, number_words, number_value, value_means, Same-trans, Same-sym, Same-surd_times, numbers_first, opened}
+use Rattle.product_reduce.proofs.Shared.{numbers_in, others_in, product_of_values, IsCoefficient, coefficient_before, Assignment, IsAssignment, Means}
 use Rattle.calc_algebra.proofs.MeaningRewrites.{flat_product}
 
 -- ---- products in a product

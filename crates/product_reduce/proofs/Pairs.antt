@@ -1,7 +1,6 @@
 -- Factors with identical bases, by their places.
-use Rattle.std.proofs.{Common.{◌+◌, ℕ, zero, suc, ◌<◌, ◌≡◌, Bool, true, false, refl, if◌then◌else◌, ap, ◌∙◌, arith, subst, nat_lt}, lemmas.Bool.{ltb-true, ltb-false}}
-use Rattle.product_reduce.proofs.Shared.{removed, Tree, Trees, none, more, count, nth, inserted, is_partner, has_partner, first_partner, without_partner, joint, have_partners, joined, HasNoPartner}
-use Rattle.product_reduce.proofs.Shared.{IsFirstPair, by_test}
+use Rattle.product_reduce.proofs.Shared.{◌+◌, ℕ, zero, suc, ◌<◌, ◌≡◌, Bool, true, false, refl, if◌then◌else◌, ap, ◌∙◌, arith, subst, nat_lt, ltb-true, ltb-false, removed, Tree, Trees, none, more}
+use Rattle.product_reduce.proofs.Shared.{count, nth, inserted, is_partner, has_partner, first_partner, without_partner, joint, have_partners, joined, HasNoPartner, IsFirstPair, by_test}
 
 -- ---- one factor and those behind it
 

@@ -1,24 +1,18 @@
 -- A coefficient beside the other factors of a product, and what is made of both.
-use Rattle.std.proofs.Common.{ℕ, ◌≡◌, ◌≤◌, ◌+◌, ◌*◌, ◌^◌, ◌∙◌, Bool, List, length, Result, Err, eqb, true, false, [], ◌∷◌, refl, sym, ap, subst, arith}
-use Rattle.std.specs.Prelude.{IfOk, IfErr, IsErr, IsErrAnd}
-use Rattle.product_reduce.proofs.Shared.{PlainValue, plain_value, IsPlainAnswer, counted, HasPowersOf, SpansTree, SpansTrees, put_room, product_count, counts_one, product_bytes, pow_pos, passed_lacks}
+use Rattle.product_reduce.proofs.Shared.{ℕ, ◌≡◌, ◌≤◌, ◌+◌, ◌*◌, ◌^◌, ◌∙◌, Bool, List, length, Err, eqb, true, false, [], ◌∷◌, refl, sym, ap, subst, arith, IfOk, IfErr, IsErr, IsErrAnd, PlainValue}
+use Rattle.product_reduce.proofs.Shared.{plain_value, IsPlainAnswer, counted, HasPowersOf, SpansTree, SpansTrees, put_room, product_count, counts_one, product_bytes, pow_pos, passed_lacks}
 use Rattle.product_reduce.proofs.Shared.{result_lacks, Tree, mult, Trees, none, count, is_mult, are_rationals, has_undef, size, are_reduced, AnswersRationals, AnswersRationalFactors, NumberFault}
 use Rattle.product_reduce.proofs.Shared.{State, free_of, tree_of, Forest, forest, Stands, KeepsRefusals, IsHanded, Gives, KeepsFront, without_root, behind_first, front_after_one, front_after_two}
 use Rattle.product_reduce.proofs.Shared.{gives_as, given_told, by_test, overflow_as, passed_on, OfOverflow, Joining, IfFinished, IfJoined, AreOthers, IsStop, at_zero, at_end, IsFinished, IsOrdered}
 use Rattle.product_reduce.proofs.Shared.{IsGathered, AreFactorsHeld, IsCoefficient, coefficient_times, opened, numbers_in, others_in, MultiplyingOverflows, SpreadingOverflows, multiplying, spreading}
-use Rattle.product_reduce.proofs.Shared.{IsProduct, Becomes, IsTakenOut, factors_in, KeepsFactorBounds, KeepsProductBounds, AreFewBits, SpansRoot}
-use Rattle.product_reduce.proofs.{Beside.{beside_product, beside_apart, behind_beside}, Finished.{reduced_opened, stopped}, FreeBytes.{becomes_free, taken_out_free, opened_size, step_lacks_numbers}}
-use Rattle.product_reduce.proofs.{FreeBytes.{step_lacks_pair}, Gathered.{gathered}, GatheredCounts.{finished_counted, others_at_most, gathered_counted, gathered_few}, GatheredParts.{finished_powers}}
-use Rattle.product_reduce.proofs.{GatheredParts.{coefficient_spanned, spans_finished, spans_factors, gathered_powers, spans_gathered}, HeldProducts.{apart, finished_held, gathered_held}}
-use Rattle.product_reduce.proofs.{LastSteps.{permuted_none_is}, Products.{product_at, factors_are}, SpreadFits.{no_spreading}, Stepped.{others_are, opened_value, none_beside}}
-use Rattle.product_reduce.proofs.Forms.{opened_parts, others_parts}
-use Rattle.product_reduce.specs.Misfits.{IsFactorMisfit}
-use Rattle.calc_room.specs.Needs.{product_need}
+use Rattle.product_reduce.proofs.Shared.{IsProduct, Becomes, IsTakenOut, factors_in, KeepsFactorBounds, KeepsProductBounds, AreFewBits, SpansRoot, IsFactorMisfit, product_need, IsCaused, LacksBelow}
+use Rattle.product_reduce.proofs.{Shared.{product_step_room, of_lists, undef_words}, Beside.{beside_product, beside_apart, behind_beside}, Finished.{reduced_opened, stopped}, FreeBytes.{becomes_free}}
+use Rattle.product_reduce.proofs.{FreeBytes.{taken_out_free, opened_size, step_lacks_numbers, step_lacks_pair}, Gathered.{gathered}, GatheredCounts.{finished_counted, others_at_most}}
+use Rattle.product_reduce.proofs.{GatheredCounts.{gathered_counted, gathered_few}, GatheredParts.{finished_powers, coefficient_spanned, spans_finished, spans_factors, gathered_powers, spans_gathered}}
+use Rattle.product_reduce.proofs.{HeldProducts.{apart, finished_held, gathered_held}, LastSteps.{permuted_none_is}, Products.{product_at, factors_are}, SpreadFits.{no_spreading}}
+use Rattle.product_reduce.proofs.{Stepped.{others_are, opened_value, none_beside}, Forms.{opened_parts, others_parts}}
+use Rattle.std.proofs.Common.{Result}
 use Rattle.tree_handles.proofs.Refused.{refused_as as refused_on}
-use Rattle.tree_handles.specs.{Causes.{IsCaused}, Lacking.{LacksBelow}}
-use Rattle.tree_room.specs.Needs.{product_step_room}
-use Rattle.like_children.proofs.Permutations.{of_lists}
-use Rattle.calc_algebra.proofs.ReducedLaws.{undef_words}
 
 -- ---- the factors are opened
 

@@ -1,10 +1,9 @@
 -- Roots that are products.
-use Rattle.std.proofs.Common.{ℕ, ◌<◌, ◌≡◌, eqb, true, false, refl, ap, ◌∙◌, subst, arith}
-use Rattle.product_reduce.proofs.Shared.{removed, mult, Trees, count, is_mult, IsOver, over_product, over_put, over_handed, over_plain, without_put, once_count, nth, plain, inserted, children_of}
-use Rattle.product_reduce.proofs.Shared.{IsExpression, Forest, arity, kids, root_count, tree_nth, merged_nth, Represents, root_tree, without_root, put, all-tree_nth, arity-tree_nth, behind_first}
-use Rattle.product_reduce.proofs.Shared.{front_same, front_put, front_at, front_after_one, handed_at, handed_beside, holds, tree_at, kids_of, Stands, forest, State, kids_of_root, plain_root}
-use Rattle.product_reduce.proofs.Shared.{expression_root, root_held, tree-without, represents_merged, factors_in, IsProduct, Becomes}
-use Rattle.tree_handles.proofs.Cuts.{represents_count}
+use Rattle.product_reduce.proofs.Shared.{ℕ, ◌<◌, ◌≡◌, eqb, true, false, refl, ap, ◌∙◌, subst, arith, removed, mult, Trees, count, is_mult, IsOver, over_product, over_put, over_handed, over_plain}
+use Rattle.product_reduce.proofs.Shared.{without_put, once_count, nth, plain, inserted, children_of, IsExpression, Forest, arity, kids, root_count, tree_nth, merged_nth, Represents, root_tree}
+use Rattle.product_reduce.proofs.Shared.{without_root, put, all-tree_nth, arity-tree_nth, behind_first, front_same, front_put, front_at, front_after_one, handed_at, handed_beside, holds, tree_at}
+use Rattle.product_reduce.proofs.Shared.{kids_of, Stands, forest, State, kids_of_root, plain_root, expression_root, root_held, tree-without, represents_merged, factors_in, IsProduct, Becomes}
+use Rattle.product_reduce.proofs.Shared.{represents_count}
 use Rattle.calc_terms.specs.declared.kind.Kind.TheVariants as kind
 
 -- ---- a root with other children
@@ -35,9 +34,6 @@ pub factors_are : {i : ℕ} {f : Forest} {ts : Trees} → IsProduct i f ts → f
 factors_are h = ap children_of h.tree
 
 -- ---- change after change
-
-pub becomes_same : {i : ℕ} {f : Forest} {ts : Trees} → IsProduct i f ts → Becomes i f f ts
-becomes_same h = record { product = h; others = refl; front = front_same }
 
 pub becomes_after : {i : ℕ} {f g h : Forest} {ts us : Trees} → Becomes i f g ts → Becomes i g h us → Becomes i f h us
 becomes_after a b = record { product = b.product; others = b.others ∙ a.others; front = front_after_one behind_first a.front b.front }

@@ -1,13 +1,12 @@
 -- The Numbers among the factors are multiplied from left to right.
+use Rattle.product_reduce.proofs.Shared.{ℕ, ◌≤◌, ◌≡◌, true, refl, sym, ap, ◌∙◌, subst, arith, Tree, mult, Trees, none, more, append, count, is_number, are_numbers, value, are_reduced, num_one, Same}
+use Rattle.product_reduce.proofs.Shared.{surd_times, Same-sym, Same-trans, Agree-Same, surd_times_assoc, surd_times-one, surd_times-surd_one, Same-refl, Same-eq, Same-surd_times, HasFewBits}
+use Rattle.product_reduce.proofs.Shared.{PlainValue, plain_value, SpansRoot, AnswersTotal, AreJoined, IsNextOf, IsNextNumber, NoNumberBetween, first_of, fold_begun, plain_product, no_numbers}
+use Rattle.product_reduce.proofs.Shared.{some_number, sizes_taken, append_one, append_none, trees_assoc, count_append, front_numbers, numbers_are, numbers_removed, others_removed, no_numbers_none}
+use Rattle.product_reduce.proofs.Shared.{parts_taken, State, AnswersRationals, removed, Overflow, nth, NumberFault, AreFactorsHeld, numbers_in, product_of_values, IsCoefficient, NamesProduct}
+use Rattle.product_reduce.proofs.{Shared.{MultiplyingOverflows, IsProductOf, IsBegun, AreFewBits, one_value}, HeldNumbers.{alone_held, front_held, next_held, no_factors_held}}
+use Rattle.product_reduce.proofs.JointPlaces.{reduced_removed}
 use Rattle.std.specs.Prelude.{Result}
-use Rattle.std.proofs.Common.{ℕ, ◌≤◌, ◌≡◌, true, refl, sym, ap, ◌∙◌, subst, arith}
-use Rattle.product_reduce.proofs.Shared.{Tree, mult, Trees, none, more, append, count, is_number, are_numbers, value, are_reduced, num_one, Same, surd_times, Same-sym, Same-trans, Agree-Same}
-use Rattle.product_reduce.proofs.Shared.{surd_times_assoc, surd_times-one, surd_times-surd_one, Same-refl, Same-eq, Same-surd_times, HasFewBits, PlainValue, plain_value, SpansRoot, AnswersTotal}
-use Rattle.product_reduce.proofs.Shared.{AreJoined, IsNextOf, IsNextNumber, NoNumberBetween, first_of, fold_begun, plain_product, no_numbers, some_number, sizes_taken, append_one, append_none}
-use Rattle.product_reduce.proofs.Shared.{trees_assoc, count_append, front_numbers, numbers_are, numbers_removed, others_removed, no_numbers_none, parts_taken, State, AnswersRationals, removed}
-use Rattle.product_reduce.proofs.Shared.{Overflow, nth, NumberFault, AreFactorsHeld, numbers_in, product_of_values, IsCoefficient, NamesProduct, MultiplyingOverflows, IsProductOf, IsBegun, AreFewBits}
-use Rattle.product_reduce.proofs.{HeldNumbers.{alone_held, front_held, next_held, no_factors_held}, JointPlaces.{reduced_removed}}
-use Rattle.like_children.proofs.Addends.{one_value}
 
 -- ---- the first Number
 

@@ -1,15 +1,10 @@
 -- Factors that stand in order beside their coefficient.
-use Rattle.std.proofs.Common.{ℕ, ◌≤◌, ◌≡◌, eqb, true, false, refl, sym, ap, ◌∙◌, subst}
-use Rattle.std.specs.Prelude.{IsSortedByKey}
-use Rattle.product_reduce.proofs.Shared.{is_number, product_tree, base_of, Tree, Trees, none, count, Permuted-refl, with_coefficient, IsPermutation-refl, tree_cmp, list_of, plain, Forest, IsHanded}
-use Rattle.product_reduce.proofs.Shared.{Gives, root_tree, without_root, gives_as, given_rest, given_same, given_told, handed_beside, eqb-sym, tree-without, without-swap, AreOthers, IsEnding}
-use Rattle.product_reduce.proofs.{Shared.{have_partners, factors_in, AreFactors}, LastSteps.{coefficient_alone, ending, sorted_factors}, Sorted.{sorted_rising}}
+use Rattle.product_reduce.proofs.Shared.{ℕ, ◌≤◌, ◌≡◌, eqb, true, false, refl, sym, ap, ◌∙◌, subst, IsSortedByKey, is_number, product_tree, base_of, Tree, Trees, none, count, Permuted-refl}
+use Rattle.product_reduce.proofs.Shared.{with_coefficient, IsPermutation-refl, tree_cmp, list_of, plain, Forest, IsHanded, Gives, root_tree, without_root, gives_as, given_rest, given_same, given_told}
+use Rattle.product_reduce.proofs.Shared.{handed_beside, eqb-sym, tree-without, without-swap, AreOthers, IsEnding, have_partners, factors_in, AreFactors}
+use Rattle.product_reduce.proofs.{LastSteps.{coefficient_alone, ending, sorted_factors}, Sorted.{sorted_rising}}
 
 -- ---- no other factor
-
-pub no_factors : (us : Trees) → count us ≡ 0 → us ≡ none
-no_factors none e = refl
-no_factors _ e = cc
 
 pub alone_ends : (c : Tree) (ts : Trees) (t : Tree) → ts ≡ none → is_number c ≡ true → t ≡ c → IsEnding c ts t
 alone_ends c ts t z n e = subst (λ (us : Trees). IsEnding c us t) (sym z) (subst (IsEnding c none) (sym e) (coefficient_alone c n))

@@ -1,13 +1,12 @@
 -- What only a step by itself needs: one pair of factors is joined behind the coefficient, and the product handed back.
-use Rattle.std.proofs.Common.{◌≡◌, ◌+◌, ◌*◌, ◌^◌, ◌<◌, ◌≤◌, ℕ, List, length, Bool, true, false, not, refl, ap, arith, Result, Err}
-use Rattle.std.specs.Prelude.{IfOk, IfErr, IsErrAnd}
-use Rattle.product_reduce.proofs.Shared.{AllParts, AllPartsOf, AnswersRationalStep, AnswersRationals, AreJoinable, AreOthers, Forest, Fraction, Gives, IfAgain, IfDone, IsCoefficient, IsJoined}
-use Rattle.product_reduce.proofs.Shared.{IsPlainAnswer, IsRejoined, IsStop, NoneIs, NumberFault, PlainValue, SpansRoot, SpansTree, SpansTrees, State, Step, Tree, Trees, add, and_from, are_rationals}
-use Rattle.product_reduce.proofs.Shared.{coefficient_before, counted, counted_among, factors_bytes, factors_in, first_partner, forest, given_told, gives_as, has_undef, is_number, joined, joint, keeps}
-use Rattle.product_reduce.proofs.Shared.{more, mul-le, mult, no_new_name, none, none_is, num, opened, others_in, power, put_room, size, sizes, tree_of, undef, without_partner, without_root}
+use Rattle.product_reduce.proofs.Shared.{◌≡◌, ◌+◌, ◌*◌, ◌^◌, ◌<◌, ◌≤◌, ℕ, List, length, Bool, true, false, not, refl, ap, arith, Err, IfOk, IfErr, IsErrAnd, AllParts, AllPartsOf, AnswersRationalStep}
+use Rattle.product_reduce.proofs.Shared.{AnswersRationals, AreJoinable, AreOthers, Forest, Fraction, Gives, IfAgain, IfDone, IsCoefficient, IsJoined, IsPlainAnswer, IsRejoined, IsStop, NoneIs}
+use Rattle.product_reduce.proofs.Shared.{NumberFault, PlainValue, SpansRoot, SpansTree, SpansTrees, State, Step, Tree, Trees, add, and_from, are_rationals, coefficient_before, counted, counted_among}
+use Rattle.product_reduce.proofs.Shared.{factors_bytes, factors_in, first_partner, forest, given_told, gives_as, has_undef, is_number, joined, joint, keeps, more, mul-le, mult, no_new_name, none}
+use Rattle.product_reduce.proofs.Shared.{none_is, num, opened, others_in, power, put_room, size, sizes, tree_of, undef, without_partner, without_root, number_size}
 use Rattle.product_reduce.proofs.{Finished.{product_keeps, product_within}, GatheredParts.{before_factors, coefficient_spanned}, Forms.{opened_parts, others_parts}, Joined.{joined_keeps}}
 use Rattle.product_reduce.proofs.{NoNewNames.{names_joined}, Parted.{AreParted, stop_alone}, Stepped.{none_beside}}
-use Rattle.number_forms.proofs.Rooms.{number_size}
+use Rattle.std.proofs.Common.{Result}
 
 -- ---- the product
 

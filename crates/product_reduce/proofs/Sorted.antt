@@ -1,9 +1,7 @@
 -- Factors in the order of their bases, no two of which are identical.
-use Rattle.std.specs.Prelude.{⊤, IsPermutation, IsSortedByKey}
-use Rattle.std.proofs.Common.{suc, arith, add-one, ◌≡◌, false, sym, ap, ◌∙◌}
-use Rattle.product_reduce.proofs.Shared.{Ordering, Less, is_eq, is_lt, ordering_reverse, base_of, NoneIs, RisesBy, tree_cmp, Tree, Trees, none, more, Permuted, permuted_none, permuted_more}
-use Rattle.product_reduce.proofs.Shared.{permuted_swap, permuted_trans, tree_cmp_total, list_of, is_partner, has_partner, have_partners}
-use Rattle.like_children.proofs.Permutations.{none_permuted, of_lists}
+use Rattle.product_reduce.proofs.Shared.{less_of, ⊤, IsPermutation, IsSortedByKey, suc, arith, add-one, ◌≡◌, false, sym, ap, ◌∙◌, Ordering, Less, is_eq, is_lt, ordering_reverse, base_of, NoneIs}
+use Rattle.product_reduce.proofs.Shared.{RisesBy, tree_cmp, Tree, Trees, none, more, Permuted, permuted_none, permuted_more, permuted_swap, permuted_trans, tree_cmp_total, list_of, is_partner}
+use Rattle.product_reduce.proofs.Shared.{has_partner, have_partners, none_permuted, of_lists}
 
 -- ---- no two factors with one base
 
@@ -32,9 +30,6 @@ apart_permuted (permuted_swap {t} {u} {ts}) h = ((partner_turned u t ∙ h.0.0, 
 apart_permuted (permuted_trans k l) h = apart_permuted l (apart_permuted k h)
 
 -- ---- rising strictly
-
-pub less_of : (o : Ordering) → is_eq o ≡ false → is_lt (ordering_reverse o) ≡ false → o ≡ Less
-less_of o h k = grind arith
 
 rises_strictly : (us : Trees) → AreApart us → IsSortedByKey base_of tree_cmp (list_of us) → RisesBy base_of us
 rises_strictly none h s = tt

@@ -1,14 +1,11 @@
 -- Factors that are sorted beside their coefficient.
-use Rattle.std.proofs.Common.{ℕ, ◌≡◌, ◌+◌, ◌^◌, ◌∙◌, List, length, Result, eqb, false, [], ◌∷◌, refl, sym, ap, subst, arith}
-use Rattle.std.specs.Prelude.{IfErr}
-use Rattle.product_reduce.proofs.Shared.{base_of, counted, SpansTree, SpansTrees, put_room, result_lacks, refused_as, OfOverflow, NumberFault, Tree, Trees, mult, none, size, IsSorting, State, free_of}
-use Rattle.product_reduce.proofs.Shared.{tree_of, plain, Forest, forest, Stands, KeepsRefusals, IsHanded, KeepsFront, without_root, without-swap, eqb-sym, behind_first, behind_later, front_same}
-use Rattle.product_reduce.proofs.{Shared.{front_after_one, front_after_two, AreOthers, IsEnding, SpreadingOverflows, IsProduct, factors_in, SpansRoot}, Beside.{beside_becomes, tree_becomes}}
+use Rattle.product_reduce.proofs.Shared.{ℕ, ◌≡◌, ◌+◌, ◌^◌, ◌∙◌, List, length, eqb, false, [], ◌∷◌, refl, sym, ap, subst, arith, IfErr, base_of, counted, SpansTree, SpansTrees, put_room, result_lacks}
+use Rattle.product_reduce.proofs.Shared.{refused_as, OfOverflow, NumberFault, Tree, Trees, mult, none, size, IsSorting, State, free_of, tree_of, plain, Forest, forest, Stands, KeepsRefusals, IsHanded}
+use Rattle.product_reduce.proofs.Shared.{KeepsFront, without_root, without-swap, eqb-sym, behind_first, behind_later, front_same, front_after_one, front_after_two, AreOthers, IsEnding}
+use Rattle.product_reduce.proofs.{Shared.{SpreadingOverflows, IsProduct, factors_in, SpansRoot, LacksRoom, SortsFactors, of_lists, permuted_parts}, Beside.{beside_becomes, tree_becomes}}
 use Rattle.product_reduce.proofs.{FreeBytes.{becomes_free}, Gathered.{others_permuted, ending_before, spreading_before}, GatheredCounts.{sorted_counted}, LastSteps.{permuted_none_is}}
 use Rattle.product_reduce.proofs.Products.{factors_are, product_at}
-use Rattle.coefficients.specs.Rooms.{LacksRoom}
-use Rattle.product_reduce.specs.Sorting.{SortsFactors}
-use Rattle.like_children.proofs.{Permutations.{of_lists}, Parts.{permuted_parts}}
+use Rattle.std.proofs.Common.{Result}
 
 -- the factors stand in the order of their bases, and the coefficient as before
 pub record AreSorted (i c : ℕ) (old now : State) : Type 0 where

@@ -1,10 +1,9 @@
 -- A factor is split into its base and its exponent.
-use Rattle.std.proofs.Common.{ℕ, ◌≡◌, [], ◌∷◌, true, false, refl, sym, ap, ◌∙◌, subst, arith}
-use Rattle.product_reduce.proofs.Shared.{represents_kids, represents_without, removed, is_transparent_power, base_of, num_one, Tree, Trees, none, more, count, nth, plain, children_of, Forest, arity}
-use Rattle.product_reduce.proofs.Shared.{kids, with_root_kids, tree_nth, without_nth, IsOnce, AllOnce, IsHanded, IsOwned, Represents, Ends, KeepsFront, has_root, root_tree, without_root, put}
-use Rattle.product_reduce.proofs.Shared.{all-without_nth, arity-without_nth, behind_first, front_same, front_put, front_end, front_without, represents_handed, root-put, kids-put, exponent_of}
-use Rattle.product_reduce.proofs.{Shared.{IsBeside, IsSplit, without_put}, Beside.{beside_as, beside_root, beside_tree, beside_without, taken_beside}}
-use Rattle.tree_handles.proofs.{Plains.{count-plains, children_of-plain}, Over.{tree_put}}
+use Rattle.product_reduce.proofs.Shared.{ℕ, ◌≡◌, [], ◌∷◌, true, false, refl, sym, ap, ◌∙◌, subst, arith, represents_kids, represents_without, removed, is_transparent_power, base_of, num_one, Tree}
+use Rattle.product_reduce.proofs.Shared.{Trees, none, more, count, nth, plain, children_of, Forest, arity, kids, with_root_kids, tree_nth, without_nth, IsOnce, AllOnce, IsHanded, IsOwned, Represents}
+use Rattle.product_reduce.proofs.Shared.{Ends, KeepsFront, has_root, root_tree, without_root, put, all-without_nth, arity-without_nth, behind_first, front_same, front_put, front_end, front_without}
+use Rattle.product_reduce.proofs.{Shared.{represents_handed, root-put, kids-put, exponent_of, IsBeside, IsSplit, without_put, count-plains, children_of-plain, tree_put}, Beside.{beside_as}}
+use Rattle.product_reduce.proofs.Beside.{beside_root, beside_tree, beside_without, taken_beside}
 
 -- ---- powers that are not opaque, and other factors
 

@@ -1,11 +1,9 @@
 -- Where what holds the factors one by one is little, a coefficient goes into the terms of a sum without an overflow.
-use Rattle.std.proofs.Common.{◌≡◌, ◌+◌, ℕ, List, [], true, false, Result, sym, subst, arith, append-nil}
-use Rattle.std.specs.Prelude.{IfErr}
-use Rattle.product_reduce.proofs.Shared.{Tree, num, add, Trees, none, more, has_undef, value, are_reduced, IsHeld, NamesPut, State, Overflow, Addend, IsPartHeld, OfOverflow, NumberFault, AreOthers}
-use Rattle.product_reduce.proofs.{Shared.{AreFactorsHeld, opened, others_in, IsCoefficient, SpreadingOverflows, AreFewBits, IsSumHeld}, GatheredCounts.{single_monic}, HeldFactors.{AreHeldApart}}
-use Rattle.product_reduce.proofs.{HeldProducts.{apart, sum_addends}, Stepped.{others_are}}
-use Rattle.tree_handles.specs.Causes.{IsCaused, Overflows}
-use Rattle.like_children.proofs.Fits.{rational_fits}
+use Rattle.product_reduce.proofs.Shared.{◌≡◌, ◌+◌, ℕ, List, [], true, false, sym, subst, arith, append-nil, IfErr, Tree, num, add, Trees, none, more, has_undef, value, are_reduced, IsHeld, NamesPut}
+use Rattle.product_reduce.proofs.Shared.{State, Overflow, Addend, IsPartHeld, OfOverflow, NumberFault, AreOthers, AreFactorsHeld, opened, others_in, IsCoefficient, SpreadingOverflows, AreFewBits}
+use Rattle.product_reduce.proofs.{Shared.{IsSumHeld, IsCaused, Overflows, rational_fits}, GatheredCounts.{single_monic}, HeldFactors.{AreHeldApart}, HeldProducts.{apart, sum_addends}}
+use Rattle.product_reduce.proofs.Stepped.{others_are}
+use Rattle.std.proofs.Common.{Result}
 use Rattle.calc_algebra.proofs.NumberClasses as numbers
 
 none_spreads : (ts : Trees) (e : Tree) (o : Overflow) (h l : ℕ) → are_reduced ts ≡ true → has_undef ts ≡ false → AreFactorsHeld ts h l → AreFewBits h l → IsCoefficient e (opened ts)

@@ -1,15 +1,12 @@
 -- From the handed product to its other factors, and from one answer to another.
-use Rattle.std.proofs.Common.{arith, ℕ, ◌≡◌, Result, true, false, refl, ap, ◌∙◌}
-use Rattle.std.specs.Prelude.{IfOk}
-use Rattle.product_reduce.proofs.Shared.{Tree, mult, Trees, none, more, is_mult, has_undef, are_rationals, are_reduced, NumberFault, plain, children_of, Forest, IsHanded, root_tree, Joining}
-use Rattle.product_reduce.proofs.Shared.{AreOthers, IfFinished, IfJoined, opened, others_in, IsProduct, factors_in, AllPartsOf, HasForm, parts_defined}
-use Rattle.product_reduce.proofs.{Finished.{opened_rationals, rationals_alone}, Forms.{others_no_numbers, others_none, opened_flat, opened_parts, others_parts}}
-use Rattle.like_children.proofs.Parts.{formed_reduced, reduced_formed}
+use Rattle.product_reduce.proofs.Shared.{arith, ℕ, ◌≡◌, true, false, refl, ap, ◌∙◌, IfOk, Tree, mult, Trees, none, more, is_mult, has_undef, are_rationals, are_reduced, NumberFault, plain}
+use Rattle.product_reduce.proofs.Shared.{children_of, Forest, IsHanded, root_tree, Joining, AreOthers, IfFinished, IfJoined, opened, others_in, IsProduct, factors_in, AllPartsOf, HasForm}
+use Rattle.product_reduce.proofs.{Shared.{parts_defined, formed_reduced, reduced_formed}, Finished.{opened_rationals, rationals_alone}, Forms.{others_no_numbers, others_none, opened_flat}}
+use Rattle.product_reduce.proofs.Forms.{opened_parts, others_parts}
+use Rattle.tree_handles.proofs.SmallLaws.{mult_is as mult_words}
+use Rattle.std.proofs.Common.{Result}
 
 -- ---- the handed product
-
-pub mult_words : (t : Tree) → is_mult t ≡ true → t ≡ mult (children_of t)
-mult_words t h = grind arith
 
 pub handed_product : {i : ℕ} {f : Forest} → IsHanded i f → is_mult (plain (root_tree i f)) ≡ true → IsProduct i f (factors_in i f)
 handed_product {i = i} {f = f} h m = record { handed = h; tree = mult_words (plain (root_tree i f)) m }

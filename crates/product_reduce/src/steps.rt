@@ -89,7 +89,7 @@ pub fn product_step(pool: &mut Pool, product: Handle) -> Result<Step, NumberFaul
 }
 
 /// A step on a coefficient and the other factors.
-#[tactic(auto, using(crate::proofs::Misfits::none_named, tree_handles::proofs::Outcomes::passed_on, coefficients::proofs::Lacks::refusal_lacks, crate::proofs::Rejoined::pair_lacks))]
+#[tactic(auto, using(crate::proofs::Misfits::none_named, calc_terms::proofs::SmallLaws::passed_on, coefficients::proofs::Lacks::refusal_lacks, crate::proofs::Rejoined::pair_lacks))]
 fn join_or_end(pool: &mut Pool, product: Handle, coefficient: Handle) -> Result<Step, NumberFault>
     requires stands { Stands pool.old }
     requires product { IsProduct product (forest pool.old) (factors_in product (forest pool.old)) }

@@ -1,11 +1,7 @@
 -- The tree under a root that is handed.
-use Rattle.std.proofs.Common.{◌≡◌, ◌≢◌, ℕ, ◌<◌, true, false, sym, ap, ◌∙◌, arith, subst}
+use Rattle.radical_forms.proofs.Shared.{◌≡◌, ◌≢◌, ℕ, ◌<◌, true, false, sym, ap, ◌∙◌, arith, subst, Tree, undef, root, is_num, is_undef, is_root, root_kind, count, State, plain, nth, children_of}
+use Rattle.radical_forms.proofs.Shared.{IsExpression, arity, IsHanded, tree_of, kids_of, tree_at, Stands, forest, expression_root, plain_root, expression_children, argument_of}
 use Rattle.calc_terms.specs.declared.kind.Kind.TheVariants as kind
-use Rattle.calc_terms.specs.Trees.{Tree, undef, root, is_num, is_undef, is_root, root_kind, count}
-use Rattle.node_pool.specs.State.{State}
-use Rattle.tree_handles.specs.{Expressions.{plain, nth, children_of, IsExpression}, Forest.{arity}, Handed.{IsHanded, tree_of}, Inside.{kids_of, tree_at}, Standing.{Stands, forest}}
-use Rattle.tree_handles.proofs.{Lasts.{expression_root, plain_root}, Readings.{expression_children}}
-use Rattle.radical_forms.specs.RootAnswers.{argument_of}
 
 -- a root is over its argument
 pub root_is : (t : Tree) → is_root t ≡ true → t ≡ root (argument_of t)

@@ -1,11 +1,8 @@
 -- Numbers that no bits hold are rationals.
-use Rattle.std.proofs.{Common.{◌≡◌, ◌≢◌, ℕ, ◌*◌, ◌^◌, ◌≤◌, ◌<◌, [], ◌∷◌, length, true, refl, sym, ap, ◌∙◌, subst, arith}, lemmas.Nat.{mul-le}}
-use Rattle.calc_algebra.proofs.NumberClasses.{one_not_zero}
-use Rattle.calc_algebra.specs.{Numbers.{IsNumber, IsRadicand, value, natural_of, terms_of, term_of}, Surds.{Term, Surd}}
-use Rattle.calc_bits.proofs.Parts.{term_held}
-use Rattle.calc_bits.specs.{Denominators.{Parts, magnitude_over}, Masses.{mass, IsHeld}}
-use Rattle.calc_terms.specs.{Fractions.{Fraction, zero_fraction}, Trees.{Tree, num, add, mult, root, none, more, is_num}}
-use Rattle.surd_bits.proofs.Bounds.{magnitude_positive}
+use Rattle.radical_forms.proofs.Shared.{◌≡◌, ◌≢◌, ℕ, ◌*◌, ◌^◌, ◌≤◌, ◌<◌, [], ◌∷◌, true, refl, sym, ap, ◌∙◌, subst, arith, mul-le, one_not_zero, IsNumber, IsRadicand, value, natural_of, terms_of, Term}
+use Rattle.radical_forms.proofs.Shared.{Surd, term_held, Parts, magnitude_over, mass, IsHeld, Fraction, zero_fraction, Tree, num, add, mult, root, none, more, is_num, magnitude_positive}
+use Rattle.std.proofs.Common.{length}
+use Rattle.calc_algebra.specs.Numbers.{term_of}
 
 one_denominator : (d : ℕ) → 0 < d → d ≤ 2 ^ 0 → d ≡ 1
 one_denominator d o l = omega arith

@@ -4,3 +4,4 @@ pub mod Spanned
 pub mod RootBits
 pub mod RootValues
 pub mod HeldRationals
+mod Shared

@@ -1,19 +1,11 @@
 -- Roots of rationals that have few bits fit, and are no larger than the rationals.
-use Rattle.std.proofs.Common.{arith, ◌≡◌, ◌≢◌, [], ◌∷◌, Bool, true, false, Result, Some, None, pos, ◌<ℤ◌, if◌then◌else◌, sym, ap, ◌∙◌, subst}
-use Rattle.std.specs.Prelude.{IfErr}
-use Rattle.calc_algebra.specs.{Numbers.{is_term, term_of, value}, Surds.{Term, Surd, surd_of}}
-use Rattle.calc_algebra.proofs.NumberLaws.{term_words}
-use Rattle.calc_bits.specs.{Bounds.{HasFewBits}, Masses.{IsHeld}}
-use Rattle.calc_terms.specs.{Fractions.{Fraction, zero_fraction, whole_fraction}, Ratio.{Ratio}, Trees.{Tree, num, is_num}}
-use Rattle.calc_terms.proofs.FractionFacts.{zero_test, whole_numerator}
-use Rattle.number_forms.proofs.Shaped.{term_value}
-use Rattle.radical_forms.specs.{RootAnswers.{IfRational}, Refusals.{HasWideRoot, IsOverflow}}
+use Rattle.radical_forms.proofs.Shared.{arith, ◌≡◌, ◌≢◌, [], ◌∷◌, Bool, true, false, Some, None, pos, ◌<ℤ◌, sym, ap, ◌∙◌, subst, IfErr, is_term, value, Term, Surd, surd_of, term_words, HasFewBits}
+use Rattle.radical_forms.proofs.Shared.{IsHeld, Fraction, whole_fraction, Ratio, Tree, num, is_num, zero_test, whole_numerator, term_value, IfRational, HasWideRoot, IsOverflow, Mul, root_no_larger}
+use Rattle.radical_forms.proofs.Shared.{no_root_no_larger, root_fits, parts_of, IsNoLargerThanRoot, Calculation, calculation, does_fit, first_misfit, IsRootTerm, OfOverflow, NumberFault}
 use Rattle.radical_forms.proofs.RootLaws.{zero_value, not_above_zero}
-use Rattle.rational128.specs.declared.overflow.Op.TheVariants.{Mul}
-use Rattle.surd_bits.proofs.{Rooted.{root_no_larger, no_root_no_larger}, RootsFit.{root_fits}}
-use Rattle.surd_bits.specs.{Proper.{parts_of}, Rooted.{IsNoLargerThanRoot}}
-use Rattle.surd_terms.specs.{Calculations.{Calculation, calculation, does_fit, first_misfit}, SquareRoots.{IsRootTerm}}
-use Rattle.tree_handles.specs.{Faults.{OfOverflow}, declared.fault.NumberFault.{NumberFault}}
+use Rattle.std.proofs.Common.{Result, if◌then◌else◌}
+use Rattle.calc_algebra.specs.Numbers.{term_of}
+use Rattle.calc_terms.specs.Fractions.{zero_fraction}
 
 not_zero : (q : Fraction) → pos 0 <ℤ q.num → q ≢ zero_fraction
 unfolding zero_fraction

@@ -1,28 +1,14 @@
 -- What each root of a reduced tree reduces to.
-use Rattle.std.proofs.{Common.{◌≡◌, ◌≢◌, ◌==◌, ℕ, ◌<◌, ◌≤◌, Bool, true, false, ℤ, pos, ◌<ℤ◌, [], ◌∷◌, inl, inr, refl, sym, ap, ◌∙◌, subst, arith}, lemmas.Bool.{eqb-true, eq-eqb}, lemmas.Int.{ints}}
-use Rattle.std.specs.{Prelude.{List, length, Result, Err, if◌then◌else◌}, Result.{IsErrAnd}}
-use Rattle.calc_terms.specs.{Fractions.{Fraction, zero_fraction, one_fraction, is_one_fraction, whole_fraction}, Integers.{int_is_negative, int_is_zero}, Trees.{Tree, num, symbol, undef, root, names}}
-use Rattle.calc_terms.specs.Trees.{is_num, is_undef, itself, in_root}
-use Rattle.calc_terms.proofs.FractionFacts.{one_is}
-use Rattle.calc_algebra.specs.{Clean.{IsClean}, Meanings.{IsRootOf}, Numbers.{is_number, is_term, term_of, value, IsTerm}, Reduced.{is_reduced, IsReduced}, SquareClasses.{Same}}
-use Rattle.calc_algebra.specs.{Surds.{Term, Surd, surd_of}, Rewritings.{HasNoNewName}}
-use Rattle.calc_measures.specs.Loads.{nest, load}
-use Rattle.calc_algebra.proofs.{NumberLaws.{number_test, number_words, term_words}, MeaningRewrites.{KeepsMeanings}, NumberRewrites.{root_of_rational}, ReducedLaws.{reduced_test, reduced_words}}
-use Rattle.calc_algebra.proofs.{TermLaws.{Same-eq}, UndefRewrites.{undef_part, root_of_negative}, Rewritings.{keeps, Rewrites-refl}}
-use Rattle.number_forms.proofs.{Placings.{rational_term, root_term, multiple_term, one_test}, Shaped.{term_number, term_value}, TermTrees.{rational_tree, root_tree, multiple_tree}}
-use Rattle.number_forms.specs.Shapes.{term_tree}
-use Rattle.radical_forms.specs.{RootAnswers.{has_no_root, IsRootAnswer}, Refusals.{HasWideRoot, LacksRoot, IsOverflow}}
-use Rattle.tree_handles.specs.{Faults.{IfOverflow}, Building.{building}, declared.fault.NumberFault.{NumberFault}}
-use Rattle.node_pool.specs.declared.full.Full.{Full}
-use Rattle.rational128.specs.{Refusals.{DoesNotFit}, declared.overflow.Op.TheVariants.{Mul}, declared.overflow.Overflow.{Overflow}}
+use Rattle.radical_forms.proofs.Shared.{number_load, no_names, ◌≡◌, ◌≢◌, ◌==◌, ℕ, ◌<◌, ◌≤◌, Bool, true, false, ℤ, pos, ◌<ℤ◌, [], ◌∷◌, inl, inr, refl, sym, ap, ◌∙◌, subst, arith, eqb-true, eq-eqb}
+use Rattle.radical_forms.proofs.Shared.{ints, Err, IsErrAnd, Fraction, zero_fraction, one_fraction, is_one_fraction, whole_fraction, int_is_negative, int_is_zero, Tree, num, undef, root, names}
+use Rattle.radical_forms.proofs.Shared.{is_num, is_undef, itself, in_root, one_is, IsClean, IsRootOf, is_term, value, IsTerm, is_reduced, IsReduced, Same, Term, Surd, surd_of, HasNoNewName, nest}
+use Rattle.radical_forms.proofs.Shared.{load, number_test, number_words, term_words, KeepsMeanings, root_of_rational, reduced_test, reduced_words, Same-eq, undef_part, root_of_negative, Rewrites-refl}
+use Rattle.radical_forms.proofs.Shared.{keeps, rational_term, root_term, multiple_term, one_test, term_number, term_value, rational_tree, root_tree, multiple_tree, term_tree, has_no_root}
+use Rattle.radical_forms.proofs.Shared.{IsRootAnswer, HasWideRoot, LacksRoot, IsOverflow, IfOverflow, building, NumberFault, Full, DoesNotFit, Mul, Overflow, lt_z}
+use Rattle.number_forms.proofs.ListedTerms.{two as two_or_more}
+use Rattle.std.specs.Prelude.{length, Result, if◌then◌else◌}
+use Rattle.calc_algebra.specs.Numbers.{is_number, term_of}
 use Rattle.tree_handles.specs.declared.fault.NumberFault.TheVariants as fault
-use lib.Signed.{lt_z}
-
-no_names : (t u : Tree) → names u ≡ [] → HasNoNewName t u
-no_names t u e = record { name = λ x c. absurd (let f : length (names u) ≡ 0 = ap length e in let k : c.0 < length (names u) = c.1 in omega arith) }
-
-number_load : (t : Tree) → is_number t ≡ true → load t ≡ 0
-number_load t h = rw h refl
 
 undef_load : load undef ≡ 0
 unfolding is_number
@@ -141,19 +127,7 @@ named_overflow r o P h k = grind arith
 
 -- ---- leaves
 
-pub number_reduced : (q : Fraction) → is_reduced (num q) ≡ true
-number_reduced q = reduced_test (num q) (inr (inl tt))
-
-pub symbol_reduced : (x : List ℕ) → is_reduced (symbol x) ≡ true
-symbol_reduced x = reduced_test (symbol x) (inr (inr tt))
-
-pub undef_reduced : is_reduced undef ≡ true
-undef_reduced = reduced_test undef (inl refl)
-
 -- ---- the tree of a term
-
-two_or_more : (n : ℕ) → 1 ≤ n → n ≢ 1 → 2 ≤ n
-two_or_more n l h = grind arith
 
 pub term_tree_is : (s : Term) → s.coefficient ≢ zero_fraction → 1 ≤ s.radicand → IsClean s.radicand → (is_term (term_tree s) ≡ true) × (term_of (term_tree s) ≡ s)
 term_tree_is s z p c = by (s.radicand == 1) refl (is_one_fraction s.coefficient) refl

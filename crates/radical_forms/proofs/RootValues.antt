@@ -1,11 +1,9 @@
 -- The root of a rational, as the Number that it is.
-use Rattle.std.proofs.Common.{◌≡◌, ℕ, suc, ◌*◌, ◌≤◌, zero, ℤ, pos, negsuc, Bool, true, false, if◌then◌else◌, [], ◌∷◌, length, refl, ap, ◌∙◌, arith}
-use Rattle.calc_algebra.proofs.{InverseLaws.{Same-times_zero}, MeaningLaws.{Same-sym}, NumberClasses.{number_zero, number_short}, NumberLaws.{number_words}, NumberRewrites.{number_value}}
-use Rattle.calc_algebra.proofs.{PowerLaws.{root_squared, root_zero, surd_of_zero, zero_surd_of}, SquareClassLaws.{Same-trans}, TermLaws.{Same-refl, Same-eq}}
-use Rattle.calc_algebra.specs.{Meanings.{IsRootOf, IsRoot}, Numbers.{IsNumber, value, classes}, SquareClasses.{Same}, Surds.{Surd, term, surd_of}}
-use Rattle.calc_terms.proofs.FractionFacts.{zero_is, whole_numerator}
-use Rattle.calc_terms.specs.{Fractions.{Fraction, lowest, zero_fraction, is_zero_fraction}, Integers.{int_is_negative, int_is_zero}, Trees.{Tree, num}}
-use Rattle.radical_forms.specs.RootAnswers.{IsRootAnswer}
+use Rattle.radical_forms.proofs.Shared.{◌≡◌, ℕ, suc, ◌*◌, ◌≤◌, zero, ℤ, pos, negsuc, Bool, true, false, [], ◌∷◌, refl, ap, ◌∙◌, arith, Same-times_zero, Same-sym, number_zero, number_short}
+use Rattle.radical_forms.proofs.Shared.{number_words, number_value, root_squared, root_zero, surd_of_zero, zero_surd_of, Same-trans, Same-refl, Same-eq, IsRootOf, IsRoot, IsNumber, value, classes}
+use Rattle.radical_forms.proofs.Shared.{Same, Surd, term, surd_of, zero_is, whole_numerator, Fraction, lowest, zero_fraction, is_zero_fraction, int_is_negative, int_is_zero, Tree, num, IsRootAnswer}
+use Rattle.calc_terms.proofs.SmallLaws.{zero_is_zero as zero_test}
+use Rattle.std.proofs.Common.{if◌then◌else◌, length}
 
 root_value : (z : ℤ) (d : ℕ) → int_is_negative z ≡ false → (v : Surd) × IsRootOf z d v × (length v ≤ 2)
 root_value (pos zero) d h = ([], Same-refl [], omega arith)
@@ -17,10 +15,6 @@ pub record IsOfRoot (p : Fraction) (r : Tree) : Type 0 where
   pub few : classes r ≤ 2
   pub zero_of_zero : is_zero_fraction p ≡ true → r ≡ num zero_fraction
   pub zero_only : r ≡ num zero_fraction → is_zero_fraction p ≡ true
-
-zero_test : is_zero_fraction zero_fraction ≡ true
-unfolding zero_fraction
-zero_test = ap int_is_zero (whole_numerator (pos 0))
 
 zero_value : value (num zero_fraction) ≡ []
 zero_value = ap (λ (b : Bool). if b then [] else surd_of zero_fraction) zero_test

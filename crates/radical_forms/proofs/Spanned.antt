@@ -1,15 +1,7 @@
 -- What spans the root of a reduced tree spans what it reduces to.
-use Rattle.std.proofs.Common.{◌≡◌, ◌*◌, ◌<◌, ℕ, ℤ, pos, ◌<ℤ◌, List, [], ◌∷◌, false, Result, sym, subst, arith}
-use Rattle.std.specs.Prelude.{IfOk}
-use Rattle.calc_terms.specs.{Fractions.{Fraction, mul_pos, den_pos}, Trees.{Tree, num, root}}
-use Rattle.calc_algebra.specs.Numbers.{natural_of}
-use Rattle.calc_algebra.proofs.{NumberLaws.{number_words}, ReducedLaws.{undef_words}}
-use Rattle.calc_room.specs.Spans.{SpansTree}
-use Rattle.calc_room.proofs.NumberSpans.{root_spanned, spanned_itself}
-use Rattle.node_pool.specs.State.{State}
-use Rattle.radical_forms.specs.RootAnswers.{has_no_root, IsRootAnswer}
-use Rattle.tree_handles.specs.{Forest.{Forest}, Handed.{tree_of, Gives}, Standing.{forest}, declared.fault.NumberFault.{NumberFault}}
-use Rattle.tree_handles.proofs.Given.{given_told}
+use Rattle.radical_forms.proofs.Shared.{◌≡◌, ◌*◌, ◌<◌, ℕ, ℤ, pos, ◌<ℤ◌, List, [], ◌∷◌, false, sym, subst, arith, IfOk, Fraction, mul_pos, den_pos, Tree, num, root, natural_of, number_words}
+use Rattle.radical_forms.proofs.Shared.{undef_words, SpansTree, root_spanned, spanned_itself, State, has_no_root, IsRootAnswer, Forest, tree_of, Gives, forest, NumberFault, given_told}
+use Rattle.std.proofs.Common.{Result}
 
 with_root : (gs : List ℕ) (a t : Tree) → IsRootAnswer a t → has_no_root a ≡ false → SpansTree gs (root a) → SpansTree gs t
 with_root gs a t h e s = grind (arith, root_spanned, number_words)

@@ -34,9 +34,6 @@ quotients_coprime a b g positive h = IsCoprime-from_gcd _ _ (divided a b g (pos_
 pub factor_divides : (g k n : ℕ) → g * k ≡ n → k ∣ n
 factor_divides g k n e = subst (λ m. k ∣ m) e (dvd-mul_left k g)
 
-pub positive_factor : (g k n : ℕ) → g * k ≡ n → 0 < n → 0 < k
-positive_factor g k n e h = grind arith
-
 -- ---- signed numbers
 
 abs_multiple : (k : ℤ) (d : ℕ) → d ∣ nat_abs (k *ℤ pos d)

@@ -11,3 +11,4 @@ pub mod FractionPowers
 pub mod Reciprocals
 pub mod Shorts
 mod Shared
+pub mod SmallLaws

@@ -1,9 +1,6 @@
 -- Fractions by their parts in lowest terms.
-use Rattle.rational128.proofs.Shared.{◌≡◌, ℕ, ◌<◌, ℤ, pos, ◌*ℤ◌, Bool, true, ◌&&◌, refl, sym, ap, ◌∙◌, subst, arith, nat_abs, IsGcd, lt-ltb, eq-eqb, eqb-true, same_from_IsGcd, one-dvd, gcd_is}
-use Rattle.rational128.proofs.{Shared.{Fraction, Holds, is_lowest, lowest, second_held, lowest_parts, same_lowest, fraction_path, Rat, ratio_of, value_of}, Coprime.{IsCoprime, IsCoprime-from_gcd}}
-
-holds : (b : Bool) → b ≡ true → Holds b
-holds b e = grind arith
+use Rattle.rational128.proofs.Shared.{holds, ◌≡◌, ℕ, ◌<◌, ℤ, pos, ◌*ℤ◌, Bool, true, ◌&&◌, refl, sym, ap, ◌∙◌, subst, arith, nat_abs, IsGcd, lt-ltb, eq-eqb, eqb-true, same_from_IsGcd, gcd_is, Fraction}
+use Rattle.rational128.proofs.{Shared.{Holds, is_lowest, lowest, second_held, lowest_parts, same_lowest, fraction_path, Rat, ratio_of, value_of}, Coprime.{IsCoprime, IsCoprime-from_gcd}}
 
 -- what `is_lowest` tests
 pub is_lowest_from : (n : ℤ) (d : ℕ) → 0 < d → IsGcd (nat_abs n) d 1 → is_lowest n d ≡ true
@@ -44,10 +41,6 @@ fraction_coprime f = IsCoprime-from_gcd _ _ (subst (λ g. IsGcd (nat_abs f.num) 
 -- a rational that is made of numbers in lowest terms has them as the parts of its value
 pub made_parts : (r : Rat) (n' n : ℤ) (d' d : ℕ) → ratio_of r ≡ record { num = n'; den = d' } → n' ≡ n → d' ≡ d → is_lowest n d ≡ true → HasParts (value_of r) n d
 made_parts r n' n d' d e h k l = grind (arith, parts_themselves)
-
--- a whole number is its own numerator, over 1
-whole_parts : (n : ℤ) → HasParts (lowest n 1) n 1
-whole_parts n = parts_themselves n 1 (is_lowest_from n 1 (omega arith) (one-dvd (nat_abs n), one-dvd 1, λ d dn d1. d1))
 
 -- what a rational shows are the parts of its value
 pub ratio_parts : (r : Rat) → HasParts (value_of r) (ratio_of r).num (ratio_of r).den

@@ -26,7 +26,7 @@ unfit_square b e p s k h l m = grind (arith, power_grows)
 halves : (s k : ℕ) → (s * s) ^ k ≡ s ^ (k + k)
 halves s k = mul-pow s s k ∙ sym (pow-add s k k)
 
-positive_product : (p s : ℕ) → 1 ≤ p → 1 ≤ s → 1 ≤ p * s
+pub positive_product : (p s : ℕ) → 1 ≤ p → 1 ≤ s → 1 ≤ p * s
 positive_product p s h k = mul-le 1 1 p s h k
 
 -- a turn halves what is left

@@ -1,7 +1,7 @@
 -- The product of two fractions, after each numerator and the other denominator are divided by what they share.
 use Rattle.rational128.proofs.Shared.{◌≡◌, ℕ, ◌*◌, ◌/◌, ◌<◌, ◌^◌, ℤ, pos, ◌*ℤ◌, true, false, refl, sym, ap, ◌∙◌, subst, arith, nat_abs, IsGcd, ◌∣◌, unsigned_abs-mul, mul-div_cancel'}
-use Rattle.rational128.proofs.{Shared.{pos_of_dvd_of_pos, parts, diffs, eq_diff, Fraction, times, lowest, over, over_back, over_abs, den_pos, mul_pos, fraction_fits}, Coprime.{IsCoprime}}
-use Rattle.rational128.proofs.Coprime.{IsGcd-from_coprime, IsCoprime-swap, IsCoprime-divisors, IsCoprime-mul, quotients_coprime, factor_divides, positive_factor}
+use Rattle.rational128.proofs.Shared.{pos_of_dvd_of_pos, parts, diffs, eq_diff, Fraction, times, lowest, over, over_back, over_abs, den_pos, mul_pos, fraction_fits, positive_factor}
+use Rattle.rational128.proofs.Coprime.{IsCoprime, IsGcd-from_coprime, IsCoprime-swap, IsCoprime-divisors, IsCoprime-mul, quotients_coprime, factor_divides}
 use Rattle.rational128.proofs.{LowestTerms.{HasParts, parts_by_cross, fraction_coprime}, FitTests.{fits_no}}
 
 -- the numbers of two fractions, and the greatest common divisors of each numerator and the other denominator

@@ -1,8 +1,8 @@
 -- The sum of two fractions over the greatest common divisor of their denominators.
 use Rattle.rational128.proofs.Shared.{◌≡◌, ℕ, ◌*◌, ◌/◌, ◌<◌, ◌^◌, ℤ, pos, ◌+ℤ◌, ◌*ℤ◌, Bool, true, false, ◌&&◌, refl, sym, ap, ◌∙◌, subst, arith, nat_abs, IsGcd, ◌∣◌, ints, unsigned_abs-mul, dvd_refl}
 use Rattle.rational128.proofs.Shared.{dvd_trans, same_from_IsGcd, mul-div_cancel', dvd-mul_left, pos_of_dvd_of_pos, gcd_is, parts, diffs, eq_diff, combine, Fraction, plus, lowest, over, over_back}
-use Rattle.rational128.proofs.{Shared.{over_abs, den_pos, mul_pos, fits, sum_fits}, Coprime.{IsCoprime, IsGcd-from_coprime, IsCoprime-swap, IsCoprime-divisors, other_factor, IsCoprime-mul}}
-use Rattle.rational128.proofs.{Coprime.{quotients_coprime, dvd-difference, factor_divides, positive_factor}, FitTests.{fits_yes, fits_no}, LowestTerms.{HasParts, parts_by_cross, fraction_coprime}}
+use Rattle.rational128.proofs.{Shared.{over_abs, den_pos, mul_pos, fits, sum_fits, positive_factor}, Coprime.{IsCoprime, IsGcd-from_coprime, IsCoprime-swap, IsCoprime-divisors, other_factor}}
+use Rattle.rational128.proofs.{Coprime.{IsCoprime-mul, quotients_coprime, dvd-difference, factor_divides}, FitTests.{fits_yes, fits_no}, LowestTerms.{HasParts, parts_by_cross, fraction_coprime}}
 
 -- p*s + r*q has no divisor in common with q, where p and s have none
 sum_coprime : (p r : ℤ) (q s : ℕ) → IsCoprime (nat_abs p) q → IsCoprime s q → IsCoprime (nat_abs (p *ℤ pos s +ℤ r *ℤ pos q)) q
@@ -14,7 +14,7 @@ sum_coprime p r q s h k = record { common = common }
         let left : d ∣ nat_abs p * s = subst (λ n. d ∣ n) (unsigned_abs-mul p (pos s)) (dvd-difference d (p *ℤ pos s) (r *ℤ pos q) dz right) in
         h.common d (other_factor d s (nat_abs p) (IsCoprime-divisors s q s d (dvd_refl s) dq k) left) dq
 
-same_factor : (h a b : ℕ) → 0 < h → h * a ≡ h * b → a ≡ b
+pub same_factor : (h a b : ℕ) → 0 < h → h * a ≡ h * b → a ≡ b
 same_factor h a b positive e = grind arith
 
 -- w*h = p*s + r*q makes w/(k*q*s) the sum of p/(h*k*q) and r/(h*k*s)

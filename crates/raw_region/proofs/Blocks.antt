@@ -5,21 +5,17 @@
 --     next_room, grown      the first byte of the room is taken out, and joins the bytes once it is written
 --     Rest, back      what stays while the bytes are lent, and the block once they are back
 --     shows_laws, Lends-block      a `&` to a block shows its bytes
-use Rattle.raw_region.proofs.Shared.{◌≡◌, ℕ, suc, ◌+◌, ◌-◌, ◌*◌, ◌^◌, ◌<◌, List, [], ◌∷◌, ◌++◌, length, refl, sym, ap, ◌∙◌, arith, full_share, ftrue}
-use Rattle.raw_region.proofs.Shared.{froom, ty_array, u8, cell_at, mem, cells, rewritten, Ptr, block_ptr, bytes, elements_shared, byte, block_owns, block_shows, Val, vstruct, vcons, vnil, emp}
-use Rattle.raw_region.proofs.Shared.{sem, ◌⊛◌, ◌$◌, ◌∵◌, qed, move, by, use1, split, drop, rewrite, fsplit, fjoin, feq_l, flt_i, RattleType, param, RawPtr, nothing, usize}
-use Rattle.raw_region.proofs.Shared.{hidden_shr, hide, unhide, flt_l, use0, keep, copy_shared, field_copy, Struct, Ghosts}
+use Rattle.raw_region.proofs.Shared.{◌≡◌, ℕ, suc, ◌+◌, ◌-◌, ◌*◌, ◌^◌, ◌<◌, List, [], ◌∷◌, ◌++◌, length, refl, sym, ap, ◌∙◌, arith, full_share, ftrue, froom, ty_array, u8, cell_at, mem, cells}
+use Rattle.raw_region.proofs.Shared.{rewritten, Ptr, block_ptr, bytes, elements_shared, byte, block_owns, block_shows, Val, vstruct, vcons, vnil, emp, sem, ◌⊛◌, ◌$◌, ◌∵◌, qed, move, by, use1, split}
+use Rattle.raw_region.proofs.Shared.{drop, rewrite, fsplit, fjoin, feq_l, flt_i, RattleType, param, RawPtr, nothing, usize, hidden_shr, hide, unhide, flt_l, use0, keep, copy_shared, field_copy}
+use Rattle.raw_region.proofs.Shared.{Struct, Ghosts, Ura, Lft, Fml, ffalse, fsep, fat, ent, sep, Ty, Args, Dict, a_type, dcons, dnil, w8, w64, vint, of_list, Logic, Item, Goal, Seq, ‵, !, fpick}
+use Rattle.raw_region.proofs.Shared.{fpack, done, part_at, shared_of, whole_out, null_ptr, ptr_val, ptr_row_laws, ShrLaws, said, beside_shr_laws, said_shr_laws, elements_shr_laws, Shares}
+use Rattle.raw_region.proofs.Shared.{uint_row_laws, uint_in, Lends, Lends-both, Lends-first, Lends-nothing, Lends-said, Lends-false, bounded, bytes_glue, makes_shadow, shr_dup, RowLaws}
+use Rattle.raw_region.proofs.Shared.{Struct-row_laws, shape, fits, capped_is, size, capped, size-raw}
 use Rattle.std.proofs.Common.{length-append}
-use seplogic.Ra.Ura.{Ura}
-use base.{Fml.{Lft, Fml, ffalse, fsep, fat}, Logic.{ent, sep}}
-use mir.{Syntax.{Ty, Args, Dict, a_type, dcons, dnil, w8, w64}, Raw.raw as bare, Val.{vint, of_list}}
-use types.{Logic.Logic, Kit.{Item, Goal, Seq, ‵, !, fpick, fpack, done}}
-use denote.{Memory.{part_at, shared_of, part_of}, Index.whole_out, RawPtr.{null_ptr, ptr_val, ptr_row_laws}, Sharing.{ShrLaws, said}, SharingLaws.{beside_shr_laws, said_shr_laws}}
-use denote.{Slice.elements_shr_laws, Shares.Shares, Plain.{uint_row_laws, uint_in}, Struct.Lending.{Lends, Lends-both, Lends-first, Lends-nothing, Lends-said, Lends-false}, Param.bounded}
-use denote.{RawPtr.Bytes.bytes_glue, Shadow.makes_shadow, Opens.shr_dup, RattleType.RowLaws, Struct.Struct.Struct-row_laws, Struct.Owning.shape}
-use lib.{ListN.drop as drop_l, Seq.take_at}
-use Rattle.raw_region.specs.Blocks.{fits}
-use prog.{Capped.capped_is, Memory.{size, capped}, RawLaws.size-raw}
+use mir.{Raw.raw as bare}
+use denote.Memory.{part_of}
+use lib.{ListN.drop as drop_l, Seq.{take_at}}
 use Rattle.core.specs.contracts.marker.PhantomData as marker
 use Rattle.raw_region.specs.contracts.block.Block as block
 

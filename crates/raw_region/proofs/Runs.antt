@@ -1,16 +1,10 @@
 -- Runs of bytes, byte by byte.
-use Rattle.raw_region.proofs.Shared.{◌≡◌, ℕ, ◌+◌, ◌<◌, ◌≤◌, List, [], ◌∷◌, ◌++◌, length, take, refl, sym, ap, ◌∙◌, arith, drop-drop, length-drop, take-append-drop, take-add, put}
+use Rattle.raw_region.proofs.Shared.{◌≡◌, ℕ, ◌+◌, ◌<◌, ◌≤◌, List, [], ◌∷◌, ◌++◌, length, take, sym, ap, ◌∙◌, arith, drop-drop, length-drop, take-append-drop, take-add, put}
 use Rattle.std.proofs.{Math.ListN.set, Common.{drop, get_or, drop-cons}, lemmas.List.{drop-set-add, drop-set-lt, length-set, take-set-le, take_all, take_more_set}}
 
 -- one byte more of a list
 more_of : (xs : List ℕ) (i : ℕ) → i < length xs → take (i + 1) xs ≡ take i xs ++ get_or xs i 0 ∷ []
 more_of xs i h = take-add i 1 xs ∙ ap (λ (l : List ℕ). take i xs ++ take 1 l) (drop-cons xs i 0 h)
-
-byte_behind : (xs : List ℕ) (at i : ℕ) → at + i < length xs → get_or (drop at xs) i 0 ≡ get_or xs (at + i) 0
-byte_behind xs at i h = grind (arith, drop-drop, drop-cons, length-drop)
-
-pub loaded_more : (run xs : List ℕ) (at i x : ℕ) → i < length run → at + i < length xs → x ≡ get_or xs (at + i) 0 → take i run ≡ take i (drop at xs) → take (i + 1) (set run i x) ≡ take (i + 1) (drop at xs)
-loaded_more run xs at i x h k e r = grind (arith, take_more_set, byte_behind, more_of, length-drop)
 
 -- i bytes of a run are written from a place on
 pub record IsStored (i at : ℕ) (run old new : List ℕ) : Type 0 where
@@ -18,9 +12,6 @@ pub record IsStored (i at : ℕ) (run old new : List ℕ) : Type 0 where
   pub put_there : take i (drop at new) ≡ take i run
   pub behind : drop (at + i) new ≡ drop (at + i) old
   pub same : length new ≡ length old
-
-pub stored_none : (at : ℕ) (run old : List ℕ) → IsStored 0 at run old old
-stored_none at run old = record { before = refl; put_there = refl; behind = refl; same = refl }
 
 pub stored_more : (i at x : ℕ) (run old new : List ℕ) → i < length run → at + length run ≤ length old → x ≡ get_or run i 0 → IsStored i at run old new → IsStored (i + 1) at run old (set new (at + i) x)
 stored_more i at x run old new h k e s =

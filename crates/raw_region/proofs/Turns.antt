@@ -1,9 +1,7 @@
 -- Parts of a list that change places.
-use Rattle.raw_region.proofs.Shared.{List, ap, append_assoc, arith, length, refl, replicate, sym, take, ℕ, ◌++◌, ◌+◌, ◌-◌, ◌∙◌, ◌≡◌, ◌≤◌, drop-drop, drop-take}
-use Rattle.raw_region.proofs.Shared.{drop_at, length-append, length-drop, length-take-le, take-take, take_at, put, slid}
-use Rattle.std.proofs.{Common.drop, lemmas.List.{length-replicate, replicate-append-replicate, take-replicate}}
-use Rattle.raw_region.proofs.Slides.{put_over}
-use Rattle.raw_region.specs.Bytes.{cleared, rotated, switched}
+use Rattle.raw_region.proofs.Shared.{List, ap, append_assoc, arith, length, refl, replicate, sym, take, ℕ, ◌++◌, ◌+◌, ◌-◌, ◌∙◌, ◌≡◌, ◌≤◌, drop-drop, drop-take, drop_at, length-append, length-drop}
+use Rattle.raw_region.proofs.{Shared.{length-take-le, take-take, take_at, put, slid, length-replicate, replicate-append-replicate, take-replicate, cleared, rotated, switched}, Slides.{put_over}}
+use Rattle.std.proofs.Common.{drop}
 
 pub rotated_is : (xs ys : List ℕ) (a b c : ℕ) → a ≤ b → b ≤ c → ys ≡ drop (b - a) (take (c - a) (drop a xs)) ++ take (b - a) (take (c - a) (drop a xs)) → take a xs ++ (ys ++ drop (c - a) (drop a xs)) ≡ rotated xs a b c
 rotated_is xs ys a b c h k e =

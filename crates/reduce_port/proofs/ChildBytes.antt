@@ -1,22 +1,9 @@
 -- Free bytes where a child is taken out of a root, or is replaced by its own children.
-use Rattle.std.proofs.Common.{◌≡◌, ℕ, zero, suc, ◌+◌, ◌≤◌, ◌<◌, Bool, true, false, if◌then◌else◌, ap, arith}
-use Rattle.std.specs.Prelude.{◌==◌}
-use Rattle.calc_terms.proofs.Sizes.{payload_least}
-use Rattle.calc_terms.specs.Payload.{Payload, size_of_payload}
-use Rattle.node_pool.specs.State.{State, free_of}
-use Rattle.tree_handles.proofs.{Forests.{bytes_in-join, first-rest}, Places.{used_forest}}
-use Rattle.tree_handles.specs.{Forest.{Forest, empty, tree, join, arity, kids, bytes_in, first_trees, rest_trees, tree_nth, without_nth, merged_nth}, Handed.{Ends}, Roots.{has_root, root_tree, put}}
-use Rattle.tree_handles.specs.Standing.{Stands, forest, KeepsRefusals}
-
--- other children have other bytes
-put_bytes : (i : ℕ) (n f : Forest) → has_root i f ≡ true → bytes_in (put i n f) + bytes_in (kids (root_tree i f)) ≡ bytes_in f + bytes_in n
-put_bytes i n empty h = cc
-put_bytes i n (tree l k r) h = by (l.id == i) h (put_bytes i n r)
-  where
-    by : (b : Bool) → (if b then true else has_root i r) ≡ true → (has_root i r ≡ true → bytes_in (put i n r) + bytes_in (kids (root_tree i r)) ≡ bytes_in r + bytes_in n)
-        → bytes_in (if b then tree l n r else tree l k (put i n r)) + bytes_in (kids (if b then tree l k empty else root_tree i r)) ≡ bytes_in (tree l k r) + bytes_in n
-    by true e g = omega arith
-    by false e g = omega (arith, g e)
+use Rattle.reduce_port.proofs.Shared.{◌≡◌, ℕ, zero, suc, ◌+◌, ◌≤◌, ◌<◌, Bool, true, false, if◌then◌else◌, ap, arith, ◌==◌, payload_least, Payload, size_of_payload, State, free_of, bytes_in-join}
+use Rattle.reduce_port.proofs.Shared.{first-rest, used_forest, Forest, empty, tree, join, arity, kids, bytes_in, first_trees, rest_trees, tree_nth, without_nth, merged_nth, Ends, has_root, root_tree}
+use Rattle.reduce_port.proofs.Shared.{put, Stands, forest, KeepsRefusals}
+use Rattle.calc_terms.proofs.Sizes.{payload_least as node_bytes}
+use Rattle.tree_handles.proofs.Filling.{bytes_put as put_bytes}
 
 -- the first trees, the one at a place and those behind it
 nth_bytes : (n : ℕ) (f : Forest) → bytes_in (first_trees n f) + bytes_in (tree_nth n f) + bytes_in (rest_trees 1 (rest_trees n f)) ≡ bytes_in f
@@ -40,9 +27,6 @@ taken_free {s = s} {t = t} i n a b r o d =
       bytes_in-join (first_trees n k) (rest_trees 1 (rest_trees n k)),
       nth_bytes n k,
     )
-
-node_bytes : (x : Payload) → 8 ≤ size_of_payload x
-node_bytes x = payload_least x
 
 root_bytes : (n : ℕ) (f : Forest) → n < arity f → 8 + bytes_in (kids (tree_nth n f)) ≤ bytes_in (tree_nth n f)
 root_bytes n empty l = absurd (omega arith)

@@ -1,4 +1,4 @@
 pub mod Filling
 pub mod Leaves
-pub mod Faults
 pub mod ChildBytes
+mod Shared

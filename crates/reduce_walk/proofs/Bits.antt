@@ -1,7 +1,5 @@
 -- The bits of a child are at most those of its parent.
-use Rattle.std.proofs.Common.{◌≡◌, ◌≤◌, ap, arith}
-use Rattle.reduce_walk.proofs.Shared.{Tree, Trees, none, more, append, children_of}
-use Rattle.calc_measures.specs.Measures.{bits_of, most_bits, most_bits_of}
+use Rattle.reduce_walk.proofs.Shared.{◌≡◌, ◌≤◌, ap, arith, Tree, Trees, none, more, append, children_of, bits_of, most_bits, most_bits_of}
 
 pub own_bits : (t : Tree) → bits_of t ≤ most_bits t
 own_bits t = grind arith

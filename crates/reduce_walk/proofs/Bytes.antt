@@ -1,10 +1,9 @@
 -- The free bytes while a child is walked.
-use Rattle.std.proofs.Common.{◌≡◌, ℕ, suc, ◌+◌, ◌≤◌, List, true, refl, sym, ap, ◌∙◌, arith}
-use Rattle.reduce_walk.proofs.Shared.{Payload, size_of_payload, Tree, num, Trees, more, append, count, root_size, size, sizes, State, free_of, bytes_in-join, gives, gives_as, represents_handed}
-use Rattle.reduce_walk.proofs.Shared.{last_tree, size-plain, sizes-plains, root_arity, children_of, plain, takes, Forest, bytes_in, join, tree, Ends, Gives, IsHanded, tree_of, root_tree, without_root}
-use Rattle.reduce_walk.proofs.{Shared.{KeepsRefusals, Stands, forest}, Parents.{handed_node, held_at}, Walks.{IsNextChild, IsWalked, count_append}}
+use Rattle.reduce_walk.proofs.Shared.{◌≡◌, ℕ, suc, ◌+◌, ◌≤◌, List, true, refl, sym, ap, ◌∙◌, arith, Payload, size_of_payload, Tree, num, Trees, more, append, count, root_size, size, sizes, State}
+use Rattle.reduce_walk.proofs.Shared.{free_of, bytes_in-join, gives, gives_as, represents_handed, last_tree, size-plain, sizes-plains, root_arity, children_of, plain, takes, Forest, bytes_in, join}
+use Rattle.reduce_walk.proofs.Shared.{tree, Ends, Gives, IsHanded, tree_of, root_tree, without_root, KeepsRefusals, Stands, forest, count_append, replaced_free, bytes_without, used_forest}
+use Rattle.reduce_walk.proofs.{Parents.{handed_node, held_at}, Walks.{IsNextChild, IsWalked}}
 use Rattle.breakers.specs.State.{State as BreakerState}
-use Rattle.tree_handles.proofs.{FreeBytes.{replaced_free, bytes_without}, Places.{used_forest}}
 
 -- a node with children
 parent_bytes : (x : Payload) (n : ℕ) → takes x (suc n) ≡ true → size_of_payload x ≡ 8

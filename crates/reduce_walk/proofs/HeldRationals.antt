@@ -1,11 +1,6 @@
 -- Rationals that a pool holds as roots fit.
-use Rattle.std.proofs.Common.{◌≡◌, ℕ, true, refl, arith, eqb, cond, subst}
-use Rattle.calc_terms.specs.{Fits.{fraction_fits}, Fractions.{Fraction}, Payload.{IsPayload}, Trees.{num}}
-use Rattle.node_pool.proofs.Sizes.{AreNodes-right}
-use Rattle.node_pool.specs.{Nodes.{AreNodes}, State.{State}}
-use Rattle.rational128.proofs.{LowestTerms.{parts_themselves}, Products.{parts_fit}}
-use Rattle.tree_handles.proofs.Outcomes.{by_test}
-use Rattle.tree_handles.specs.{Expressions.{plain}, Forest.{Forest, empty, tree, flatten, root_payload}, Handed.{tree_of}, Roots.{has_root, root_tree}, Standing.{Stands, forest}}
+use Rattle.reduce_walk.proofs.Shared.{◌≡◌, ℕ, true, refl, arith, eqb, cond, subst, fraction_fits, Fraction, IsPayload, num, AreNodes-right, AreNodes, State, parts_themselves, parts_fit, by_test}
+use Rattle.reduce_walk.proofs.Shared.{plain, Forest, empty, tree, flatten, root_payload, tree_of, has_root, root_tree, Stands, forest}
 
 -- what a root holds is valid
 valid_root : (i : ℕ) (f : Forest) → AreNodes (flatten f) → has_root i f ≡ true → IsPayload (root_payload (root_tree i f))

@@ -1,21 +1,14 @@
 -- A node's children as a walk comes to them, as long as they are leaves.
-use Rattle.std.proofs.Common.{◌≡◌, ℕ, zero, suc, ◌<◌, ◌≤◌, List, ◌∷◌, ◌++◌, map, true, refl, sym, ap, ◌∙◌, arith}
-use Rattle.calc_terms.specs.{Payload.{Payload, kind_of_payload}, Trees.{Tree, Trees, count, root_kind}}
-use Rattle.reduce_walk.proofs.Shared.{eqb-true, State, forest, IsExpression, AllExpressions, children_of, grown, nth, plain, plains, takes, Forest, empty, tree, arity, flatten, first_trees}
-use Rattle.reduce_walk.proofs.Shared.{rest_trees, node_of, kids_of, tree_at}
-use Rattle.reduce_walk.specs.Leaves.{is_leaf, is_leaf_kind}
-use Rattle.tree_handles.proofs.{Forests.{arity-rest_trees}, Readings.{expression_child, expression_children, whole_child}}
-use Rattle.tree_handles.specs.{Visits.{visit_of, visits_of}, declared.visits.Visit.{Visit}}
+use Rattle.reduce_walk.proofs.Shared.{◌≡◌, ℕ, zero, suc, ◌<◌, ◌≤◌, List, ◌∷◌, ◌++◌, map, true, refl, sym, ap, ◌∙◌, arith, Payload, kind_of_payload, Tree, Trees, count, root_kind, eqb-true, State}
+use Rattle.reduce_walk.proofs.Shared.{forest, IsExpression, AllExpressions, children_of, grown, nth, plain, plains, takes, Forest, empty, tree, arity, flatten, first_trees, rest_trees, node_of}
+use Rattle.reduce_walk.proofs.Shared.{kids_of, tree_at, is_leaf, is_leaf_kind, arity-rest_trees, expression_child, expression_children, whole_child, visit_of, visits_of, Visit}
+use Rattle.tree_handles.proofs.ForestLists.{no_trees as none_of, rest-once_more as rest_of_rest}
 
 leaf_payload : (x : Payload) (n : ℕ) (ts : Trees) → takes x n ≡ true → is_leaf (grown x ts) ≡ is_leaf_kind (kind_of_payload x)
 leaf_payload x n ts h = grind arith
 
 no_kids : (x : Payload) (n : ℕ) → takes x n ≡ true → is_leaf_kind (kind_of_payload x) ≡ true → n ≡ 0
 no_kids x n h k = grind (arith, eqb-true)
-
-none_of : (f : Forest) → arity f ≡ 0 → f ≡ empty
-none_of empty e = refl
-none_of (tree l k r) e = absurd (omega arith)
 
 -- the first of some trees
 record IsFirst (g : Forest) (v : Visit) (left : List Visit) : Type 0 where
@@ -34,12 +27,6 @@ first_visit (tree l b r) v left w e =
       kind = leaf_payload l.payload (arity b) (plains b) w.0 ∙ kind;
       left-are = λ h. sym rest ∙ ap (λ (f : Forest). map visit_of (flatten f ++ flatten r)) (none_of b (no_kids l.payload (arity b) w.0 (kind ∙ h)));
     }
-
-rest_of_rest : (n : ℕ) (f : Forest) → rest_trees 1 (rest_trees n f) ≡ rest_trees (suc n) f
-rest_of_rest zero empty = refl
-rest_of_rest zero (tree l k r) = refl
-rest_of_rest (suc n) empty = refl
-rest_of_rest (suc n) (tree l k r) = rest_of_rest n r
 
 -- the next child, where those before it are leaves
 pub record IsNextVisit (i n : ℕ) (v : Visit) (left : List Visit) (s : State) : Type 0 where

@@ -1,8 +1,6 @@
 -- A root with its children, whatever it holds.
-use Rattle.std.proofs.Common.{◌≡◌, ℕ, true, ap, ◌∙◌, arith}
-use Rattle.reduce_walk.proofs.Shared.{Payload, Tree, Trees, none, more, count, represents_count, children_of-plain, whole_kids, root_arity, grown, plain, takes, children_of, AllExpressions, Forest}
-use Rattle.reduce_walk.proofs.Shared.{empty, tree, arity, kids, root_payload, root_count, IsHanded, Represents, has_root, root_tree}
-use Rattle.tree_handles.proofs.{Over.{once_count}, Counted.{all-kids}}
+use Rattle.reduce_walk.proofs.Shared.{◌≡◌, ℕ, true, ap, ◌∙◌, arith, Payload, Tree, Trees, none, more, count, represents_count, children_of-plain, whole_kids, root_arity, grown, plain, takes}
+use Rattle.reduce_walk.proofs.Shared.{children_of, AllExpressions, Forest, empty, tree, arity, kids, root_payload, root_count, IsHanded, Represents, has_root, root_tree, once_count, all-kids}
 
 -- a root that holds x over these trees, each node held once
 pub record IsParent (x : Payload) (i : ℕ) (ts : Trees) (f : Forest) : Type 0 where

@@ -1,10 +1,7 @@
 -- What the port promises, from how the walk ends.
-use Rattle.std.proofs.Common.{arith, ◌≡◌, ◌↔◌, ℕ, List, Result, Ok, Err, refl, sym, ap}
-use Rattle.std.specs.Prelude.{IfErr, OnOk}
-use Rattle.reduce_walk.proofs.Shared.{CalmChecks, TripsRose, Tree, nodes, IsUnfitAt, Stops, State, Overflow, calm_checks_raise_no_trips, tripped_rose, CalmUpTo, IfFull, IfOverflow, IfInterrupted}
-use Rattle.reduce_walk.proofs.Shared.{CountsRefusals, ReduceFault, KeepsRefusals}
-use Rattle.breakers.specs.{State.{State as BreakerState}, declared.watch.Interrupted.{Interrupted}}
-use Rattle.node_pool.specs.declared.full.Full.{Full}
+use Rattle.reduce_walk.proofs.Shared.{arith, ◌≡◌, ◌↔◌, ℕ, List, Result, Ok, Err, refl, sym, ap, IfErr, OnOk, CalmChecks, TripsRose, Tree, nodes, IsUnfitAt, Stops, State, Overflow}
+use Rattle.reduce_walk.proofs.Shared.{calm_checks_raise_no_trips, tripped_rose, CalmUpTo, IfFull, IfOverflow, IfInterrupted, CountsRefusals, ReduceFault, KeepsRefusals, Interrupted, Full}
+use Rattle.breakers.specs.State.{State as BreakerState}
 use Rattle.reduce_port.specs.declared.fault.ReduceFault.TheVariants as fault
 
 by_place : (place : ℕ) (i : Interrupted) (x : Result ℕ ReduceFault) → x ≡ Err (fault.Interrupted i) → x ≡ Err (fault.Interrupted (record { by = place })) → place ≡ i.by

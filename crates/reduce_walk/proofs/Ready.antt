@@ -1,7 +1,6 @@
 -- A node over the answers of its children, before its own step.
-use Rattle.std.proofs.Common.{◌≡◌, ℕ, List, true, sym, ap, ◌∙◌, subst}
-use Rattle.reduce_walk.proofs.Shared.{Payload, Tree, count, AreAnswers, IsOver, children_of-plain, children_of, grown, plain, takes, Forest, IsHanded, root_tree}
-use Rattle.reduce_walk.proofs.{Parents.{held_at, handed_node, parent_is_handed}, Walks.{AllWalked, answers_count}}
+use Rattle.reduce_walk.proofs.Shared.{◌≡◌, ℕ, List, true, sym, ap, ◌∙◌, subst, Payload, Tree, count, AreAnswers, IsOver, children_of-plain, children_of, grown, plain, takes, Forest, IsHanded}
+use Rattle.reduce_walk.proofs.{Shared.{root_tree}, Parents.{held_at, handed_node, parent_is_handed}, Walks.{AllWalked, answers_count}}
 use Rattle.breakers.specs.State.{State as BreakerState}
 
 pub record IsReady (A : Tree → Tree → Type 0) (i : ℕ) (old new : Forest) : Type 0 where

@@ -1,18 +1,14 @@
 -- A walk that ends without an answer.
-use Rattle.std.proofs.Common.{◌≡◌, ℕ, ◌+◌, ◌<◌, ◌≤◌, List, Some, None, Result, Err, true, sym, ap, subst, arith}
-use Rattle.std.specs.Prelude.{IfErr, OnOk}
-use Rattle.reduce_walk.proofs.Shared.{CalmChecks-append, Check, CalmChecks, Tree, Trees, none, more, count, nodes, nodes_of, size, sizes, root_size, State, free_of, Overflow, one_calm, calm_up_to}
-use Rattle.reduce_walk.proofs.Shared.{trips_at_once, calm_up_to_after, trips_within_after, TripsWithin, fault_of, ReduceFault, IsNext, is_leaf, Stops, plain, children_of, Forest, root_tree}
-use Rattle.reduce_walk.proofs.{Shared.{KeepsRefusals, calm_more, trips_more}, Walks.{AllWalked, IsWalked, IsNextChild, fewer_nodes, is_next, leaf_nodes, nodes_by_children}}
+use Rattle.reduce_walk.proofs.Shared.{◌≡◌, ℕ, ◌+◌, ◌<◌, ◌≤◌, List, Some, None, Result, Err, true, sym, ap, subst, arith, IfErr, OnOk, CalmChecks-append, Check, CalmChecks, Tree, Trees, none, more}
+use Rattle.reduce_walk.proofs.Shared.{count, nodes, nodes_of, size, sizes, root_size, State, free_of, Overflow, one_calm, calm_up_to, trips_at_once, calm_up_to_after, trips_within_after, TripsWithin}
+use Rattle.reduce_walk.proofs.Shared.{fault_of, ReduceFault, IsNext, is_leaf, Stops, plain, children_of, Forest, root_tree, KeepsRefusals, calm_more, trips_more, kept_after, refuses_after, OfFull}
+use Rattle.reduce_walk.proofs.{Shared.{IsCaused, Faults, NumberFault}, Walks.{AllWalked, IsWalked, IsNextChild, fewer_nodes, is_next, leaf_nodes, nodes_by_children}}
+use Rattle.calc_terms.proofs.SmallLaws.{one_node as some_nodes}
 use Rattle.breakers.specs.State.{State as BreakerState}
-use Rattle.tree_handles.proofs.Refused.{kept_after, refuses_after}
-use Rattle.tree_handles.specs.{Lacking.{OfFull}, Causes.{IsCaused}, Faults.{Faults, IfOverflow}, declared.fault.NumberFault.{NumberFault}}
+use Rattle.tree_handles.specs.Faults.{IfOverflow}
 use Rattle.reduce_port.specs.declared.fault.ReduceFault.TheVariants as fault
 
 -- ---- checks
-
-some_nodes : (t : Tree) → 1 ≤ nodes t
-some_nodes t = omega (arith, nodes_by_children t)
 
 count_nodes : (ts : Trees) → count ts ≤ nodes_of ts
 count_nodes none = omega arith

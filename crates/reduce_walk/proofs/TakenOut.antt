@@ -1,20 +1,8 @@
 -- A child of a root is taken out.
-use Rattle.std.proofs.Common.{◌≡◌, ℕ, refl, arith}
-use Rattle.calc_terms.specs.{Payload.{Payload}, Trees.{Tree, Trees, more, append, count}}
-use Rattle.reduce_walk.proofs.Parents.{IsParent}
-use Rattle.tree_handles.proofs.{Cuts.{cut_at}, Given.{gives}, Lasts.{other_root, other_tree}, Outcomes.{by_test}, Roots.{root_arity, root-put, kids-put}}
-use Rattle.tree_handles.specs.{Forest.{Forest, empty, tree, arity, kids, root_payload, root_count, with_root_kids, tree_nth, without_nth}, Handed.{AllOnce, IsOwned, Represents, Ends, Gives}}
-use Rattle.tree_handles.specs.Roots.{root_tree, put}
-
-tree_put : (i : ℕ) (n f : Forest) → root_tree i (put i n f) ≡ with_root_kids n (root_tree i f)
-tree_put i n empty = refl
-tree_put i n (tree l k r) = grind (arith, by_test, tree_put i n r)
-
-payload_with : (n t : Forest) → root_payload (with_root_kids n t) ≡ root_payload t
-payload_with n t = grind arith
-
-count_with : (n t : Forest) → root_count (with_root_kids n t) ≡ root_count t
-count_with n t = grind arith
+use Rattle.reduce_walk.proofs.Shared.{tree_put, payload_with, count_with, ◌≡◌, ℕ, refl, arith, Payload, Tree, Trees, more, append, count, cut_at, gives, other_root, other_tree, by_test, root_arity}
+use Rattle.reduce_walk.proofs.Shared.{root-put, kids-put, Forest, empty, tree, arity, kids, root_payload, root_count, with_root_kids, tree_nth, without_nth, AllOnce, IsOwned, Represents, Ends, Gives}
+use Rattle.reduce_walk.proofs.{Shared.{root_tree, put}, Parents.{IsParent}}
+use Rattle.tree_handles.proofs.SmallLaws.{once_one as once_of}
 
 -- it has other children
 pub parent_put : {x : Payload} {i : ℕ} {ts us : Trees} {f : Forest} (n : Forest) → IsParent x i ts f → Represents n us → IsParent x i us (put i n f)
@@ -36,11 +24,6 @@ taken_out {i = i} {f = f} n ts t us o e d =
     let c = cut_at n ts t us (kids (root_tree i f)) e o.kids in
     let now = without_nth n (kids (root_tree i f)) in
     record { now = now; kids = c.rest; gives = gives d c.one refl; parent = parent_put now o c.rest }
-
-once_of : (t : Forest) → arity t ≡ 1 → root_count t ≡ 1 → AllOnce (kids t) → AllOnce t
-once_of empty e c h = absurd (omega (arith, e))
-once_of (tree l b empty) e c h = (c, h, tt)
-once_of (tree l b (tree m d s)) e c h = absurd (omega arith)
 
 pub parent_owned : {x : Payload} {i : ℕ} {ts : Trees} {f : Forest} → IsParent x i ts f → IsOwned i f
 parent_owned {i = i} {f = f} h = record { root = h.root; once = once_of (root_tree i f) (root_arity i f h.root) h.count h.kids.once }

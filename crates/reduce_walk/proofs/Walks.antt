@@ -1,24 +1,16 @@
 -- The walk over a node's children.
-use Rattle.std.proofs.Common.{◌≡◌, ℕ, zero, suc, ◌+◌, ◌-◌, ◌≤◌, ◌<◌, List, [], ◌∷◌, ◌++◌, length, true, false, refl, sym, ap, ◌∙◌, subst, arith}
-use Rattle.reduce_walk.proofs.Shared.{length-append, CalmChecks-append, CalmChecks, Tree, Trees, none, more, append, count, nodes, nodes_of, cut, cut_rest, represents_count, expression, seen}
+use Rattle.reduce_walk.proofs.Shared.{count_append, append_assoc, starts_behind, no_trees, ◌≡◌, ℕ, zero, suc, ◌+◌, ◌-◌, ◌≤◌, ◌<◌, List, [], ◌∷◌, ◌++◌, length, true, false, refl, sym, ap, ◌∙◌, subst}
+use Rattle.reduce_walk.proofs.Shared.{arith, length-append, CalmChecks-append, CalmChecks, Tree, Trees, none, more, append, count, nodes, nodes_of, cut, cut_rest, represents_count, expression, seen}
 use Rattle.reduce_walk.proofs.Shared.{AreAnswers, EachTree, IsNext, is_leaf, BeginWithLeaves, State, AllOnce, tree_of, IsHanded, Represents, Ends, Gives, KeepsFront, join-empty, join_assoc}
 use Rattle.reduce_walk.proofs.Shared.{arity-join, first-rest, first_trees-join, rest_trees-join, starts_same, starts_join, starts_without, behind_new, front_end, front_after_one, append-none, gives}
 use Rattle.reduce_walk.proofs.Shared.{gives_as, given_told, given_rest, represents_as, represents_join, ends_as, kids_of_root, last_root, last_tree, last_rest, alone, top, root-right, tree-right}
 use Rattle.reduce_walk.proofs.Shared.{put-right, IsExpression, nth, plain, children_of, Label, Forest, empty, tree, join, arity, flatten, kids, node_of, root_payload, first_trees, rest_trees}
-use Rattle.reduce_walk.proofs.Shared.{tree_nth, without_nth, holds, tree_at, kids_of, has_root, root_tree, without_root, put, behind_root, adopted, Stands, forest}
-use Rattle.reduce_walk.proofs.Parents.{IsParent, held_at, parent_handed}
+use Rattle.reduce_walk.proofs.Shared.{tree_nth, without_nth, holds, tree_at, kids_of, has_root, root_tree, without_root, put, behind_root, adopted, Stands, forest, behind_there, adopted_all, arity_le}
+use Rattle.reduce_walk.proofs.{Shared.{few_nodes}, Parents.{IsParent, held_at, parent_handed}}
+use Rattle.tree_handles.proofs.{Cuts.{cut_empty as no_node}, Parts.{at as node_place}}
 use Rattle.breakers.specs.State.{State as BreakerState}
-use Rattle.tree_handles.proofs.{Adopting.{behind_there, adopted_all}, Parts.{at as node_place}, Releases.{arity_le, few_nodes}}
 
 -- ---- lists
-
-pub append_assoc : (ts us vs : Trees) → append (append ts us) vs ≡ append ts (append us vs)
-append_assoc none us vs = refl
-append_assoc (more t ts) us vs = ap (more t) (append_assoc ts us vs)
-
-pub count_append : (ts us : Trees) → count (append ts us) ≡ count ts + count us
-count_append none us = omega arith
-count_append (more t ts) us = omega (arith, count_append ts us)
 
 pub nodes_append : (ts us : Trees) → nodes_of (append ts us) ≡ nodes_of ts + nodes_of us
 nodes_append none us = omega arith
@@ -152,9 +144,6 @@ leaves_walked A P {i = i} {n = n} {old = old} {before = before} {after = after} 
       left = subst (λ (m : ℕ). Represents (rest_trees m k) s.rest) (sym s.count-is) (cut_rest s.leaves s.rest k all);
     }
 
-starts_behind : {i : ℕ} {old new : Forest} (g : Forest) → new ≡ join (without_root i old) g → KeepsFront (i ∷ []) old new
-starts_behind {i = i} {old = old} {new = new} g e = record { keeps = λ p s n. starts_same p (join (without_root i old) g) new e (starts_join p (without_root i old) g (starts_without i p old n.0 s)) }
-
 -- the next child, which is not among the leaves in front
 pub record IsNextChild {A : Tree → Tree → Type 0} {i leaves at : ℕ} {old new : Forest} {before after : List BreakerState} (w : IsWalked A i leaves at old new before after) : Type 0 where
   pub child : Tree
@@ -166,9 +155,6 @@ pub record IsNextChild {A : Tree → Tree → Type 0} {i leaves at : ℕ} {old n
   pub whole : new ≡ join (without_root i old) (tree w.label (join w.front (tree label below others)) w.behind)
   pub one : Represents (tree label below empty) (more child none)
   pub left : Represents others rest
-
-no_node : {t : Tree} {ts : Trees} → none ≡ more t ts → ⊥
-no_node e = cc
 
 pub next_child : {A : Tree → Tree → Type 0} {i leaves at : ℕ} {old new : Forest} {before after : List BreakerState} (w : IsWalked A i leaves at old new before after) → at < count (children_of (plain (root_tree i old))) → IsNextChild w
 next_child {i = i} {at = at} {old = old} {new = new} w l = by w.rest w.back w.split w.whole w.left
@@ -284,10 +270,6 @@ pub record AllWalked (A : Tree → Tree → Type 0) (i : ℕ) (old new : Forest)
 pub none_left : (first rest : Trees) → count (append first rest) ≤ count first → rest ≡ none
 none_left first none l = refl
 none_left first (more t rest) l = absurd (omega (arith, count_append first (more t rest)))
-
-no_trees : (f : Forest) → arity f ≡ 0 → f ≡ empty
-no_trees empty e = refl
-no_trees (tree l k r) e = absurd (omega arith)
 
 -- the parent is there, with the answers right behind it
 pub record IsLeft (i leaves at : ℕ) (f : Forest) : Type 0 where

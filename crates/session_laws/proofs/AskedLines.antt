@@ -1,12 +1,10 @@
 -- A line asks for one thing, and is answered by the replies to that.
-use Rattle.std.proofs.{lemmas.Bool.{both_ways}, Common.{◌≡◌, ℕ, ◌≤◌, List, length, Bool, true, false, Option, refl, ap, subst, arith}}
-use Rattle.session_laws.proofs.Shared.{Asked, draw, forget, IsCommandLine, once, Tree, Placed, IsStorable, IsReplyToCommand, IsTold, tells, refuses, forgets, is_to_be_drawn, ReadsTree, IsUnstorable}
-use Rattle.session_laws.proofs.Shared.{is_ans, finds_names_full, Reason, Reply, report, shown, stored, undefined, State, IsReply, IsReplyTo, IsReplyToTree, IsReplyToValue, Asks, AsksInVain, Request}
-use Rattle.session_laws.proofs.Shared.{is_nothing, is_text, is_asked, commanded, is_long, is_no_line, is_no_command, asks_in_vain, is_replied, is_evaluated, cannot_be_stored}
+use Rattle.session_laws.proofs.Shared.{both_ways, ◌≡◌, ℕ, ◌≤◌, List, length, Bool, true, false, Option, refl, ap, subst, arith, Asked, draw, forget, IsCommandLine, once, Tree, Placed, IsStorable}
+use Rattle.session_laws.proofs.Shared.{IsReplyToCommand, IsTold, tells, refuses, forgets, is_to_be_drawn, ReadsTree, IsUnstorable, is_ans, finds_names_full, Reason, Reply, report, shown, stored}
+use Rattle.session_laws.proofs.Shared.{undefined, State, IsReply, IsReplyTo, IsReplyToTree, IsReplyToValue, Asks, AsksInVain, Request, is_nothing, is_text, is_asked, commanded, is_long, is_no_line}
+use Rattle.session_laws.proofs.Shared.{is_no_command, asks_in_vain, is_replied, is_evaluated, cannot_be_stored, asks_colon, blank_line, never_misread, one_text}
 use Rattle.breakers.specs.State.{State as Breaker}
 use Rattle.calc_session.specs.Asking.{value}
-use Rattle.calc_commands.proofs.Colons.{asks_colon, blank_line}
-use Rattle.calc_session.proofs.TextLemmas.{never_misread, one_text}
 
 -- ---- what a line asks for
 

@@ -1,12 +1,10 @@
 -- Lines for which there is enough are answered.
-use Rattle.std.proofs.Common.{◌≡◌, ◌∙◌, ℕ, ◌+◌, ◌*◌, ◌≤◌, List, Option, Some, Contains, refl, sym, ap, subst, arith}
-use Rattle.session_laws.proofs.Shared.{Tree, depth, names, nodes, size, Filling, lacks, too_deep, fills, values, Full, MayExceed, TripsWithin, HasBytesFor, of_the_tree, of_its_nodes, IsAnswered}
-use Rattle.session_laws.proofs.Shared.{ReadsFilled, IsReplyWith, has_no_value, holds_its_name, is_shown, is_stored, IsReduction, lacks_bytes, is_answered, IsReplyToTree, is_not_made, is_made, made}
-use Rattle.session_laws.proofs.{Shared.{made_in, Unmade, Reason, Reply, refused, circular, full, State, free_bytes, trees, IsReply}, AskedLines.{evaluated as line_evaluated}}
-use Rattle.session_laws.proofs.MadeTrees.{made_deep, made_has_room, made_is}
+use Rattle.session_laws.proofs.Shared.{◌≡◌, ◌∙◌, ℕ, ◌+◌, ◌*◌, ◌≤◌, List, Option, Some, Contains, refl, sym, ap, subst, arith, Tree, depth, names, nodes, size, Filling, lacks, too_deep, fills, values}
+use Rattle.session_laws.proofs.Shared.{Full, MayExceed, TripsWithin, HasBytesFor, of_the_tree, of_its_nodes, IsAnswered, ReadsFilled, IsReplyWith, has_no_value, holds_its_name, is_shown, is_stored}
+use Rattle.session_laws.proofs.Shared.{IsReduction, lacks_bytes, is_answered, IsReplyToTree, is_not_made, is_made, made, made_in, Unmade, Reason, Reply, refused, circular, full, State, free_bytes}
+use Rattle.session_laws.proofs.{Shared.{trees, IsReply, FitsOnTheWay, fits_by_bytes, fits_by_nodes}, AskedLines.{evaluated as line_evaluated}, MadeTrees.{made_deep, made_has_room, made_is}}
 use Rattle.breakers.specs.State.{State as Breaker}
 use Rattle.calc_session.specs.Evaluations.{is_interrupted, does_not_fit}
-use Rattle.name_table.proofs.FilledBytes.{FitsOnTheWay, fits_by_bytes, fits_by_nodes}
 
 answered_not_full : (answer : Tree) (store : Option (List ℕ)) (reply : Reply) (refusal : Full) → IsReplyWith answer store reply → reply ≡ refused (full refusal) → ⊥
 answered_not_full answer store reply refusal (has_no_value d) e = cc

@@ -1,14 +1,11 @@
 -- What the answers to lines that ask for solutions mean, and when there is one.
-use Rattle.std.proofs.Common.{◌≡◌, ◌∙◌, ℕ, ◌+◌, ◌≤◌, List, length, Option, Some, None, Err, refl, sym, ap, subst, arith}
-use Rattle.session_laws.proofs.Shared.{AllZip, IsCommandLine, solve, Tree, Equation, nodes_of_sides, Misfit, solving, values, bytes_before, all_placed, form_room, Reply, report, AreNamesOf}
-use Rattle.session_laws.proofs.Shared.{solution_text, AsksToSolve, TellsSolutionsOf, IsReplyToEquations, are_not_written, are_too_many, are_not_read, are_read, IsReplyToRead, are_not_made, are_made}
-use Rattle.session_laws.proofs.Shared.{IsReplyToSolve, have_too_many_names, are_not_linear, are_linear, IsSolution, is_interrupted, does_not_fit, is_told, IsNoEquation, ReadsEquation}
-use Rattle.session_laws.proofs.{Shared.{first_not_linear, State, free_bytes, trees, IsReply}, AskedLines.{commanded_report}, OneReading.{all_read, become_at_all, become_once, read_once}}
+use Rattle.session_laws.proofs.Shared.{◌≡◌, ◌∙◌, ℕ, ◌+◌, ◌≤◌, List, length, Option, Some, None, Err, refl, sym, ap, subst, arith, AllZip, IsCommandLine, solve, Tree, Equation, nodes_of_sides, Misfit}
+use Rattle.session_laws.proofs.Shared.{solving, values, bytes_before, all_placed, form_room, Reply, report, AreNamesOf, solution_text, AsksToSolve, TellsSolutionsOf, IsReplyToEquations}
+use Rattle.session_laws.proofs.Shared.{are_not_written, are_too_many, are_not_read, are_read, IsReplyToRead, are_not_made, are_made, IsReplyToSolve, have_too_many_names, are_not_linear, are_linear}
+use Rattle.session_laws.proofs.Shared.{IsSolution, is_interrupted, does_not_fit, is_told, IsNoEquation, ReadsEquation, first_not_linear, State, free_bytes, trees, IsReply, trips_among_all, names_once}
+use Rattle.session_laws.proofs.{Shared.{over_six, split_once, told_says}, AskedLines.{commanded_report}, OneReading.{all_read, become_at_all, become_once, read_once}}
 use Rattle.breakers.specs.{State.{State as Breaker}, Breakers.{TripsWithin}}
-use Rattle.linear_solve.proofs.{CheckCounts.{trips_among_all}, NamesOnce.{names_once, over_six}}
 use Rattle.calc_session.specs.Solving.{lacks_bytes}
-use Rattle.calc_commands.proofs.Splitting.{split_once}
-use Rattle.calc_session.proofs.SolutionMeanings.{told_says}
 
 solves_told : (free : ℕ) (xs : List (List ℕ)) (es : List Equation) (before after : List Breaker) (reply : Reply) → IsSolution free xs es before after reply → ((m : Misfit) → solving xs es ≡ Err m → ⊥) → form_room ≤ free
     → ((by : ℕ) → ¬ (TripsWithin (nodes_of_sides es + length xs) before after by)) → (told : List ℕ) × (reply ≡ report told)

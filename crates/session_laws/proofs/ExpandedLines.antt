@@ -1,13 +1,11 @@
 -- What the answers to lines that ask for an expansion mean, and when there is one.
-use Rattle.std.proofs.{lemmas.Bool.{both_ways}, Common.{◌≡◌, ◌↔◌, ℕ, ◌≤◌, List, length, true, false, Option, refl, ap, arith}}
-use Rattle.session_laws.proofs.Shared.{reduced_face_means, IsCommandLine, expand, face, text, Tree, nodes, expanded, sum_tree, term_trees, expansion_room, is_polynomial, polynomial_of}
-use Rattle.session_laws.proofs.Shared.{tree_expanded_reduced, TripsWithin, IsReplyToExpansion, expansion_text, is_no_polynomial, is_expanded, Reply, refused, not_polynomial, report, State, free_bytes}
-use Rattle.session_laws.proofs.{Shared.{IsReply}, AskedLines.{commanded_report, commanded_reply}, ExpressionReplies.{reply_to_text, reply_to_tree}}
+use Rattle.session_laws.proofs.Shared.{both_ways, ◌≡◌, ◌↔◌, ℕ, ◌≤◌, List, length, true, false, Option, refl, ap, arith, reduced_face_means, IsCommandLine, expand, face, text, Tree, nodes, expanded}
+use Rattle.session_laws.proofs.Shared.{sum_tree, term_trees, expansion_room, is_polynomial, polynomial_of, tree_expanded_reduced, TripsWithin, IsReplyToExpansion, expansion_text, is_no_polynomial}
+use Rattle.session_laws.proofs.Shared.{is_expanded, Reply, refused, not_polynomial, report, State, free_bytes, IsReply, expanded_means, one_normal_form, AsksExpansionOf, HaveSameCoefficients}
+use Rattle.session_laws.proofs.{Shared.{TellsExpansion}, AskedLines.{commanded_report, commanded_reply}, ExpressionReplies.{reply_to_text, reply_to_tree}}
 use Rattle.breakers.specs.State.{State as Breaker}
 use Rattle.calc_measures.specs.Measures.{bits as bits_of}
-use Rattle.expansions.proofs.{ExpandedMeanings.{expanded_means}, NormalForms.{one_normal_form}}
 use Rattle.calc_session.specs.Expanding.{is_interrupted, does_not_fit, lacks_bytes}
-use Rattle.session_laws.specs.ExpansionsMeant.{AsksExpansionOf, HaveSameCoefficients, TellsExpansion}
 
 told_is : (a b : List ℕ) → report a ≡ report b → b ≡ a
 told_is a b e = cc

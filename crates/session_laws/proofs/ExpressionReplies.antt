@@ -1,8 +1,7 @@
 -- The replies to a text that is calculated with, by what it becomes.
-use Rattle.std.proofs.Common.{arith, ◌≡◌, ℕ, List, sym, subst}
-use Rattle.session_laws.proofs.Shared.{Tree, Filling, fills, ExpressionBecomes, IsReplyToExpression, is_no_expression, is_read, made_in, IsReplyToMade, is_made, Reply, report, State}
+use Rattle.session_laws.proofs.Shared.{arith, ◌≡◌, ℕ, List, sym, subst, Tree, Filling, fills, ExpressionBecomes, IsReplyToExpression, is_no_expression, is_read, made_in, IsReplyToMade, is_made, Reply}
+use Rattle.session_laws.proofs.Shared.{report, State, one_text, read_at_all}
 use Rattle.breakers.specs.State.{State as Breaker}
-use Rattle.calc_session.proofs.TextLemmas.{one_text, read_at_all}
 
 -- the text becomes a tree, and the reply is one to that
 pub record RepliesToText (old : State) (text : List ℕ) (Is : ℕ → Tree → Reply → Type 0) (reply : Reply) : Type 0 where

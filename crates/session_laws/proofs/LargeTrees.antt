@@ -1,12 +1,10 @@
 -- No tree that a session stores is smaller than a leaf.
-use Rattle.std.proofs.Common.{arith, ◌≡◌, ◌∙◌, ℕ, zero, suc, ◌≤◌, List, [], ◌∷◌, ◌++◌, map, codes, true, false, cond, eqb, Option, Some, None, All, refl, sym, ap, subst}
-use Rattle.session_laws.proofs.Shared.{bytes_eq, All-cons, All-head, All-nil, All-tail, num_least, Node, Tree, none, more, size, NamedTree, value_in, values, AreRoots, IsHeld, held_by, holders_in}
-use Rattle.session_laws.proofs.Shared.{Entry, Table, entries, with_answer, without_entry, without_name, has, plain, plains, Forest, empty, tree, flatten, forest_of, join, rest_trees, root_id, holds}
-use Rattle.session_laws.proofs.Shared.{has_root, root_tree, forest_of_whole, by_test, tree-right, HoldsNoSmallTree, Reply, shown, stored, forgot, State, first_state, trees, IsReply, Leaves}
-use Rattle.session_laws.proofs.{Shared.{LeavesAnswer, LeavesOthers, Step}, MeaningLemmas.{shows_meaning}}
+use Rattle.session_laws.proofs.Shared.{arith, ◌≡◌, ◌∙◌, ℕ, zero, suc, ◌≤◌, List, [], ◌∷◌, ◌++◌, map, codes, true, false, cond, eqb, Option, Some, None, All, refl, sym, ap, subst, bytes_eq, All-cons}
+use Rattle.session_laws.proofs.Shared.{All-head, All-nil, All-tail, num_least, Node, Tree, none, more, size, NamedTree, value_in, values, AreRoots, IsHeld, held_by, holders_in, Entry, Table, entries}
+use Rattle.session_laws.proofs.Shared.{with_answer, without_entry, without_name, has, plain, plains, Forest, empty, tree, flatten, forest_of, join, rest_trees, root_id, holds, has_root, root_tree}
+use Rattle.session_laws.proofs.Shared.{forest_of_whole, by_test, tree-right, HoldsNoSmallTree, Reply, shown, stored, forgot, State, first_state, trees, IsReply, Leaves, LeavesAnswer, LeavesOthers}
+use Rattle.session_laws.proofs.{Shared.{Step, holders-told, values-counted, values-left, face_large}, MeaningLemmas.{shows_meaning}}
 use Rattle.breakers.specs.State.{State as Breaker}
-use Rattle.name_table.proofs.{Holders.{holders-told}, Later.{values-counted, values-left}}
-use Rattle.beautify.proofs.FaceSizes.{face_large}
 
 -- ---- entries
 

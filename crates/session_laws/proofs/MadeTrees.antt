@@ -1,7 +1,6 @@
 -- What is made of a tree: it is built in the free bytes, and the stored trees take the places of its names.
-use Rattle.std.proofs.Common.{◌≡◌, ◌∙◌, ℕ, ◌+◌, ◌-◌, ◌<◌, ◌≤◌, List, Result, Ok, Err, refl, sym, subst, arith}
-use Rattle.session_laws.proofs.Shared.{building, building_takes_the_size, takes_room, Tree, depth, size, NamedTree, fills, filled, filling, lacks, too_deep, Full, made}
-use Rattle.name_table.proofs.FilledBytes.{Fares, FitsOnTheWay, fares, fits_first}
+use Rattle.session_laws.proofs.Shared.{◌≡◌, ◌∙◌, ℕ, ◌+◌, ◌-◌, ◌<◌, ◌≤◌, List, Result, Ok, Err, refl, sym, subst, arith, building, building_takes_the_size, takes_room, Tree, depth, size, NamedTree}
+use Rattle.session_laws.proofs.Shared.{fills, filled, filling, lacks, too_deep, Full, made, Fares, FitsOnTheWay, fares, fits_first}
 
 no_room : (free : ℕ) (t : Tree) (full : Full) → building free t ≡ Err full → size t ≤ free → ⊥
 no_room free t full e h = let b : ◌≡◌ {A = Result ℕ Full} (Err full) (Ok (free - size t)) = sym e ∙ (building_takes_the_size free t).1 h in cc

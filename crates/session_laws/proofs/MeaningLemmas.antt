@@ -1,19 +1,13 @@
 -- What the answers to lines mean.
-use Rattle.std.proofs.Common.{arith, ◌≡◌, ◌∙◌, ℕ, List, [], Option, Some, None, true, false, refl, sym, ap, subst}
-use Rattle.session_laws.proofs.Shared.{HasValue, IsEasy, value, KeepsMeanings, Reduces, Surd, one_meaning, Same-trans, Evaluates, face, Tree, undef, is_undef, reduced_face_means, IsReplyWith}
-use Rattle.session_laws.proofs.Shared.{IsReduction, lacks_bytes, is_answered, IsReplyToTree, is_not_made, is_made, Reply, shown, stored, undefined, State, free_bytes, IsReply}
-use Rattle.session_laws.proofs.AskedLines.{IsReplyToLine, is_value_reply, valued}
+use Rattle.session_laws.proofs.Shared.{arith, ◌≡◌, ◌∙◌, ℕ, List, [], Option, Some, None, true, false, refl, sym, ap, subst, HasValue, IsEasy, value, KeepsMeanings, Reduces, Surd, one_meaning}
+use Rattle.session_laws.proofs.Shared.{Same-trans, Evaluates, face, Tree, undef, is_undef, reduced_face_means, IsReplyWith, IsReduction, lacks_bytes, is_answered, IsReplyToTree, is_not_made, is_made}
+use Rattle.session_laws.proofs.Shared.{Reply, shown, stored, undefined, State, free_bytes, IsReply, Same, number_words, one_number, Agree-Same, Becomes, HasNoMeaning, HasSmallRadicands, MeanTheSame}
+use Rattle.session_laws.proofs.{Shared.{MeansNothing, ShowsMeaning}, AskedLines.{IsReplyToLine, is_value_reply, valued}}
 use Rattle.breakers.specs.State.{State as Breaker}
-use Rattle.calc_algebra.specs.SquareClasses.{Same}
-use Rattle.calc_algebra.proofs.{NumberLaws.{number_words}, NumberUniqueness.{one_number}, SurdLaws.{Agree-Same}}
 use Rattle.calc_session.specs.Evaluations.{is_interrupted, does_not_fit}
-use Rattle.session_laws.specs.Meant.{Becomes, HasNoMeaning, HasSmallRadicands, MeanTheSame, MeansNothing, ShowsMeaning}
 
 pub nothing_meant : (t : Tree) → Reduces t undef → MeansNothing t
 nothing_meant t r f a v m = r.meanings.means f a v m
-
-pub undef_is : (t : Tree) → is_undef t ≡ true → t ≡ undef
-undef_is t e = grind arith
 
 -- ---- what is displayed
 

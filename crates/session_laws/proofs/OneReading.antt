@@ -1,8 +1,7 @@
 -- Equations are read and built in one way.
-use Rattle.std.proofs.Common.{◌≡◌, ◌∙◌, ℕ, List, [], ◌∷◌, refl, sym, subst}
-use Rattle.session_laws.proofs.Shared.{AllZip, Tree, Equation, NamedTree, Filling, fills, IsNoExpression, Piece, Pieces, Unmade, made, Reason, AreUnmade, Become, IsNoEquation, ReadsEquation}
-use Rattle.session_laws.proofs.Shared.{ReadsSide, equation, nothing}
-use Rattle.calc_session.proofs.TextLemmas.{one_text, read_at_all}
+use Rattle.session_laws.proofs.Shared.{◌≡◌, ◌∙◌, ℕ, List, [], ◌∷◌, refl, sym, subst, AllZip, Tree, Equation, NamedTree, Filling, fills, IsNoExpression, Piece, Pieces, Unmade, made, Reason, AreUnmade}
+use Rattle.session_laws.proofs.Shared.{Become, IsNoEquation, ReadsEquation, ReadsSide, equation, nothing, one_text, read_at_all}
+use Rattle.calc_session.proofs.CountingLemmas.{left_is as filled_left, tree_is as filled_tree}
 
 -- ---- the sides are read
 
@@ -36,12 +35,6 @@ all_read (e ∷ es) h (IsNoEquation.at_right {p = p} {reason = reason} r n) = si
 all_read (e ∷ es) h (IsNoEquation.later r n) = all_read es h.1 n
 
 -- ---- they are built
-
-filled_left : (l m : ℕ) (t u : Tree) → fills l t ≡ fills m u → l ≡ m
-filled_left l m t u e = cc
-
-filled_tree : (l m : ℕ) (t u : Tree) → fills l t ≡ fills m u → t ≡ u
-filled_tree l m t u e = cc
 
 module _ (vs : List NamedTree) where
   made_once : (free l m : ℕ) (t a b : Tree) → made free vs t ≡ fills l a → made free vs t ≡ fills m b → (l ≡ m) × (a ≡ b)

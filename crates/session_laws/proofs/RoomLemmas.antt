@@ -1,15 +1,9 @@
 -- In a session of the program, a line whose room is free is not refused for the pool.
-use Rattle.std.proofs.{Common.{◌≡◌, ◌∙◌, ℕ, ◌+◌, ◌*◌, ◌^◌, ◌≤◌, List, [], ◌∷◌, Bool, true, false, cond, Option, Some, ap, arith}, lemmas.Nat.{mul-le, pow_pos}}
-use Rattle.session_laws.proofs.Shared.{Reply, circular, shown, stored, forgot, full, refused, State, free_bytes, Leaves, Full, first_moment, options_of, bits, Chain, LineStep, Moment, room, Turn}
-use Rattle.session_laws.proofs.{Shared.{Options}, EnoughLemmas.{answered, not_full}}
+use Rattle.session_laws.proofs.Shared.{◌≡◌, ◌∙◌, ℕ, ◌+◌, ◌*◌, ◌^◌, ◌≤◌, List, [], ◌∷◌, Bool, true, false, cond, Option, Some, ap, arith, mul-le, pow_pos, Reply, circular, shown, stored, forgot, full}
+use Rattle.session_laws.proofs.Shared.{refused, State, free_bytes, Leaves, Full, first_moment, options_of, bits, Chain, LineStep, Moment, room, Turn, Options, all_simple, roots, IsAnswered}
+use Rattle.session_laws.proofs.{Shared.{ReadsFilled, of_its_nodes, Tree, depth, nodes, depth_limit, one_node, TripsWithin, options_are_asked}, EnoughLemmas.{answered, not_full}}
 use Rattle.breakers.specs.State.{State as Breaker}
-use Rattle.calc_measures.specs.Measures.{all_simple, bits as bits_of, roots, room as room_of}
-use Rattle.session_laws.specs.Enough.{IsAnswered, ReadsFilled, of_its_nodes}
-use Rattle.calc_terms.specs.Trees.{Tree, depth, nodes}
-use Rattle.name_table.specs.Filling.{depth_limit}
-use Rattle.reduce_port.proofs.Leaves.{one_node}
-use Rattle.reduce_port.specs.Checks.{TripsWithin}
-use Rattle.poincare_run.proofs.SettingLemmas.{options_are_asked}
+use Rattle.calc_measures.specs.Measures.{bits as bits_of, room as room_of}
 
 -- ---- the capacity stays
 

@@ -1,14 +1,12 @@
 -- What the answers to lines that ask for a derivative mean, and when there is one.
-use Rattle.std.proofs.Common.{◌≡◌, ℕ, ◌+◌, ◌≤◌, List, length, codes, false, Option, None, ◌⊎◌, inl, inr, refl, sym, subst, arith}
-use Rattle.session_laws.proofs.Shared.{reduced_face_means, Reduces, face, text, Tree, undef, is_undef, nodes, size, HasDerivative, derivative, MayExceed, TripsWithin, IsReplyToDerivative, has_none}
-use Rattle.session_laws.proofs.Shared.{IsReduction, lacks_bytes, is_answered, IsReplyWith, has_no_value, holds_its_name, is_shown, is_stored, Reply, report, reported, State, free_bytes, diff}
-use Rattle.session_laws.proofs.{Shared.{IsCommandLine, ExpressionBecomes, IsReply, trees, values}, MadeTrees.{made_left}, MeaningLemmas.{nothing_meant, undef_is}}
+use Rattle.session_laws.proofs.Shared.{◌≡◌, ℕ, ◌+◌, ◌≤◌, List, length, codes, false, Option, None, ◌⊎◌, inl, inr, refl, sym, subst, arith, reduced_face_means, Reduces, face, text, Tree, undef}
+use Rattle.session_laws.proofs.Shared.{is_undef, nodes, size, HasDerivative, derivative, MayExceed, TripsWithin, IsReplyToDerivative, has_none, IsReduction, lacks_bytes, is_answered, IsReplyWith}
+use Rattle.session_laws.proofs.Shared.{has_no_value, holds_its_name, is_shown, is_stored, Reply, report, reported, State, free_bytes, diff, IsCommandLine, ExpressionBecomes, IsReply, trees, values}
+use Rattle.session_laws.proofs.{Shared.{slope_means, TellsSlope, TellsNoSlope, TellsDerivative, no_store}, MadeTrees.{made_left}, MeaningLemmas.{nothing_meant}}
 use Rattle.session_laws.proofs.{AskedLines.{commanded_report, commanded_reply}, ExpressionReplies.{reply_to_text, reply_to_tree}}
+use Rattle.calc_algebra.proofs.ReducedLaws.{undef_words as undef_is}
 use Rattle.breakers.specs.State.{State as Breaker}
-use Rattle.dual_diff.proofs.Derived.{slope_means}
 use Rattle.calc_session.specs.Evaluations.{is_interrupted, does_not_fit}
-use Rattle.session_laws.specs.Slopes.{TellsSlope, TellsNoSlope, TellsDerivative}
-use Rattle.calc_session.proofs.TextLemmas.{no_store}
 use Rattle.calc_session.specs.Deriving as derived
 
 module _ (room bits : Option (Tree → ℕ)) (old : State) (before checked : List Breaker) (line x behind : List ℕ) (asked : IsCommandLine line (diff x behind)) where

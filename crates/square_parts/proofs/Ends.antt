@@ -1,11 +1,8 @@
 -- Numbers that trial division may skip, and when it may end.
-use Rattle.square_parts.proofs.Shared.{◌≡◌, ◌≢◌, ℕ, zero, suc, ◌+◌, ◌-◌, ◌*◌, ◌/◌, ◌%◌, ◌^◌, ◌<◌, ◌≤◌, ◌⊎◌, inl, inr, refl, ap, ◌∙◌, subst, arith, List, [], ◌∷◌, Bool, true, false, ◌&&◌, ◌==◌}
+use Rattle.square_parts.proofs.Shared.{both, ◌≡◌, ◌≢◌, ℕ, zero, suc, ◌+◌, ◌-◌, ◌*◌, ◌/◌, ◌%◌, ◌^◌, ◌<◌, ◌≤◌, ◌⊎◌, inl, inr, refl, ap, ◌∙◌, subst, arith, List, [], ◌∷◌, Bool, true, false, ◌&&◌, ◌==◌}
 use Rattle.square_parts.proofs.Shared.{if◌then◌else◌, nat_le, nat_lt, length, take, drop, slice_index, take-length, ◌∣◌, cases_lt, leb-true, ltb-true, eqb-true, dvd_trans, dvd_of_mod-eq-zero}
 use Rattle.square_parts.proofs.Shared.{mul-div_cancel', dvd-mul_left, eq-one_of_dvd-one, HasNoDivisorBelow, HasNoOtherDivisor, has_divisor_among, is_composite, are_composite, holds_all_primes}
 use Rattle.square_parts.proofs.{Shared.{IsDividedBelow, primes_below_hundred}, Steps.{done_with}}
-
-both : (a b : Bool) → (a && b) ≡ true → (a ≡ true) × (b ≡ true)
-both a b h = grind arith
 
 -- a composite number has a smaller divisor
 divisor_of : (ps : List ℕ) (e : ℕ) → has_divisor_among ps e ≡ true → (f : ℕ) × (2 ≤ f) × (f < e) × (f ∣ e)

@@ -1,7 +1,7 @@
 -- What is left of a number when all divisors up to the trial limit are divided out.
-use Rattle.square_parts.proofs.Shared.{◌≡◌, ℕ, zero, suc, ◌+◌, ◌*◌, ◌/◌, ◌%◌, ◌^◌, ◌<◌, ◌≤◌, ◌⊎◌, inl, inr, refl, sym, ap, ◌∙◌, subst, arith, ◌∣◌, cases_lt, dvd_trans, dvd_of_mod-eq-zero}
-use Rattle.square_parts.proofs.{Shared.{mod-eq-zero_of_dvd, mul-div_cancel', dvd-mul_right, pow-suc, trial_limit, without, left_from, left_of, IsSmooth, below_power}, SmoothNumbers.{IsRough}}
-use Rattle.square_parts.proofs.SmoothNumbers.{IsSmooth-one, IsSmooth-small, IsSmooth-mul, one_rough_part}
+use Rattle.square_parts.proofs.Shared.{factor_positive, ◌≡◌, ℕ, zero, suc, ◌+◌, ◌*◌, ◌/◌, ◌%◌, ◌^◌, ◌<◌, ◌≤◌, ◌⊎◌, inl, inr, refl, sym, ap, ◌∙◌, subst, arith, ◌∣◌, cases_lt, dvd_trans}
+use Rattle.square_parts.proofs.Shared.{dvd_of_mod-eq-zero, mod-eq-zero_of_dvd, mul-div_cancel', dvd-mul_right, pow-suc, trial_limit, without, left_from, left_of, IsSmooth, below_power}
+use Rattle.square_parts.proofs.SmoothNumbers.{IsRough, IsSmooth-one, IsSmooth-small, IsSmooth-mul, one_rough_part}
 
 -- n is r without a smooth factor, and no number from d to below e divides n
 pub record IsPart (d e r n : ℕ) : Type 0 where
@@ -13,9 +13,6 @@ pub record IsPart (d e r n : ℕ) : Type 0 where
 
 half_below : (d r n : ℕ) → 2 ≤ d → r < n * 2 → r / d < n
 half_below d r n two h = grind arith
-
-factor_positive : (n k : ℕ) → 0 < n * k → 0 < k
-factor_positive n k h = grind arith
 
 without_is : (steps d r : ℕ) → 2 ≤ d → d ≤ trial_limit → 0 < r → r < 2 ^ steps → IsPart d (suc d) r (without steps d r)
 without_is zero d r two le positive small = absurd (omega arith)

@@ -1,10 +1,7 @@
 -- When a product is a square.
-use Rattle.square_parts.proofs.Shared.{◌≡◌, ℕ, zero, suc, ◌*◌, ◌/◌, ◌<◌, true, sym, ap, ◌∙◌, subst, arith, IsGcd, ◌∣◌, dvd_refl, dvd_antisymm, IsGcd-swap}
-use Rattle.square_parts.proofs.Shared.{mul-div_cancel', dvd-mul_right, dvd-mul_left, pos_of_dvd_of_pos, gcd, gcd_is, are_alike, square_root, square_from_scaled, alike_from, alike_true, alike_sym}
-use Rattle.square_parts.proofs.Shared.{IsCoprime, IsCoprime-swap, IsCoprime-divisors, IsCoprime-mul, other_factor, quotients_coprime}
-
-same_factor : (h a b : ℕ) → 0 < h → h * a ≡ h * b → a ≡ b
-same_factor h a b positive e = grind arith
+use Rattle.square_parts.proofs.Shared.{same_factor, ◌≡◌, ℕ, zero, suc, ◌*◌, ◌/◌, ◌<◌, true, sym, ap, ◌∙◌, subst, arith, IsGcd, ◌∣◌, dvd_refl, dvd_antisymm, IsGcd-swap, mul-div_cancel', dvd-mul_right}
+use Rattle.square_parts.proofs.Shared.{dvd-mul_left, pos_of_dvd_of_pos, gcd, gcd_is, are_alike, square_root, square_from_scaled, alike_from, alike_true, alike_sym, IsCoprime, IsCoprime-swap}
+use Rattle.square_parts.proofs.Shared.{IsCoprime-divisors, IsCoprime-mul, other_factor, quotients_coprime}
 
 -- factors without a common divisor, whose product is a square, are squares
 pub coprime_square : (x y t : ℕ) → 0 < x → IsCoprime x y → x * y ≡ t * t → (u : ℕ) × (x ≡ u * u)

@@ -1,9 +1,8 @@
 -- What is answered for terms no two of which have identical parts.
-use Rattle.std.specs.Prelude.{IsPermutation}
-use Rattle.std.proofs.Common.{◌≤◌, ◌≡◌, length, true, inl, inr, refl, sym, ap, ◌∙◌, subst, arith, append-nil}
-use Rattle.sum_reduce.proofs.Shared.{append_none, no_numbers_others, no_numbers_none, zero_fraction, is_number, value, terms_of, NoneIs, Same, Tree, num, add, Trees, none, more, append, count}
-use Rattle.sum_reduce.proofs.Shared.{number_test, number_words, AsNumber, as_number, list_of, IsLead, IsSettled, numbers_in, others_in, sum_of_values, AreUnlike, IsTotalNumber, IsWrittenSum, IsStage}
-use Rattle.sum_reduce.proofs.{Shared.{IsCollected, opened, terms_of_number, sum_tree, written_tree}, Orders.{arranged_flat}, Rearranged.{tight_opened}, WrittenSums.{zero_terms, term_in, zero_value}}
+use Rattle.sum_reduce.proofs.Shared.{IsPermutation, ◌≤◌, ◌≡◌, length, true, inl, inr, refl, sym, ap, ◌∙◌, subst, arith, append-nil, append_none, no_numbers_others, no_numbers_none, zero_fraction}
+use Rattle.sum_reduce.proofs.Shared.{is_number, value, terms_of, NoneIs, Same, Tree, num, add, Trees, none, more, append, count, number_test, number_words, AsNumber, as_number, list_of, IsLead}
+use Rattle.sum_reduce.proofs.Shared.{IsSettled, numbers_in, others_in, sum_of_values, AreUnlike, IsTotalNumber, IsWrittenSum, IsStage, IsCollected, opened, terms_of_number, sum_tree, written_tree}
+use Rattle.sum_reduce.proofs.{Orders.{arranged_flat}, Rearranged.{tight_opened}, WrittenSums.{zero_terms, term_in, zero_value}}
 
 -- ---- a Number alone
 

@@ -1,12 +1,9 @@
 -- The terms of a sum are collected to terms that count no more.
-use Rattle.std.proofs.Common.{◌≡◌, suc, ◌≤◌, Bool, true, false, if◌then◌else◌, refl, ap, subst, arith}
-use Rattle.sum_reduce.proofs.Shared.{permuted_parts, first_parts, Tree, Trees, none, more, append, count, AllPartsOf, IsNumber, is_number, HasForm, number_test, number_words, counted, counted_among}
-use Rattle.sum_reduce.proofs.Shared.{with_coefficient, IsMonic, put_formed, taken, number_parts, parts_defined, parts_reduced, AreLike, Collects, collects_opened, collects_ordered, collects_numbers}
-use Rattle.sum_reduce.proofs.{Shared.{collects_like, collects_then, terms_of_loose, opened, terms_of_number, sum_tree, leads_number, written_tree}, CollectedParts.{opened_parts}}
-use Rattle.calc_room.proofs.TreeBytes.{counted_number, none_counted, number_counts}
-use Rattle.tree_room.proofs.{Coefficients.{part_counts}, Counts.{appended}}
-use Rattle.like_children.proofs.{Counted.{counted_at_most, counted_in, permuted_counted, put_counted}, Permutations.{of_lists}}
-use Rattle.coefficients.proofs.TermMultiples.{behind_parts}
+use Rattle.sum_reduce.proofs.Shared.{◌≡◌, suc, ◌≤◌, Bool, true, false, if◌then◌else◌, refl, ap, subst, arith, permuted_parts, first_parts, Tree, Trees, none, more, append, count, AllPartsOf, IsNumber}
+use Rattle.sum_reduce.proofs.Shared.{is_number, HasForm, number_test, number_words, counted, counted_among, with_coefficient, IsMonic, put_formed, taken, number_parts, parts_defined, parts_reduced}
+use Rattle.sum_reduce.proofs.Shared.{AreLike, Collects, collects_opened, collects_ordered, collects_numbers, collects_like, collects_then, terms_of_loose, opened, terms_of_number, sum_tree}
+use Rattle.sum_reduce.proofs.Shared.{leads_number, written_tree, counted_number, none_counted, number_counts, part_counts, appended, counted_at_most, counted_in, permuted_counted, put_counted}
+use Rattle.sum_reduce.proofs.{Shared.{of_lists, behind_parts}, CollectedParts.{opened_parts}}
 
 other_counts : (t : Tree) → is_number t ≡ false → counted_in t ≡ counted t
 other_counts t e = ap (λ (b : Bool). if b then 0 else counted t) e

@@ -1,14 +1,14 @@
 -- Exponents that count their bases are collected to exponents that count them no more often.
-use Rattle.std.proofs.{Common.{◌≡◌, ℕ, ◌≤◌, ◌++◌, [], ℤ, pos, ◌+ℤ◌, ◌*ℤ◌, Bool, true, false, ◌==◌, if◌then◌else◌, refl, sym, ap, ◌∙◌, subst, arith}, lemmas.Bool.{false≢true, true≢false}}
-use Rattle.sum_reduce.proofs.Shared.{first_parts, and_parts, and_from, Fraction, times, whole_fraction, zero_fraction, one_fraction, is_zero_fraction, is_one_fraction, one_is, whole_denominator}
-use Rattle.sum_reduce.proofs.Shared.{whole_numerator, Tree, num, symbol, undef, add, mult, Trees, none, more, append, count, is_add, has_undef, AllPartsOf, IsNumber, is_number, value, NoneIs, HasForm}
-use Rattle.sum_reduce.proofs.Shared.{part_of, product_tree, Same, surd_of, Permuted, permuted_none, permuted_more, permuted_swap, permuted_trans, number_rational, number_words, Same-trans}
-use Rattle.sum_reduce.proofs.Shared.{coefficient_of, rational_before, with_coefficient, IsMonic, mapped, rational_times_term, monic_sum, monic_no_number, IsNumberOf, AreLike, sum_of_coefficients}
-use Rattle.sum_reduce.proofs.Shared.{Collects, collects_opened, collects_ordered, collects_numbers, collects_like, collects_then, terms_of_loose, opened, terms_of_number, sum_tree, leads_number}
-use Rattle.sum_reduce.proofs.Shared.{written_tree, Counts, counts, added, is_counted, are_counted, counts_of, counts_of_all, IsWithin, IsCountedWithin, KeepsSumBounds}
-use Rattle.sum_reduce.proofs.{CollectedCounts.{collected_formed, like_monic}, CountedMultiples.{within_same, within_after, within_both, nothing_within, sum_within, product_within, multiple_added}}
-use Rattle.calc_algebra.proofs.{ExponentLaws.{whole_plus, whole_times}, MeaningLaws.{Same-sym}, TermLaws.{joined_radicand, Same-append, Same-eq, zero_term}}
-use Rattle.like_children.proofs.{Permutations.{of_lists}, Addends.{num_value}}
+use Rattle.sum_reduce.proofs.Shared.{◌≡◌, ℕ, ◌≤◌, ◌++◌, [], ℤ, pos, ◌+ℤ◌, ◌*ℤ◌, Bool, true, false, ◌==◌, if◌then◌else◌, refl, sym, ap, ◌∙◌, subst, arith, false≢true, true≢false, first_parts}
+use Rattle.sum_reduce.proofs.Shared.{and_parts, and_from, Fraction, times, whole_fraction, zero_fraction, one_fraction, is_zero_fraction, is_one_fraction, one_is, whole_denominator, whole_numerator}
+use Rattle.sum_reduce.proofs.Shared.{Tree, num, symbol, undef, add, mult, Trees, none, more, append, count, is_add, has_undef, AllPartsOf, IsNumber, is_number, value, NoneIs, HasForm, part_of}
+use Rattle.sum_reduce.proofs.Shared.{product_tree, Same, surd_of, Permuted, permuted_none, permuted_more, permuted_swap, permuted_trans, number_rational, number_words, Same-trans, coefficient_of}
+use Rattle.sum_reduce.proofs.Shared.{rational_before, with_coefficient, IsMonic, mapped, rational_times_term, monic_sum, monic_no_number, IsNumberOf, AreLike, sum_of_coefficients, Collects}
+use Rattle.sum_reduce.proofs.Shared.{collects_opened, collects_ordered, collects_numbers, collects_like, collects_then, terms_of_loose, opened, terms_of_number, sum_tree, leads_number, written_tree}
+use Rattle.sum_reduce.proofs.Shared.{Counts, counts, added, is_counted, are_counted, counts_of, counts_of_all, IsWithin, IsCountedWithin, KeepsSumBounds, whole_plus, whole_times, Same-sym}
+use Rattle.sum_reduce.proofs.{Shared.{joined_radicand, Same-append, Same-eq, zero_term, of_lists}, CollectedCounts.{collected_formed, like_monic}, CountedMultiples.{within_same, within_after}}
+use Rattle.sum_reduce.proofs.CountedMultiples.{within_both, nothing_within, sum_within, product_within, multiple_added}
+use Rattle.number_forms.proofs.RationalCalls.{rational_value as num_value}
 use Rattle.tree_bits.specs.Exponents.{multiple}
 pub use Rattle.calc_measures.proofs.LiteralValues.{whole_of}
 

@@ -1,10 +1,7 @@
 -- What holds of each part of the terms of a sum holds of each part of what they are collected to.
-use Rattle.std.proofs.Common.{◌≡◌, ◌≤◌, ◌++◌, true, subst, arith}
-use Rattle.sum_reduce.proofs.Shared.{Fraction, Tree, num, add, mult, Trees, none, more, count, AllParts, AllPartsOf, is_number, value, part_of, split_product, coefficient_of, AllPartsOf-append}
-use Rattle.sum_reduce.proofs.Shared.{IsNumberOf, permuted_parts, first_parts, product_tree_parts, with_parts, AreLike, sum_of_coefficients, Collects, collects_opened, collects_ordered}
-use Rattle.sum_reduce.proofs.Shared.{collects_numbers, collects_like, collects_then, terms_of_loose, opened, written_tree}
-use Rattle.like_children.proofs.Permutations.{of_lists}
-use Rattle.coefficients.proofs.TermMultiples.{behind_parts}
+use Rattle.sum_reduce.proofs.Shared.{◌≡◌, ◌≤◌, ◌++◌, true, subst, arith, Fraction, Tree, num, add, mult, Trees, none, more, count, AllParts, AllPartsOf, is_number, value, part_of, split_product}
+use Rattle.sum_reduce.proofs.Shared.{coefficient_of, AllPartsOf-append, IsNumberOf, permuted_parts, first_parts, product_tree_parts, with_parts, AreLike, sum_of_coefficients, Collects}
+use Rattle.sum_reduce.proofs.Shared.{collects_opened, collects_ordered, collects_numbers, collects_like, collects_then, terms_of_loose, opened, written_tree, of_lists, behind_parts}
 
 -- ---- terms that are opened, change places, or stand before others
 

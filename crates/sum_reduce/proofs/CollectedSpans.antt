@@ -1,10 +1,7 @@
 -- What spans the terms of a sum spans what they are collected to, and each power in that is a part of one of them.
-use Rattle.std.proofs.Common.{arith, ◌≡◌, ℕ, List, true}
-use Rattle.sum_reduce.proofs.Shared.{Tree, num, mult, root, Trees, none, more, is_add, value, split_product, num_one, number_words, term_words, Spans, SpansRoot, SpansTree, SpansTrees, coefficient_of}
-use Rattle.sum_reduce.proofs.{Shared.{IsNumberOf, sum_spans, children_of, sum_of_coefficients, Collects, written_tree, IsPowerOf, HasPowersOf}, CollectedParts.{collected_parts, written_parts}}
-use Rattle.sum_reduce.proofs.Splits.{split_cases}
-use Rattle.calc_room.proofs.NumberSpans.{spans_append, spans_same, term_spanned, tree_spanned, value_spanned}
-use Rattle.like_children.proofs.OwnPowers.{number_powers, own_powers_of}
+use Rattle.sum_reduce.proofs.Shared.{arith, ◌≡◌, ℕ, List, true, Tree, num, mult, root, Trees, none, more, is_add, value, split_product, num_one, number_words, term_words, Spans, SpansRoot, SpansTree}
+use Rattle.sum_reduce.proofs.Shared.{SpansTrees, coefficient_of, IsNumberOf, sum_spans, children_of, sum_of_coefficients, Collects, written_tree, IsPowerOf, HasPowersOf, spans_append, spans_same}
+use Rattle.sum_reduce.proofs.{Shared.{term_spanned, tree_spanned, value_spanned, number_powers, own_powers_of}, CollectedParts.{collected_parts, written_parts}, Splits.{split_cases}}
 
 split_spans : (gs : List ℕ) (ts : Trees) → SpansTrees gs ts → Spans gs (value (split_product ts).coefficient)
 split_spans gs ts =

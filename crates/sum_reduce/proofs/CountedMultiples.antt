@@ -1,6 +1,5 @@
 -- Multiples of how often an exponent counts its base.
-use Rattle.std.proofs.Common.{◌≡◌, ℕ, suc, ◌+◌, ◌*◌, ◌≤◌, ℤ, pos, negsuc, ◌+ℤ◌, ◌*ℤ◌, refl, ap, arith}
-use Rattle.sum_reduce.proofs.Shared.{mul-le, Counts, counts, added, IsWithin}
+use Rattle.sum_reduce.proofs.Shared.{◌≡◌, ℕ, suc, ◌+◌, ◌*◌, ◌≤◌, ℤ, pos, negsuc, ◌+ℤ◌, ◌*ℤ◌, refl, ap, arith, mul-le, Counts, counts, added, IsWithin}
 use Rattle.tree_bits.specs.Exponents.{multiple}
 
 -- ---- within

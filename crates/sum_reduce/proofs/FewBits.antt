@@ -1,9 +1,8 @@
 -- The next two Numbers that are added have few bits, where the terms of a sum have.
-use Rattle.std.proofs.Common.{◌≡◌, ℕ, suc, ◌<◌, ◌++◌, [], ◌∷◌, List, false, ap, ◌∙◌, subst, arith}
-use Rattle.sum_reduce.proofs.Shared.{count_removed, is_number, value, part_of, HasFewBits, Tree, Trees, more, count, coefficient_of, factors_of, IsPairAt, removed, HaveFewBits, IsJoining, is_loose}
-use Rattle.sum_reduce.proofs.{Shared.{is_partner, addends_of_each, Addend, addend, addends, nth}, Held.{held_behind, held_equal, held_permuted, few_after, few_of_both}, Joins.{partners, tight_other}}
+use Rattle.sum_reduce.proofs.Shared.{◌≡◌, ℕ, suc, ◌<◌, ◌++◌, [], ◌∷◌, List, false, ap, ◌∙◌, subst, arith, count_removed, is_number, value, part_of, HasFewBits, Tree, Trees, more, count}
+use Rattle.sum_reduce.proofs.Shared.{coefficient_of, factors_of, IsPairAt, removed, HaveFewBits, IsJoining, is_loose, is_partner, addends_of_each, Addend, addend, addends, nth, term_addends}
+use Rattle.sum_reduce.proofs.{Shared.{nth_behind_removed, taken_permuted, none_permuted}, Held.{held_behind, held_equal, held_permuted, few_after, few_of_both}, Joins.{partners, tight_other}}
 use Rattle.sum_reduce.proofs.Stages.{formed_permuted}
-use Rattle.like_children.proofs.{Addends.{term_addends}, Places.{nth_behind_removed, taken_permuted}, Permutations.{none_permuted}}
 
 pub next_partner_few : (ts : Trees) (c : Tree) (us : Trees) (at less : ℕ) → IsJoining ts c (nth at us) (removed at us) less → IsPairAt is_partner at us → HaveFewBits (addends_of_each ts)
     → HasFewBits (value c ++ value (coefficient_of (nth (suc at) us)))

@@ -1,9 +1,8 @@
 -- Addends that change places, are left out, or are joined, beside any others.
-use Rattle.std.proofs.Common.{◌≡◌, ℕ, ◌+◌, ◌*◌, ◌^◌, ◌≤◌, List, [], ◌∷◌, ◌++◌, sym, ap, subst, arith, append_assoc, append-nil}
-use Rattle.sum_reduce.proofs.Shared.{mul-le, pow_pos, pow-le-pow_right, Surd, Permuted, permuted_none, permuted_more, permuted_swap, permuted_trans, HasFewBits, IsNoLarger, mass, IsHeld, parts_append}
-use Rattle.sum_reduce.proofs.Shared.{mass-append, parts_left, parts_right, Trees, none, KeepsHeld, HaveFewBits, IsSumHeld, addends_of_each, Addend, addend, addends, AreWeighted, more_weighted}
-use Rattle.sum_reduce.proofs.Shared.{no_factor_held, Weighted, weighted, lows, weighted_mass, AreHeld}
-use Rattle.tree_bits.proofs.Joined.{addend_left_out, addend_to_front, addend_from_front, addends_joined}
+use Rattle.sum_reduce.proofs.Shared.{◌≡◌, ℕ, ◌+◌, ◌*◌, ◌^◌, ◌≤◌, List, [], ◌∷◌, ◌++◌, sym, ap, subst, arith, append_assoc, append-nil, mul-le, pow_pos, pow-le-pow_right, Surd, Permuted, permuted_none}
+use Rattle.sum_reduce.proofs.Shared.{permuted_more, permuted_swap, permuted_trans, HasFewBits, IsNoLarger, mass, IsHeld, parts_append, mass-append, parts_left, parts_right, Trees, none, KeepsHeld}
+use Rattle.sum_reduce.proofs.Shared.{HaveFewBits, IsSumHeld, addends_of_each, Addend, addend, addends, AreWeighted, more_weighted, no_factor_held, Weighted, weighted, lows, weighted_mass, AreHeld}
+use Rattle.sum_reduce.proofs.Shared.{addend_left_out, addend_to_front, addend_from_front, addends_joined}
 
 -- ---- one after the other, and side by side
 

@@ -1,11 +1,7 @@
 -- A coefficient before a sum that is one factor, and in each addend of that sum, beside any others.
-use Rattle.std.proofs.Common.{◌≡◌, ℕ, ◌+◌, ◌*◌, ◌^◌, ◌≤◌, ◌<◌, List, [], ◌∷◌, ◌++◌, map, sym, ap, subst, arith}
-use Rattle.sum_reduce.proofs.Shared.{mul-le, pow-add, pow-le-pow_right, Surd, surd_times, Parts, mass, parts_scale, parts_times, mass_scale, mass_times, mul_pos, add, Trees, none, more, KeepsHeld}
-use Rattle.sum_reduce.proofs.Shared.{IsSumHeld, distributed, Addend, addend, addends, IsTreeHeld, sum_held, AreWeighted, more_weighted, IsPartHeld, Weighted, weighted, PartsAll, lows, weighted_mass}
-use Rattle.sum_reduce.proofs.Shared.{AreHeld, weighted_both}
-use Rattle.tree_bits.proofs.Sums.{one_counts}
-use native.Mathlib.Nat.{mul_comm}
-use Rattle.tree_bits.proofs.Factors.{times_weighted}
+use Rattle.sum_reduce.proofs.Shared.{◌≡◌, ℕ, ◌+◌, ◌*◌, ◌^◌, ◌≤◌, ◌<◌, List, [], ◌∷◌, ◌++◌, map, sym, ap, subst, arith, mul-le, pow-add, pow-le-pow_right, Surd, surd_times, Parts, mass, parts_scale}
+use Rattle.sum_reduce.proofs.Shared.{parts_times, mass_scale, mass_times, mul_pos, add, Trees, none, more, KeepsHeld, IsSumHeld, distributed, Addend, addend, addends, IsTreeHeld, sum_held}
+use Rattle.sum_reduce.proofs.Shared.{AreWeighted, more_weighted, IsPartHeld, Weighted, weighted, PartsAll, lows, weighted_mass, AreHeld, weighted_both, one_counts, mul_comm, times_weighted}
 
 -- ---- weighted terms
 

@@ -1,14 +1,13 @@
 -- What holds the terms of a sum holds them opened, with one coefficient put back, and written as a tree.
-use Rattle.std.proofs.{Common.{◌≡◌, ◌≤◌, ℕ, List, [], ◌∷◌, ◌++◌, Bool, true, false, if◌then◌else◌, inl, inr, refl, sym, ap, ◌∙◌, subst, arith, append_assoc, append-nil}, lemmas.Bool.{true≢false}}
+use Rattle.sum_reduce.proofs.Shared.{◌≡◌, ◌≤◌, ℕ, List, [], ◌∷◌, ◌++◌, Bool, true, false, if◌then◌else◌, inl, inr, refl, sym, ap, ◌∙◌, subst, arith, append_assoc, append-nil, true≢false}
 use Rattle.sum_reduce.proofs.Shared.{not_from_false, Fraction, zero_fraction, is_zero_fraction, is_one_fraction, no_zero, one_is, Tree, num, add, Trees, none, more, append, count, is_add, AllParts}
 use Rattle.sum_reduce.proofs.Shared.{IsNumber, AreTerms, is_number, term_of, terms_of, value, HasForm, NoneIs, part_of, Same, Surd, surd_one, number_test, number_words, surd_times-surd_one}
 use Rattle.sum_reduce.proofs.Shared.{SharesDenominators, coefficient_of, factors_of, rational_before, with_coefficient, IsMonic, monic_sum, put, monic_parts, number_of_term, IsFactor, not_one_is}
 use Rattle.sum_reduce.proofs.Shared.{IsArranged, IsLead, KeepsHeld, AreFormed, terms_of_loose, opened, terms_of_number, sum_tree, written_tree, IsSumHeld, addends_of_each, distributed, Addend, addend}
-use Rattle.sum_reduce.proofs.{Shared.{addends, addends_of, IsTreeHeld, sum_as_tree, alone}, Held.{held_same, held_after, held_equal, held_behind, held_beside, held_joined, held_left_out}}
-use Rattle.sum_reduce.proofs.{Held.{held_nothing, held_split, holds}, HeldFactors.{held_distributed}, Settled.{no_sums}, WrittenSums.{number_terms_in, zero_value}}
-use Rattle.calc_bits.proofs.NoLarger.{no_larger}
-use Rattle.like_children.proofs.Addends.{IsSplit, monic_addends, multiple_addends, one_addend, one_value, rational_value, spliced_addends, split_sum, sum_addends, term_addends}
-use Rattle.number_forms.proofs.Shaped.{term_value}
+use Rattle.sum_reduce.proofs.Shared.{addends, addends_of, IsTreeHeld, sum_as_tree, alone, no_larger, IsSplit, monic_addends, multiple_addends, one_addend, one_value, spliced_addends, split_sum}
+use Rattle.sum_reduce.proofs.{Shared.{sum_addends, term_addends, term_value}, Held.{held_same, held_after, held_equal, held_behind, held_beside, held_joined, held_left_out, held_nothing, held_split}}
+use Rattle.sum_reduce.proofs.{Held.{holds}, HeldFactors.{held_distributed}, Settled.{no_sums}, WrittenSums.{number_terms_in, zero_value}}
+use Rattle.surd_bits.proofs.Rooted.{as_rational as rational_value}
 
 -- ---- lists of trees
 

@@ -1,11 +1,8 @@
 -- Which operation does not fit, from stage to stage of a sum.
-use Rattle.std.specs.Prelude.{Result, Ok, Err, IfErr}
-use Rattle.std.proofs.Common.{ℕ, suc, ◌<◌, ◌≤◌, ◌≡◌, false, ◌&&◌, sym, ap, ◌∙◌, subst, arith}
-use Rattle.sum_reduce.proofs.Shared.{count_removed, add_op, Fraction, is_number, value, part_of, calculated, Tree, num, Trees, more, append, count, is_num, permuted_trans, Permuted-append_right}
-use Rattle.sum_reduce.proofs.Shared.{coefficient_of, NamesPut, OfOverflow, monic_part, State, AnswersRationals, removed, Overflow, nth, NumberFault, IsPairAt, Collects, collects_ordered}
-use Rattle.sum_reduce.proofs.{Shared.{collects_then, IsJoining, NamesSum, Overflows, hinders_like, hinders_part, is_partner}, Joins.{partners}}
-use Rattle.number_forms.specs.Overflows.{SumOverflows}
-use Rattle.like_children.proofs.{Places.{nth_behind_removed, taken_permuted}, Permutations.{of_lists, to_lists}}
+use Rattle.sum_reduce.proofs.Shared.{Result, Ok, Err, IfErr, ℕ, suc, ◌<◌, ◌≤◌, ◌≡◌, false, ◌&&◌, sym, ap, ◌∙◌, subst, arith, count_removed, add_op, Fraction, is_number, value, part_of, calculated}
+use Rattle.sum_reduce.proofs.Shared.{Tree, num, Trees, more, append, count, is_num, permuted_trans, Permuted-append_right, coefficient_of, NamesPut, OfOverflow, monic_part, State, AnswersRationals}
+use Rattle.sum_reduce.proofs.Shared.{removed, Overflow, nth, NumberFault, IsPairAt, Collects, collects_ordered, collects_then, IsJoining, NamesSum, Overflows, hinders_like, hinders_part, is_partner}
+use Rattle.sum_reduce.proofs.{Shared.{SumOverflows, nth_behind_removed, taken_permuted, of_lists, to_lists}, Joins.{partners}}
 use Rattle.tree_handles.specs.declared.fault.NumberFault.TheVariants as fault
 
 -- ---- two Numbers

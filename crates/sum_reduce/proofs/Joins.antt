@@ -1,20 +1,19 @@
 -- Terms with identical parts become one.
-use Rattle.std.proofs.{Common.{ℕ, zero, suc, ◌+◌, ◌≤◌, ◌<◌, ◌≡◌, ◌++◌, [], ◌∷◌, Bool, true, false, ◌&&◌, not, refl, sym, ap, ◌∙◌, subst, arith, append-nil}, lemmas.Bool.{true≢false}}
-use Rattle.sum_reduce.proofs.Shared.{other_in, count_removed, is_eq, is_number, value, are_numbers, part_of, NoneIs, is_reduced, Same, tree_cmp, Tree, add, mult, Trees, none, more, append, count}
-use Rattle.sum_reduce.proofs.Shared.{names, names_of, nodes, is_add, is_undef, KeepsMeanings, KeepsMeanings-refl, KeepsMeanings-eq, KeepsMeanings-trans, KeepsMeanings-sum_more, Permuted, Permuted-sym}
-use Rattle.sum_reduce.proofs.Shared.{Permuted-append_right, Permuted-to_front, permuted_more, permuted_trans, permuted_sum, joined_in_sum, same_factor, number_words, number_test, sum_of_numbers}
-use Rattle.sum_reduce.proofs.Shared.{coefficient_times_part, Same-Agree, Agree-refl, Agree-trans, Agree-Same, Agree-append, append_comm, tree_cmp_equal, tree_cmp_refl, SharesDenominators}
-use Rattle.sum_reduce.proofs.Shared.{coefficient_of, factors_of, with_coefficient, taken, coefficient_same, put_formed, put_reduces, monic_part, monic_parts, monic_no_number, parts_reduced}
-use Rattle.sum_reduce.proofs.Shared.{parts_defined, keeps, kept, nth, inserted, IsPairAt, others_in, AreUnlike, AreLike, sum_of_coefficients, collects_ordered, collects_like, collects_then, IsAdded}
-use Rattle.sum_reduce.proofs.Shared.{IsJoining, IsStage, widths, removed, AreFormed, is_loose, is_partner, opened, IsNumberOver, Within, no_new_name, within_of, within_same, within_both}
-use Rattle.sum_reduce.proofs.Shared.{within_beside, within_trans, within_right, within_none, within_eq, names_permuted, number_names, addends_of_each, addend, nest_permuted, nest_number}
-use Rattle.sum_reduce.proofs.{Held.{held_after, held_beside, held_behind, held_equal, held_permuted, held_same}, HeldTerms.{partner_held, put_held}, Splits.{names_of_part, nest_of_part}}
-use Rattle.sum_reduce.proofs.{Rearranged.{tight_opened, others_permuted, unlike_permuted}, Stages.{formed_permuted, stage_after, stage_permuted}}
-use Rattle.sum_reduce.proofs.Widths.{widths_permuted, width_other, coefficient_width}
-use Rattle.calc_algebra.proofs.{NumberRewrites.{with_coefficient as coefficient_for}, TermLaws.{Same-eq}}
-use Rattle.coefficients.proofs.{Bounds.{coefficient_nest}, Keeps.{coefficient_keeps}}
-use Rattle.like_children.proofs.{Addends.{term_addends}, Places.{count_inserted, inserted_permuted, nth_behind_inserted, nth_behind_removed, nth_inserted, nth_removed, removed_inserted, removed_two}}
-use Rattle.like_children.proofs.{Places.{taken_permuted}, Permutations.{of_lists, to_lists, none_permuted}}
+use Rattle.sum_reduce.proofs.Shared.{ℕ, zero, suc, ◌+◌, ◌≤◌, ◌<◌, ◌≡◌, ◌++◌, [], ◌∷◌, Bool, true, false, ◌&&◌, not, refl, sym, ap, ◌∙◌, subst, arith, append-nil, true≢false, other_in, count_removed}
+use Rattle.sum_reduce.proofs.Shared.{is_eq, is_number, value, are_numbers, part_of, NoneIs, is_reduced, Same, tree_cmp, Tree, add, mult, Trees, none, more, append, count, names, names_of, nodes}
+use Rattle.sum_reduce.proofs.Shared.{is_add, is_undef, KeepsMeanings, KeepsMeanings-refl, KeepsMeanings-eq, KeepsMeanings-trans, KeepsMeanings-sum_more, Permuted, Permuted-sym, Permuted-append_right}
+use Rattle.sum_reduce.proofs.Shared.{Permuted-to_front, permuted_more, permuted_trans, permuted_sum, joined_in_sum, same_factor, number_words, number_test, sum_of_numbers, coefficient_times_part}
+use Rattle.sum_reduce.proofs.Shared.{Same-Agree, Agree-refl, Agree-trans, Agree-Same, Agree-append, append_comm, tree_cmp_equal, tree_cmp_refl, SharesDenominators, coefficient_of, factors_of}
+use Rattle.sum_reduce.proofs.Shared.{with_coefficient, taken, coefficient_same, put_formed, put_reduces, monic_part, monic_parts, monic_no_number, parts_reduced, parts_defined, keeps, kept, nth}
+use Rattle.sum_reduce.proofs.Shared.{inserted, IsPairAt, others_in, AreUnlike, AreLike, sum_of_coefficients, collects_ordered, collects_like, collects_then, IsAdded, IsJoining, IsStage, widths}
+use Rattle.sum_reduce.proofs.Shared.{removed, AreFormed, is_loose, is_partner, opened, IsNumberOver, Within, no_new_name, within_of, within_same, within_both, within_beside, within_trans}
+use Rattle.sum_reduce.proofs.Shared.{within_right, within_none, within_eq, names_permuted, number_names, addends_of_each, addend, nest_permuted, nest_number, Same-eq, coefficient_nest}
+use Rattle.sum_reduce.proofs.Shared.{coefficient_keeps, term_addends, count_inserted, inserted_permuted, nth_behind_inserted, nth_behind_removed, nth_inserted, removed_inserted, removed_two}
+use Rattle.sum_reduce.proofs.{Shared.{taken_permuted, of_lists, to_lists, none_permuted}, Held.{held_after, held_beside, held_behind, held_equal, held_permuted, held_same}}
+use Rattle.sum_reduce.proofs.{HeldTerms.{partner_held, put_held}, Splits.{names_of_part, nest_of_part}, Rearranged.{tight_opened, others_permuted, unlike_permuted}}
+use Rattle.sum_reduce.proofs.{Stages.{formed_permuted, stage_after, stage_permuted}, Widths.{widths_permuted, width_other, coefficient_width}}
+use Rattle.calc_algebra.proofs.NumberRewrites.{with_coefficient as coefficient_for}
+use Rattle.number_forms.proofs.Exchanged.{nth_before as nth_removed}
 
 -- ---- what partners are
 

@@ -1,16 +1,15 @@
 -- The Numbers among the terms become one.
-use Rattle.std.specs.Prelude.{Err, Option, MatchOption, is_some}
-use Rattle.std.proofs.{Common.{ℕ, suc, ◌<◌, ◌≤◌, ◌≡◌, ◌++◌, [], ◌∷◌, true, false, refl, sym, ap, ◌∙◌, subst, arith}, lemmas.Bool.{true≢false}}
-use Rattle.sum_reduce.proofs.Shared.{and_parts, add_op, is_number, are_numbers, value, NoneIs, permuted_more, number_words, HasFewBits, PlainValue, fold_values, plain_value, Tree, add, Trees, none}
-use Rattle.sum_reduce.proofs.Shared.{more, append, count, is_num, are_rationals, number_parts, State, Overflow, addends_of_each, alone, NumberFault, nth, Forest, IsBehind, behind_first, behind_later}
-use Rattle.sum_reduce.proofs.Shared.{behind_new, front_same, front_at, front_put, front_without, put-put, num_number, sum_begun, plain_sum, first_of, fold_done, no_numbers, no_rationals}
-use Rattle.sum_reduce.proofs.Shared.{numbers_first, trees_assoc, both_true, front_numbers, end_numbers, numbers_are, none_number, removed, IsLead, IsLed, IsNumbered, IsFolded, AnswersFold}
-use Rattle.sum_reduce.proofs.{Shared.{HaveFewBits, NamesSum, Overflows, hinders_numbers, IsStage, Takes, AreFormed, is_loose}, Held.{held_equal, few_after, few_of_both}, Opened.{number_tight}}
-use Rattle.sum_reduce.proofs.{Stages.{formed_permuted, stage_after, stage_permuted, stage_same, stage_added}, Sums.{takes_rest}}
+use Rattle.sum_reduce.proofs.Shared.{Err, Option, is_some, ℕ, suc, ◌<◌, ◌≤◌, ◌≡◌, ◌++◌, [], ◌∷◌, true, false, refl, sym, ap, ◌∙◌, subst, arith, true≢false, and_parts, add_op, is_number, are_numbers}
+use Rattle.sum_reduce.proofs.Shared.{value, NoneIs, permuted_more, number_words, HasFewBits, PlainValue, fold_values, plain_value, Tree, add, Trees, none, more, append, count, is_num, are_rationals}
+use Rattle.sum_reduce.proofs.Shared.{number_parts, State, Overflow, addends_of_each, alone, NumberFault, nth, Forest, IsBehind, behind_first, behind_later, behind_new, front_same, front_at, front_put}
+use Rattle.sum_reduce.proofs.Shared.{front_without, put-put, num_number, sum_begun, plain_sum, first_of, fold_done, no_numbers, no_rationals, numbers_first, trees_assoc, both_true, front_numbers}
+use Rattle.sum_reduce.proofs.Shared.{end_numbers, numbers_are, none_number, removed, IsLead, IsLed, IsNumbered, IsFolded, AnswersFold, HaveFewBits, NamesSum, Overflows, hinders_numbers, IsStage}
+use Rattle.sum_reduce.proofs.Shared.{Takes, AreFormed, is_loose, rational_of, rationals_of, IsTotal, AnswersTotal, AreJoined, IsNextOf, IsNextNumber, NoNumberBetween, taken_permuted, none_permuted}
+use Rattle.sum_reduce.proofs.{Shared.{behind_none}, Held.{held_equal, few_after, few_of_both}, Opened.{number_tight}, Stages.{formed_permuted, stage_after, stage_permuted, stage_same, stage_added}}
+use Rattle.sum_reduce.proofs.Sums.{takes_rest}
+use Rattle.std.specs.Prelude.{MatchOption}
 use Rattle.tree_handles.specs.Roots.{put}
-use Rattle.like_children.specs.{Folds.{rational_of, rationals_of, IsTotal, AnswersTotal}, Joining.{AreJoined, IsNextOf}, Numbers.{numbers_in, others_in, IsNextNumber, NoNumberBetween}}
-use Rattle.like_children.proofs.{Places.{taken_permuted}, Permutations.{none_permuted}}
-use Rattle.coefficients.proofs.TermMultiples.{behind_none}
+use Rattle.like_children.specs.Numbers.{numbers_in, others_in}
 
 -- Numbers among the terms were added to another: it is a Number, and none of the terms is
 pub record IsGathered (n : Tree) (ts : Trees) (m : Tree) (us : Trees) : Type 0 where

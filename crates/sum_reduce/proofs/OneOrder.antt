@@ -1,8 +1,6 @@
 -- Terms no two of which have identical parts have one order, and with a Number they are one tree.
-use Rattle.std.proofs.Common.{◌≡◌, sym, ap, ◌∙◌}
-use Rattle.sum_reduce.proofs.Shared.{none_number, is_number, part_of, NoneIs, RisesBy, Tree, Trees, none, more, append, permuted_trans, Permuted-sym, IsSorting, others_in, AreUnlike, IsWritten}
-use Rattle.sum_reduce.proofs.{Shared.{terms_of_number, sum_tree}, Rearranged.{unlike_permuted}, Settled.{AreApart, rises_strictly}}
-use Rattle.like_children.proofs.{OneOrder.{rising_once}, Permutations.{none_permuted, of_lists}}
+use Rattle.sum_reduce.proofs.Shared.{◌≡◌, sym, ap, ◌∙◌, none_number, is_number, part_of, NoneIs, RisesBy, Tree, Trees, none, more, append, permuted_trans, Permuted-sym, IsSorting, others_in}
+use Rattle.sum_reduce.proofs.{Shared.{AreUnlike, IsWritten, terms_of_number, sum_tree, rising_once, none_permuted, of_lists}, Rearranged.{unlike_permuted}, Settled.{AreApart, rises_strictly}}
 
 -- ---- rising strictly
 

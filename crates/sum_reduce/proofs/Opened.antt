@@ -1,10 +1,8 @@
 -- Sums among the terms are opened.
-use Rattle.std.proofs.Common.{◌≤◌, ◌≡◌, Bool, true, false, not, ◌&&◌, if◌then◌else◌, refl, ap, subst, arith}
-use Rattle.sum_reduce.proofs.Shared.{nest, nest_of, is_number, are_numbers, HasForm, IsSumForm, NoneIs, Tree, add, Trees, none, more, count, names, names_of, is_add, AllParts, KeepsMeanings}
-use Rattle.sum_reduce.proofs.Shared.{KeepsMeanings-refl, KeepsMeanings-sum_append, flat_sum, number_test, AllPartsOf-append, children_of, append_none, count_append, width, widths, AreFormed, is_loose}
-use Rattle.sum_reduce.proofs.{Shared.{terms_of_loose, opened, Within, within_same, within_beside, within_trans, within_eq, within_both, names_of-append, nest-append}, Widths.{widths-append}}
-use Rattle.like_children.specs.Opening.{Opens}
-use Rattle.coefficients.proofs.{Splits.{NoneIs-append}, Factors.{two_count}}
+use Rattle.sum_reduce.proofs.Shared.{◌≤◌, ◌≡◌, Bool, true, false, not, ◌&&◌, if◌then◌else◌, refl, ap, subst, arith, nest, nest_of, is_number, are_numbers, HasForm, IsSumForm, NoneIs, Tree, add, Trees}
+use Rattle.sum_reduce.proofs.Shared.{none, more, count, names, names_of, is_add, AllParts, KeepsMeanings, KeepsMeanings-refl, KeepsMeanings-sum_append, flat_sum, number_test, AllPartsOf-append}
+use Rattle.sum_reduce.proofs.Shared.{children_of, append_none, count_append, width, widths, AreFormed, is_loose, terms_of_loose, opened, Within, within_same, within_beside, within_trans, within_eq}
+use Rattle.sum_reduce.proofs.{Shared.{within_both, names_of-append, nest-append, Opens, NoneIs-append, two_count}, Widths.{widths-append}}
 
 -- ---- one tree
 

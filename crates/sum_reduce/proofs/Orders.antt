@@ -1,8 +1,6 @@
 -- From opened terms to terms in order.
-use Rattle.std.specs.Prelude.{Err}
-use Rattle.std.proofs.Common.{ℕ, ◌≤◌, ◌≡◌, true, refl, sym, ap, ◌∙◌, subst, arith}
-use Rattle.sum_reduce.proofs.Shared.{PlainValue, plain_value, NoneIs, num, add, Trees, none, more, append, count, are_rationals, NumberFault, IsPairAt, IsFolded, AnswersFold, IsLead, IsArranged}
-use Rattle.sum_reduce.proofs.{Shared.{IsStage, AreFormed, opened, is_loose, is_partner}, Stages.{stage_opened}}
+use Rattle.sum_reduce.proofs.Shared.{Err, ℕ, ◌≤◌, ◌≡◌, true, refl, sym, ap, ◌∙◌, subst, arith, PlainValue, plain_value, NoneIs, num, add, Trees, none, more, append, count, are_rationals, NumberFault}
+use Rattle.sum_reduce.proofs.{Shared.{IsPairAt, IsFolded, AnswersFold, IsLead, IsArranged, IsStage, AreFormed, opened, is_loose, is_partner}, Stages.{stage_opened}}
 
 pub opened_stage : (ts us : Trees) → AreFormed ts → 1 ≤ count ts → us ≡ opened ts → IsStage ts us
 opened_stage ts us f l e = subst (IsStage ts) (sym e) (stage_opened ts f l)

@@ -1,8 +1,6 @@
 -- The key of a term's part.
-use Rattle.std.proofs.Common.{ℕ, ◌≤◌, ◌≡◌, eqb, cond, true, false, ap, ◌∙◌, arith}
-use Rattle.sum_reduce.proofs.Shared.{is_number, split_product, product_tree, part_of, is_reduced, Tree, Trees, count, is_mult, coefficient_length, plain, children_of, IsExpression, Forest, tree_at}
-use Rattle.coefficients.proofs.Lengths.{IsMeasured, long, measured, some_factors, product_part}
-use Rattle.node_order.specs.{declared.keys.Key.{Key}, Keys.{trees_behind, key_tree, IsKey}}
+use Rattle.sum_reduce.proofs.Shared.{ℕ, ◌≤◌, ◌≡◌, eqb, cond, true, false, ap, ◌∙◌, arith, is_number, split_product, product_tree, part_of, is_reduced, Tree, Trees, count, is_mult, coefficient_length}
+use Rattle.sum_reduce.proofs.Shared.{plain, children_of, IsExpression, Forest, tree_at, IsMeasured, long, measured, some_factors, product_part, Key, trees_behind, key_tree, IsKey}
 
 whole_product : (t : Tree) → is_mult t ≡ true → 2 ≤ count (children_of t) → t ≡ product_tree (children_of t)
 whole_product t m l = grind arith

@@ -1,9 +1,7 @@
 -- A rational coefficient that is held with a sum behind it goes into each term of that sum: nothing overflows.
-use Rattle.std.proofs.Common.{List, ◌∷◌, ◌++◌}
-use Rattle.sum_reduce.proofs.Shared.{Tree, num, add, value, factors_of, IsMonic, NamesPut, State, Overflow, HaveFewBits, distributed, Addend, addend, addends, OfOverflow, NumberFault}
-use Rattle.sum_reduce.proofs.{Held.{few_after, held_same, held_beside}, HeldFactors.{held_distributed}}
-use Rattle.like_children.proofs.Fits.{rational_fits}
-use Rattle.tree_handles.specs.Causes.{IsCaused, Overflows}
+use Rattle.sum_reduce.proofs.Shared.{List, ◌∷◌, ◌++◌, Tree, num, add, value, factors_of, IsMonic, NamesPut, State, Overflow, HaveFewBits, distributed, Addend, addend, addends, OfOverflow, NumberFault}
+use Rattle.sum_reduce.proofs.{Shared.{rational_fits, IsCaused}, Held.{few_after, held_same, held_beside}, HeldFactors.{held_distributed}}
+use Rattle.tree_handles.specs.Causes.{Overflows}
 use Rattle.tree_handles.specs.declared.fault.NumberFault.TheVariants as fault
 
 put_within : (c p : Tree) (xs : List Addend) (o : Overflow) → IsMonic p → NamesPut c p o → Overflows o → HaveFewBits (addend (value c) (factors_of p) ∷ xs) → ⊥

@@ -1,10 +1,6 @@
 -- What is answered where all terms are rationals.
-use Rattle.std.specs.Prelude.{Err}
-use Rattle.std.proofs.Common.{arith, ◌≡◌, true}
-use Rattle.sum_reduce.proofs.Shared.{plain_value, Tree, num, add, Trees, none, more, is_add, are_rationals, has_undef, State, AnswersRationals, NumberFault, children_of, IsFolded, AnswersFold}
-use Rattle.sum_reduce.proofs.Shared.{written_tree}
-use Rattle.calc_measures.specs.PlainTrees.{IsPlainAnswer}
-use Rattle.coefficients.proofs.Lacks.{sum_whole}
+use Rattle.sum_reduce.proofs.Shared.{Err, arith, ◌≡◌, true, plain_value, Tree, num, add, Trees, none, more, is_add, are_rationals, has_undef, State, AnswersRationals, NumberFault, children_of}
+use Rattle.sum_reduce.proofs.Shared.{IsFolded, AnswersFold, written_tree, IsPlainAnswer, sum_whole}
 
 -- Undef is no rational
 pub undef_rationals : (ts : Trees) → are_rationals ts ≡ true → has_undef ts ≡ true → ⊥

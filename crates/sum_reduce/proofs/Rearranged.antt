@@ -1,11 +1,9 @@
 -- The terms of a sum that change places, are opened or added, with their Numbers and the others.
-use Rattle.std.specs.Prelude.{IsPermutation}
-use Rattle.std.proofs.{Common.{◌≡◌, ◌≤◌, ◌++◌, [], true, refl, sym, ap, ◌∙◌, subst, arith, append_assoc}, lemmas.List.Sorted.{IsPermutation-refl, IsPermutation-trans}}
-use Rattle.sum_reduce.proofs.Shared.{is_number, value, NoneIs, Same, Tree, Trees, none, more, append, count, Permuted, Permuted-refl, Permuted-sym, permuted_none, permuted_more, permuted_swap}
-use Rattle.sum_reduce.proofs.Shared.{permuted_trans, Permuted-append_right, Permuted-to_front, Same-Agree, Agree, Agree-refl, Agree-trans, Agree-eq, Agree-Same, Agree-append, append_comm}
-use Rattle.sum_reduce.proofs.Shared.{tree_cmp_total, list_of, number_in, number_out, numbers_in, others_in, sum_of_values, AreUnlike, IsRearranged, is_loose, is_partner, terms_of_loose, opened}
+use Rattle.sum_reduce.proofs.Shared.{IsPermutation, ◌≡◌, ◌≤◌, ◌++◌, [], true, refl, sym, ap, ◌∙◌, subst, arith, append_assoc, IsPermutation-refl, IsPermutation-trans, is_number, value, NoneIs, Same}
+use Rattle.sum_reduce.proofs.Shared.{Tree, Trees, none, more, append, count, Permuted, Permuted-refl, Permuted-sym, permuted_none, permuted_more, permuted_swap, permuted_trans, Permuted-append_right}
+use Rattle.sum_reduce.proofs.Shared.{Permuted-to_front, Same-Agree, Agree, Agree-refl, Agree-trans, Agree-eq, Agree-Same, Agree-append, append_comm, tree_cmp_total, list_of, number_in, number_out}
+use Rattle.sum_reduce.proofs.Shared.{numbers_in, others_in, sum_of_values, AreUnlike, IsRearranged, is_loose, is_partner, terms_of_loose, opened, count_permuted, none_permuted, of_lists, to_lists}
 use Rattle.sum_reduce.proofs.Opened.{tight_terms, number_tight}
-use Rattle.like_children.proofs.Permutations.{count_permuted, none_permuted, of_lists, to_lists}
 
 -- ---- opened
 

@@ -1,18 +1,13 @@
 -- How many bytes the terms of a sum have while they are collected, and for how few at hand that is refused.
-use Rattle.std.proofs.Common.{◌≡◌, ℕ, suc, ◌+◌, ◌*◌, ◌^◌, ◌<◌, ◌≤◌, List, length, true, refl, ap, ◌∙◌, subst, arith}
-use Rattle.sum_reduce.proofs.Shared.{first_parts, permuted_parts, count_removed, sizes_taken, and_from, is_number, NoneIs, Permuted, permuted_none, permuted_more, permuted_swap, permuted_trans}
-use Rattle.sum_reduce.proofs.Shared.{number_words, counted, counted_among, SpansRoot, SpansTree, SpansTrees, Tree, add, Trees, none, more, append, count, size, with_coefficient, put_room, IsPairAt}
-use Rattle.sum_reduce.proofs.Shared.{State, free_of, removed, number_size, IsArranged, IsLead, AreLike, Collects, IsJoining, AreFormed, is_partner, nth, inserted, counted_in_all, sum_count}
-use Rattle.sum_reduce.proofs.{CollectedCounts.{collected_counts}, CollectedParts.{part_parts}, CollectedSpans.{total_spans}}
-use Rattle.calc_room.specs.Needs.{sum_need}
-use Rattle.coefficients.specs.Bytes.{bytes_of_taking, IsShort}
-use Rattle.node_pool.specs.declared.full.Full.{Full}
-use Rattle.sum_reduce.specs.Rooms.{terms_room}
-use Rattle.like_children.proofs.{Counted.{counted_at_most, put_counted}, Places.{inserted_permuted, nth_behind_removed, taken_permuted}, Permutations.{of_lists}, Parts.{formed_reduced}}
-use Rattle.tree_room.specs.Needs.{tree_bytes, sum_room}
-use Rattle.tree_room.proofs.{Coefficients.{part_counts}, Counts.{all_appended, counts_one, number_counts_one, numbers_and_others, appended}, Handed.{sum_bytes}, Multiples.{scaled}}
+use Rattle.sum_reduce.proofs.Shared.{◌≡◌, ℕ, suc, ◌+◌, ◌*◌, ◌^◌, ◌<◌, ◌≤◌, List, length, true, refl, ap, ◌∙◌, subst, arith, first_parts, permuted_parts, count_removed, sizes_taken, and_from}
+use Rattle.sum_reduce.proofs.Shared.{is_number, NoneIs, Permuted, permuted_none, permuted_more, permuted_swap, permuted_trans, number_words, counted, counted_among, SpansRoot, SpansTree, SpansTrees}
+use Rattle.sum_reduce.proofs.Shared.{Tree, add, Trees, none, more, append, count, size, with_coefficient, put_room, IsPairAt, State, free_of, removed, number_size, IsArranged, IsLead, AreLike}
+use Rattle.sum_reduce.proofs.Shared.{Collects, IsJoining, AreFormed, is_partner, nth, inserted, counted_in_all, sum_count, sum_need, bytes_of_taking, IsShort, Full, terms_room, counted_at_most}
+use Rattle.sum_reduce.proofs.Shared.{put_counted, inserted_permuted, nth_behind_removed, taken_permuted, of_lists, formed_reduced, tree_bytes, sum_room, part_counts, all_appended, counts_one}
+use Rattle.sum_reduce.proofs.{Shared.{number_counts_one, numbers_and_others, appended, sum_bytes, behind_parts}, CollectedCounts.{collected_counts}, CollectedParts.{part_parts}}
+use Rattle.sum_reduce.proofs.CollectedSpans.{total_spans}
+use Rattle.tree_room.proofs.Multiples.{scaled}
 pub use Rattle.number_forms.proofs.Rooms.{few_for_sum as few_lack}
-use Rattle.coefficients.proofs.TermMultiples.{behind_parts}
 
 -- ---- counts
 

@@ -1,13 +1,10 @@
 -- What is answered for settled terms.
-use Rattle.std.specs.Prelude.{⊤, IsSortedByKey}
-use Rattle.std.proofs.{Common.{suc, ◌≤◌, arith, add-one, ◌≡◌, Bool, true, false, if◌then◌else◌, refl, sym, ap, ◌∙◌, subst}, lemmas.Bool.{true≢false}}
-use Rattle.sum_reduce.proofs.Shared.{Ordering, Less, is_eq, is_lt, ordering_reverse, nest, nest_of, is_number, are_numbers, part_of, NoneIs, RisesBy, HasForm, is_reduced, tree_cmp, Tree, undef, add}
-use Rattle.sum_reduce.proofs.Shared.{Trees, none, more, append, count, names, names_of, is_add, AllParts, in_add, has_undef, KeepsMeanings, single_sum, number_test, numbers_defined, tree_cmp_total}
-use Rattle.sum_reduce.proofs.Shared.{parts_reduced, parts_defined, list_of, keeps, reduces_after, NoPairBetween, IsLead, IsSettled, IsStage, IsSumAnswer, AreFormed, is_loose, is_partner}
-use Rattle.sum_reduce.proofs.{Shared.{terms_of_number, sum_tree, written_tree, Within, no_new_name, within_left, within_none}, WrittenSums.{AreOthers, written_sum, written_formed, written_keeps}}
-use Rattle.sum_reduce.proofs.WrittenSums.{written_names, written_nest}
-use Rattle.calc_algebra.proofs.UndefRewrites.{undef_part}
-use Rattle.tree_handles.proofs.UndefChildren.{undef_inside}
+use Rattle.sum_reduce.proofs.Shared.{less_of, ⊤, IsSortedByKey, suc, ◌≤◌, arith, add-one, ◌≡◌, Bool, true, false, if◌then◌else◌, refl, sym, ap, ◌∙◌, subst, true≢false, Ordering, Less, is_eq, is_lt}
+use Rattle.sum_reduce.proofs.Shared.{ordering_reverse, nest, nest_of, is_number, are_numbers, part_of, NoneIs, RisesBy, HasForm, is_reduced, tree_cmp, Tree, undef, add, Trees, none, more, append}
+use Rattle.sum_reduce.proofs.Shared.{count, names, names_of, is_add, AllParts, in_add, has_undef, KeepsMeanings, single_sum, number_test, numbers_defined, tree_cmp_total, parts_reduced, parts_defined}
+use Rattle.sum_reduce.proofs.Shared.{list_of, keeps, reduces_after, NoPairBetween, IsLead, IsSettled, IsStage, IsSumAnswer, AreFormed, is_loose, is_partner, terms_of_number, sum_tree, written_tree}
+use Rattle.sum_reduce.proofs.{Shared.{Within, no_new_name, within_left, within_none, undef_part, undef_inside}, WrittenSums.{AreOthers, written_sum, written_formed, written_keeps, written_names}}
+use Rattle.sum_reduce.proofs.WrittenSums.{written_nest}
 
 -- ---- reduced terms
 
@@ -35,9 +32,6 @@ apart_words (more t (more u ts)) h = (h 0 (omega arith) (omega arith), apart_wor
 
 pub apart_behind : (t : Tree) (ts : Trees) → AreApart (more t ts) → AreApart ts
 apart_behind t ts h = grind arith
-
-less_of : (o : Ordering) → is_eq o ≡ false → is_lt (ordering_reverse o) ≡ false → o ≡ Less
-less_of o h k = grind arith
 
 apart_parts : (t u : Tree) → is_number t ≡ false → is_number u ≡ false → is_partner t u ≡ false → is_eq (tree_cmp (part_of t) (part_of u)) ≡ false
 apart_parts t u a b h = grind arith

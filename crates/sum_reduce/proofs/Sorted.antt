@@ -1,10 +1,8 @@
 -- Terms in the order of their parts.
-use Rattle.std.proofs.Common.{ℕ, zero, suc, ◌<◌, ◌≤◌, arith, ◌≡◌, Bool, true, false, refl, sym, ap, ◌∙◌, subst}
-use Rattle.sum_reduce.proofs.Shared.{is_number, part_of, NoneIs, Tree, Trees, none, more, append, count, Permuted, Permuted-append_right, IsSorting, SortsChildren, nth, plains, Forest, kids}
-use Rattle.sum_reduce.proofs.{Shared.{root_tree, IsLead, IsLed, IsArranged, terms_in, IsSum, is_loose}, Sums.{sum_over, changed, IsChanged}}
-use Rattle.like_children.proofs.{Permutations.{none_permuted, sorted_behind, of_lists}, NumbersIn.{count_append}}
+use Rattle.sum_reduce.proofs.Shared.{ℕ, zero, suc, ◌<◌, ◌≤◌, arith, ◌≡◌, Bool, true, false, refl, sym, ap, ◌∙◌, subst, is_number, part_of, NoneIs, Tree, Trees, none, more, append, count, Permuted}
+use Rattle.sum_reduce.proofs.Shared.{Permuted-append_right, IsSorting, SortsChildren, nth, plains, Forest, kids, root_tree, IsLead, IsLed, IsArranged, terms_in, IsSum, is_loose, none_permuted}
+use Rattle.sum_reduce.proofs.{Shared.{sorted_behind, of_lists, count_append, behind_none}, Sums.{sum_over, changed, IsChanged}}
 pub use Rattle.sum_reduce.proofs.Joins.{formed_reduced as formed_nth}
-use Rattle.coefficients.proofs.TermMultiples.{behind_none}
 
 -- ---- terms by their places
 

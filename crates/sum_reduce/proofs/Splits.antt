@@ -1,8 +1,6 @@
 -- What is split off a product as its coefficient: nothing, its first factor, which is a Number, or a rational and the root behind it.
-use Rattle.std.proofs.Common.{arith, ◌≡◌, true, ◌≤◌}
-use Rattle.sum_reduce.proofs.Shared.{Fraction, is_number, is_radicand, split_product, num_one, Tree, num, mult, root, Trees, none, more, part_of, names, names_of, Within, within_same, within_trans}
-use Rattle.sum_reduce.proofs.Shared.{within_right, within_eq, nest, nest_of}
-use Rattle.coefficients.proofs.{Keeps.{tree_names}, Bounds.{tree_nest}}
+use Rattle.sum_reduce.proofs.Shared.{arith, ◌≡◌, true, ◌≤◌, Fraction, is_number, is_radicand, split_product, num_one, Tree, num, mult, root, Trees, none, more, part_of, names, names_of, Within}
+use Rattle.sum_reduce.proofs.Shared.{within_same, within_trans, within_right, within_eq, nest, nest_of, tree_names, tree_nest}
 
 pub split_cases : (P : Trees → Tree → Trees → Type 0) → ((ts : Trees) → P ts num_one ts) → ((t : Tree) (ts : Trees) → is_number t ≡ true → P (more t ts) t ts)
     → ((q r : Fraction) (ts : Trees) → is_radicand r ≡ true → P (more (num q) (more (root (num r)) ts)) (mult (more (num q) (more (root (num r)) none))) ts)

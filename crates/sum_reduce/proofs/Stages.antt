@@ -1,12 +1,11 @@
 -- From stage to stage of a sum.
-use Rattle.std.proofs.Common.{◌≤◌, ◌≡◌, ◌++◌, Bool, true, ◌&&◌, refl, sym, ap, ◌∙◌, arith}
-use Rattle.sum_reduce.proofs.Shared.{HasForm, permuted_parts, and_parts, and_from, is_number, value, are_numbers, Same, Tree, Trees, more, count, names, names_of, Permuted, Permuted-refl}
-use Rattle.sum_reduce.proofs.Shared.{permuted_none, permuted_more, permuted_swap, permuted_trans, permuted_sum, joined_in_sum, number_words, sum_of_numbers, SharesDenominators, number_parts, keeps}
-use Rattle.sum_reduce.proofs.Shared.{Rewrites-trans, collects_opened, collects_ordered, collects_numbers, collects_then, IsStage, AreFormed, opened, no_new_name, within_both, within_trans}
-use Rattle.sum_reduce.proofs.{Shared.{within_right, within_none, within_eq, names_permuted, number_names, nest_permuted, nest_number}, Held.{held_after, held_permuted}}
-use Rattle.sum_reduce.proofs.{HeldTerms.{opened_held, added_held}, Opened.{opened_keeps, names_opened, nest_opened, widths_opened, opened_formed, opened_some, opened_numbers, opened_tight}}
-use Rattle.sum_reduce.proofs.{Rearranged.{tight_opened, unlike_after, rearranged_permuted, rearranged_opened, rearranged_after, rearranged_added}, Widths.{widths_permuted, width_number}}
-use Rattle.like_children.proofs.Permutations.{count_permuted, to_lists}
+use Rattle.sum_reduce.proofs.Shared.{◌≤◌, ◌≡◌, ◌++◌, Bool, true, ◌&&◌, refl, sym, ap, ◌∙◌, arith, HasForm, permuted_parts, and_parts, and_from, is_number, value, are_numbers, Same, Tree, Trees, more}
+use Rattle.sum_reduce.proofs.Shared.{count, names, names_of, Permuted, Permuted-refl, permuted_none, permuted_more, permuted_swap, permuted_trans, permuted_sum, joined_in_sum, number_words}
+use Rattle.sum_reduce.proofs.Shared.{sum_of_numbers, SharesDenominators, number_parts, keeps, Rewrites-trans, collects_opened, collects_ordered, collects_numbers, collects_then, IsStage, AreFormed}
+use Rattle.sum_reduce.proofs.Shared.{opened, no_new_name, within_both, within_trans, within_right, within_none, within_eq, names_permuted, number_names, nest_permuted, nest_number, count_permuted}
+use Rattle.sum_reduce.proofs.{Shared.{to_lists}, Held.{held_after, held_permuted}, HeldTerms.{opened_held, added_held}, Opened.{opened_keeps, names_opened, nest_opened, widths_opened, opened_formed}}
+use Rattle.sum_reduce.proofs.{Opened.{opened_some, opened_numbers, opened_tight}, Rearranged.{tight_opened, unlike_after, rearranged_permuted, rearranged_opened, rearranged_after, rearranged_added}}
+use Rattle.sum_reduce.proofs.Widths.{widths_permuted, width_number}
 
 -- ---- the same terms in another order
 

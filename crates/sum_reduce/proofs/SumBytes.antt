@@ -1,10 +1,8 @@
 -- Free bytes and those of a sum, from call to call.
-use Rattle.std.proofs.Common.{◌≡◌, ◌∙◌, ℕ, ◌+◌, ◌<◌, ◌≤◌, ap, arith}
-use Rattle.sum_reduce.proofs.Shared.{Tree, add, Trees, none, more, count, size, sizes, sum_whole, State, free_of, sizes_taken, terms_in, IsSum, Changes, Takes, terms_of_loose, opened, without_put}
-use Rattle.sum_reduce.proofs.Shared.{plain, Forest, bytes_in, tree_of, root_tree, without_root, Stands, forest, KeepsRefusals, handed_beside, tree-without}
-use Rattle.sum_reduce.proofs.Sums.{IsOut, changes_rest, takes_rest, takes_handed, takes_apart}
-use Rattle.coefficients.proofs.Rooms.{sizes_append}
-use Rattle.like_children.proofs.Many.{all_bytes, handed_bytes}
+use Rattle.sum_reduce.proofs.Shared.{◌≡◌, ◌∙◌, ℕ, ◌+◌, ◌<◌, ◌≤◌, ap, arith, Tree, add, Trees, none, more, count, size, sizes, sum_whole, State, free_of, sizes_taken, terms_in, IsSum, Changes, Takes}
+use Rattle.sum_reduce.proofs.Shared.{terms_of_loose, opened, without_put, plain, Forest, bytes_in, tree_of, root_tree, without_root, Stands, forest, KeepsRefusals, handed_beside, tree-without}
+use Rattle.sum_reduce.proofs.{Shared.{sizes_append, all_bytes}, Sums.{IsOut, changes_rest, takes_rest, takes_handed, takes_apart}}
+use Rattle.tree_handles.proofs.FreeBytes.{beside_bytes as handed_bytes}
 
 -- ---- the bytes of a forest
 

@@ -1,17 +1,13 @@
 -- Roots that are sums, from call to call.
-use Rattle.std.proofs.Common.{ℕ, ◌<◌, ◌≡◌, List, [], ◌∷◌, eqb, true, false, refl, sym, ap, ◌∙◌, subst, arith, inl}
-use Rattle.sum_reduce.proofs.Shared.{Tree, Trees, add, none, more, count, is_add, State, IsOver, over_sum, over_handed, over_plain, over_put, over_same, over_end, over_beside, without_put, live}
-use Rattle.sum_reduce.proofs.Shared.{expression, seen, nth, plain, inserted, children_of, IsExpression, Forest, arity, kids, root_count, tree_nth, without_nth, with_nth, merged_nth, IsHanded}
-use Rattle.sum_reduce.proofs.Shared.{Represents, Ends, Gives, KeepsFront, holds, tree_at, kids_of, root_tree, without_root, Stands, forest, IsBehind, behind_first, behind_later, behind_new}
-use Rattle.sum_reduce.proofs.Shared.{front_same, front_at, front_end, front_put, front_without, gives, gives_as, given_handed, given_root, given_rest, given_same, given_told, given_other}
-use Rattle.sum_reduce.proofs.Shared.{given_without, handed_by_put, represents_handed, represents_with, apart, other_apart, last_tree, eqb-sym, root-put, put-put, put-same, tree-put, without-put}
-use Rattle.sum_reduce.proofs.Shared.{represents_nth, represents_without, represents_merged, terms_in, IsSum, Changes, Takes, removed}
-use Rattle.coefficients.proofs.Loops.{set_removed}
-use Rattle.coefficients.specs.Pairs.{GivesTwo}
-use Rattle.tree_handles.proofs.{Cuts.{represents_count}, Beside.{gives_without}, Filling.{hole_behind}, Roots.{put-left, tree-left}}
-use Rattle.tree_handles.specs.{Holes.{ChangesTree, IsHole, Place, set_child, set_tree}, Forest.{join}, Roots.{has_root, put}}
-use Rattle.like_children.specs.Children.{LeavesChildren}
-use Rattle.like_children.proofs.Many.{many, child_within, child_once}
+use Rattle.sum_reduce.proofs.Shared.{ℕ, ◌<◌, ◌≡◌, List, [], ◌∷◌, eqb, true, false, refl, sym, ap, ◌∙◌, subst, arith, inl, Tree, Trees, add, none, more, count, is_add, State, IsOver, over_sum}
+use Rattle.sum_reduce.proofs.Shared.{over_handed, over_plain, over_put, over_same, over_end, over_beside, without_put, live, expression, seen, nth, plain, inserted, children_of, IsExpression, Forest}
+use Rattle.sum_reduce.proofs.Shared.{arity, kids, root_count, tree_nth, without_nth, with_nth, merged_nth, IsHanded, Represents, Ends, Gives, KeepsFront, holds, tree_at, kids_of, root_tree}
+use Rattle.sum_reduce.proofs.Shared.{without_root, Stands, forest, IsBehind, behind_first, behind_later, behind_new, front_same, front_at, front_end, front_put, front_without, gives, gives_as}
+use Rattle.sum_reduce.proofs.Shared.{given_handed, given_root, given_rest, given_same, given_told, given_other, given_without, handed_by_put, represents_handed, represents_with, apart, other_apart}
+use Rattle.sum_reduce.proofs.Shared.{last_tree, eqb-sym, root-put, put-put, put-same, tree-put, without-put, represents_nth, represents_without, represents_merged, terms_in, IsSum, Changes, Takes}
+use Rattle.sum_reduce.proofs.Shared.{removed, set_removed, GivesTwo, represents_count, gives_without, hole_behind, put-left, tree-left, ChangesTree, IsHole, Place, set_child, set_tree, join, has_root}
+use Rattle.sum_reduce.proofs.Shared.{LeavesChildren, many, child_within, child_once}
+use Rattle.tree_handles.specs.Roots.{put}
 use Rattle.calc_terms.specs.declared.kind.Kind.TheVariants as kind
 
 -- ---- a sum

@@ -4,8 +4,8 @@ use Rattle.sum_reduce.proofs.Shared.{Fraction, zero_fraction, is_zero_fraction, 
 use Rattle.sum_reduce.proofs.Shared.{mult, root, Trees, none, more, append, nodes, nodes_of, is_add, AllParts, AllPartsOf, Permuted, permuted_none, permuted_more, permuted_swap, permuted_trans}
 use Rattle.sum_reduce.proofs.Shared.{number_test, IsMonic, with_coefficient, rational_before, mapped, rational_times_term, rational_times_sum, put, zero_or_not, monic_sum, monic_no_number}
 use Rattle.sum_reduce.proofs.{Shared.{monic_parts, number_of_term, IsFactor, scaled, not_one_is, EachTerm, each_term, multiple, width, widths}, Splits.{split_cases}}
-pub use Rattle.tree_room.proofs.NodeCounts.{some_node}
-use Rattle.tree_bits.proofs.ExponentBits.{nothing_is}
+pub use Rattle.calc_terms.proofs.SmallLaws.{one_node as some_node}
+use Rattle.calc_terms.proofs.SmallLaws.{zero_is_zero as nothing_is}
 
 -- ---- one term
 

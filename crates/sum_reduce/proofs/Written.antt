@@ -1,8 +1,6 @@
 -- The terms of a leading Number, and a sum of one term.
-use Rattle.std.proofs.Common.{nat_lt, ℕ, ◌≤◌, ◌<◌, ◌≡◌, Bool, true, false, if◌then◌else◌, refl, sym, ap, ◌∙◌, arith}
-use Rattle.sum_reduce.proofs.Shared.{ltb-true, by_test, is_number, Tree, Trees, none, more, append, count, is_add, is_zero, nth, children_of, removed, terms_of_number, sum_tree, leads_number}
-use Rattle.sum_reduce.proofs.Shared.{written_tree}
-use Rattle.like_children.proofs.NumbersIn.{count_append}
+use Rattle.sum_reduce.proofs.Shared.{nat_lt, ℕ, ◌≤◌, ◌<◌, ◌≡◌, Bool, true, false, if◌then◌else◌, refl, sym, ap, ◌∙◌, arith, ltb-true, by_test, is_number, Tree, Trees, none, more, append, count}
+use Rattle.sum_reduce.proofs.Shared.{is_add, is_zero, nth, children_of, removed, terms_of_number, sum_tree, leads_number, written_tree, count_append}
 
 pub spread_zero : (t : Tree) (us : Trees) → is_zero t ≡ true → us ≡ append (terms_of_number t) us
 spread_zero t us h = grind arith

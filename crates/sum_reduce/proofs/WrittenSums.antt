@@ -1,12 +1,10 @@
 -- A Number's terms and other terms whose parts rise are a reduced sum, with the meanings, the names and the nest of its parts.
-use Rattle.std.proofs.Common.{◌≡◌, inl, inr, ◌≤◌, true, if◌then◌else◌, sym, ap, ◌∙◌, arith, [], Bool}
-use Rattle.like_children.proofs.Addends.{number_terms-terms, other_terms-terms}
-use Rattle.sum_reduce.proofs.Shared.{zero_fraction, nest, nest_of, is_number, terms_of, IsNumber, IsTerm, AreTerms, Rises, part_of, HasForm, NoneIs, RisesBy, Tree, num, add, Trees, none, more, append}
-use Rattle.sum_reduce.proofs.Shared.{names, names_of, AllParts, AllPartsOf, HasTwo, is_add, KeepsMeanings, KeepsMeanings-eq, KeepsMeanings-trans, flat_sum, zero_goes, empty_sum, single_sum, zero_test}
-use Rattle.sum_reduce.proofs.Shared.{number_words, AsNumber, as_number, AllPartsOf-append, terms_parts, terms_of_number, sum_tree, Within, within_same, within_both, within_beside, within_trans}
-use Rattle.sum_reduce.proofs.Shared.{within_left, within_eq, names_of-append, nest-append, value, surd_of}
-use Rattle.tree_bits.proofs.ExponentBits.{nothing_is}
-use Rattle.coefficients.proofs.{SumMultiples.{terms_no_sum}, Splits.{NoneIs-append}}
+use Rattle.sum_reduce.proofs.Shared.{◌≡◌, inl, inr, ◌≤◌, true, if◌then◌else◌, sym, ap, ◌∙◌, arith, [], Bool, number_terms-terms, other_terms-terms, zero_fraction, nest, nest_of, is_number, terms_of}
+use Rattle.sum_reduce.proofs.Shared.{IsNumber, IsTerm, AreTerms, Rises, part_of, HasForm, NoneIs, RisesBy, Tree, num, add, Trees, none, more, append, names, names_of, AllParts, AllPartsOf, HasTwo}
+use Rattle.sum_reduce.proofs.Shared.{is_add, KeepsMeanings, KeepsMeanings-eq, KeepsMeanings-trans, flat_sum, zero_goes, empty_sum, single_sum, zero_test, number_words, AsNumber, as_number}
+use Rattle.sum_reduce.proofs.Shared.{AllPartsOf-append, terms_parts, terms_of_number, sum_tree, Within, within_same, within_both, within_beside, within_trans, within_left, within_eq, names_of-append}
+use Rattle.sum_reduce.proofs.Shared.{nest-append, value, surd_of, terms_no_sum, NoneIs-append}
+use Rattle.calc_terms.proofs.SmallLaws.{zero_is_zero as nothing_is}
 
 -- a Number's terms, and then the other terms
 abbrev pub written_sum : Tree → Trees → Tree

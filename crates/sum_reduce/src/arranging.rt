@@ -118,7 +118,7 @@ fn pair_behind(pool: &Pool, sum: &Handle, at: u16) -> Option<u16>
 }
 
 /// From a pair on, each term and its partners become one, up to the first that becomes a sum.
-#[tactic(auto, using(crate::proofs::Sums::changes_same, crate::proofs::Stages::stage_same, tree_handles::proofs::Fronts::front_same, tree_handles::proofs::Forests::keeps_none, coefficients::proofs::Named::passed_named, crate::proofs::Hindered::overflows_after, crate::proofs::Held::few_after))]
+#[tactic(auto, using(crate::proofs::Sums::changes_same, crate::proofs::Stages::stage_same, tree_handles::proofs::Fronts::front_same, tree_handles::proofs::Refused::kept_same, coefficients::proofs::Named::passed_named, crate::proofs::Hindered::overflows_after, crate::proofs::Held::few_after))]
 fn join_pairs(pool: &mut Pool, sum: &Handle, first: u16) -> Result<(), NumberFault>
     requires stands { Stands pool.old }
     requires sum { IsSum sum.now (forest pool.old) }

@@ -51,18 +51,6 @@ pub magnitude_negative : (q : Fraction) (d : ℕ) → q.den ∣ d → magnitude_
 unfolding negative
 magnitude_negative q d h = magnitude_lowest d (neg_ℤ q.num) q.den (magnitude_over d q) (den_pos q) (negative_den q d h) (magnitude_cross d q h ∙ ap (λ k. k * d) (sym (abs_negative q.num)))
 
-pub magnitude_plus : (p q : Fraction) (d : ℕ) → 0 < d → p.den ∣ d → q.den ∣ d → magnitude_over d (plus p q) ≤ magnitude_over d p + magnitude_over d q
-magnitude_plus p q d h a b =
-    let x : ℤ = whole_over d p in
-    let y : ℤ = whole_over d q in
-    let e : plus p q ≡ lowest (x +ℤ y) d = (λ i. plus (over_multiple d p h a i) (over_multiple d q h b i)) ∙ plus_over x y d h in
-    let f : magnitude_over d (lowest (x +ℤ y) d) ≡ nat_abs (x +ℤ y) = magnitude_lowest d (x +ℤ y) d (nat_abs (x +ℤ y)) h (den_divides (x +ℤ y) d h) refl in
-    subst (λ z. magnitude_over d z ≤ magnitude_over d p + magnitude_over d q) (sym e)
-    (at (magnitude_over d (lowest (x +ℤ y) d)) (nat_abs (x +ℤ y)) (nat_abs x) (nat_abs y) (magnitude_over d p) (magnitude_over d q) f (abs_plus x y) (whole_over-abs d p) (whole_over-abs d q))
-  where
-    at : (m n u w a b : ℕ) → m ≡ n → n ≤ u + w → u ≡ a → w ≡ b → m ≤ a + b
-    at m n u w a b e f g h = omega arith
-
 pub square_den : (t : Term) (d : ℕ) → t.coefficient.den ∣ d → (square_of t).den ∣ d * d
 square_den t d h = multiple_den (times t.coefficient t.coefficient) (pos t.radicand) (d * d) (times_den t.coefficient t.coefficient d d h h)
 

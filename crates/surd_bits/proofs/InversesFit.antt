@@ -1,14 +1,11 @@
 -- Terms that are held within 124 bits can be inverted, and what holds their inverses.
-use Rattle.surd_bits.proofs.Shared.{◌≡◌, ◌≢◌, ℕ, ◌+◌, ◌*◌, ◌^◌, ◌≤◌, ◌<◌, max, List, [], ◌∷◌, true, false, pos, None, refl, sym, ap, ◌∙◌, subst, arith, mul-le, pow-add, pow_pos, dvd_trans}
+use Rattle.surd_bits.proofs.Shared.{trans, ◌≡◌, ◌≢◌, ℕ, ◌+◌, ◌*◌, ◌^◌, ◌≤◌, ◌<◌, max, List, [], ◌∷◌, true, false, pos, None, refl, sym, ap, ◌∙◌, subst, arith, mul-le, pow-add, pow_pos, dvd_trans}
 use Rattle.surd_bits.proofs.Shared.{dvd-mul_left, pow-le-pow_right, fraction_fits, sum_fits, Fraction, times, negative, inverse, whole_fraction, zero_fraction, mul_pos, are_alike, Term, term_not_zero}
 use Rattle.surd_bits.proofs.Shared.{difference_not_zero, magnitude_over, root_above, term_mass, IsHeld, multiple_fits, sum_fits_over, magnitudes_cross, passed, cancel_le, magnitude_scale, times_den}
 use Rattle.surd_bits.proofs.Shared.{magnitude_times, multiple_den, plus_den, root_enough, root_least, root_scale, Add, Mul, Calculation, calculation, first_misfit, scaling, inverse_calculations}
-use Rattle.surd_bits.proofs.{Shared.{inverse_of_sum_calculations, inverse_of, square_of, conjugate_product, first_of_inverse, second_of_inverse, ◌∣◌, mul_comm}, Bounds.{held_bound, square_bound}}
-use Rattle.surd_bits.proofs.{Bounds.{power_fits, denominator_bound, magnitude_whole, magnitude_positive, one_held, root_at_most}, Inverses.{OverInverse, over_inverse, negative_den}}
-use Rattle.surd_bits.proofs.Inverses.{magnitude_negative, magnitude_plus, square_den, square_magnitude, OverDifference, over_difference}
-
-pub trans : (a b c : ℕ) → a ≤ b → b ≤ c → a ≤ c
-trans a b c h k = omega arith
+use Rattle.surd_bits.proofs.{Shared.{inverse_of_sum_calculations, inverse_of, square_of, conjugate_product, first_of_inverse, second_of_inverse, ◌∣◌, mul_comm, magnitude_plus}, Bounds.{held_bound}}
+use Rattle.surd_bits.proofs.{Bounds.{square_bound, power_fits, denominator_bound, magnitude_whole, magnitude_positive, one_held, root_at_most}, Inverses.{OverInverse, over_inverse, negative_den}}
+use Rattle.surd_bits.proofs.Inverses.{magnitude_negative, square_den, square_magnitude, OverDifference, over_difference}
 
 -- n * n is at most n * n * r
 without_root : (n r : ℕ) → 0 < r → n * n ≤ n * n * r

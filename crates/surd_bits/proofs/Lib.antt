@@ -1,5 +1,4 @@
 pub mod Bounds
-pub mod Passed
 pub mod JoinsFit
 pub mod ProductsFit
 pub mod Inverses

@@ -1,7 +1,7 @@
 -- Terms whose product is held within 124 bits can be multiplied.
-use Rattle.surd_bits.proofs.{InversesFit.{trans}, Shared.{◌≡◌, ◌≢◌, ℕ, ◌+◌, ◌*◌, ◌/◌, ◌^◌, ◌≤◌, ◌<◌, [], ◌∷◌, true, pos, ◌*ℤ◌, sym, ap, subst, arith, mul-le, part_le, fraction_fits, times}}
-use Rattle.surd_bits.proofs.Shared.{whole_fraction, zero_fraction, times_lowest, Term, term_times, product_not_zero, square_le, magnitude_over, term_mass, IsHeld, multiple_fits, quotient_fits}
-use Rattle.surd_bits.proofs.{Shared.{multiple_den, ◌∣◌}, Bounds.{held_bound, square_bound, power_fits, denominator_bound, magnitude_whole, magnitude_positive, one_held, root_at_most}}
+use Rattle.surd_bits.proofs.Shared.{◌≡◌, ◌≢◌, ℕ, ◌+◌, ◌*◌, ◌/◌, ◌^◌, ◌≤◌, ◌<◌, [], ◌∷◌, true, pos, ◌*ℤ◌, sym, ap, subst, arith, mul-le, part_le, fraction_fits, times, trans, whole_fraction}
+use Rattle.surd_bits.proofs.Shared.{zero_fraction, times_lowest, Term, term_times, product_not_zero, square_le, magnitude_over, term_mass, IsHeld, multiple_fits, quotient_fits, multiple_den, ◌∣◌}
+use Rattle.surd_bits.proofs.Bounds.{held_bound, square_bound, power_fits, denominator_bound, magnitude_whole, magnitude_positive, one_held, root_at_most}
 
 -- with n at least 1
 rest_below : (n r s g h b : ℕ) → 0 < n → n * n * (r * s) ≤ b → (r / g) * (s / h) ≤ b
@@ -18,7 +18,7 @@ taken_below n r u t b p e k =
     within : ((n * u) * (n * u)) * 1 ≤ ((n * u) * (n * u)) * t → (n * u) * (n * u) < (b + 1) * (b + 1)
     within l = omega (arith, ap (λ z. n * n * z) e)
 
-mul_positive : (a b : ℕ) → 0 < a → 0 < b → 0 < a * b
+pub mul_positive : (a b : ℕ) → 0 < a → 0 < b → 0 < a * b
 mul_positive a b h k = grind arith
 
 mass_of_one : (m u p : ℕ) → u ≤ m → m + 0 ≤ p → u ≤ p

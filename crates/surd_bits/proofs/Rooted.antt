@@ -3,7 +3,7 @@ use Rattle.surd_bits.proofs.Shared.{◌≡◌, ◌≢◌, ℕ, ◌+◌, ◌*◌,
 use Rattle.surd_bits.proofs.Shared.{square_le, magnitude_over, root_above, IsHeld, IsHeldByOne, cancel_le, magnitude_cross, root_enough, root_least, Fraction, zero_fraction, den_pos, zero_test}
 use Rattle.surd_bits.proofs.{Shared.{parts_of, IsRootTerm, value, num, IsNoLargerThanRoot}, RootsFit.{root_parts, root_magnitude, root_mass, root_held}}
 
-as_rational : (q : Fraction) → q ≢ zero_fraction → value (num q) ≡ surd_of q
+pub as_rational : (q : Fraction) → q ≢ zero_fraction → value (num q) ≡ surd_of q
 as_rational q n = ap (λ (b : Bool). if b then [] else surd_of q) (zero_test q n)
 
 -- p is at most q * 2 ^ h

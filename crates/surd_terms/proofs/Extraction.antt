@@ -1,13 +1,11 @@
 -- Square parts of p * q, for the root of p/q.
+use Rattle.calc_terms.proofs.Leaves.{at_least_one as positive_abs}
 use Rattle.surd_terms.proofs.Shared.{◌≡◌, ◌≢◌, ℕ, zero, suc, ◌*◌, ◌<◌, ◌≤◌, ◌^◌, ℤ, pos, ◌<ℤ◌, [], ◌∷◌, sym, ◌∙◌, arith, nat_abs, ints, Fraction, quotient, zero_fraction, IsRootOf, term}
 use Rattle.surd_terms.proofs.{Shared.{cross_products, root_extracted}, Radicands.{part_at_most}}
 
 -- a number above 0 is its magnitude
 pub positive_is : (z : ℤ) → pos 0 <ℤ z → z ≡ pos (nat_abs z)
 positive_is z h = grind arith
-
-pub positive_abs : (z : ℤ) → pos 0 <ℤ z → 1 ≤ nat_abs z
-positive_abs z h = grind arith
 
 -- s * s is a square part of the magnitude of z times d, with all numbers below 2^127
 pub record IsSplit (z : ℤ) (d s t : ℕ) : Type 0 where

@@ -63,9 +63,6 @@ extracted_nothing t u e = grind (arith, times_whole_one)
 
 -- ---- inverses
 
-pub negative_not_zero : (q : Fraction) → q ≢ zero_fraction → negative q ≢ zero_fraction
-negative_not_zero q h e = h (sym (zero_plus q) ∙ plus_comm zero_fraction q ∙ ap (plus q) (sym e) ∙ plus_negative q)
-
 -- the inverse of a term, by its formula
 pub inverse_inverts : (t a : Term) → a.coefficient ≢ zero_fraction → 1 ≤ a.radicand → t ≡ inverse_of a → Inverts (t ∷ []) (a ∷ [])
 inverse_inverts t a h k e = Inverts-Same (Same-eq (ap (λ x. x ∷ []) (sym e))) (Same-refl (a ∷ [])) (term_has_inverse a.coefficient a.radicand h k)

@@ -1,19 +1,19 @@
 -- Exponents that count their bases: how often at least, and by how many bits they are held themselves.
-use Rattle.std.proofs.Common.{◌≡◌, ◌≢◌, ℕ, ◌+◌, ◌*◌, ◌^◌, ◌≤◌, inl, inr, List, [], ◌∷◌, max, ℤ, pos, Bool, true, false, ◌==◌, not, if◌then◌else◌, refl, sym, ap, ◌∙◌, subst, arith, nat_abs}
-use Rattle.std.proofs.{Math.Nat.{dvd_refl}, lemmas.Bool.{and_parts, eqb-true, not_from_false}}
-use Rattle.std.specs.Int.{◌∣◌}
-use Rattle.calc_algebra.proofs.NumberLaws.{number_test, term_test}
-use Rattle.calc_algebra.specs.{Numbers.{IsTerm, AreTerms, is_number, is_term, value, terms_of}, Reduced.{HasForm, NoneIs, num_one, number_terms, other_terms}, Surds.{surd_of, surd_one}}
-use Rattle.calc_bits.proofs.RootsAbove.{root_least}
-use Rattle.calc_bits.specs.{Denominators.{Parts, AreWholeOver, magnitude_over}, Masses.{mass, root_above}}
-use Rattle.calc_measures.proofs.LiteralValues.{whole_of}
-use Rattle.calc_terms.proofs.FractionFacts.{zero_test, one_test, no_zero, whole_numerator, whole_denominator}
-use Rattle.calc_terms.specs.{Fractions.{Fraction, zero_fraction, one_fraction, whole_fraction, is_zero_fraction}, Integers.{int_is_zero}, Trees.{Tree, num, symbol, add, mult, root, Trees, none, more}}
-use Rattle.calc_terms.specs.Trees.{is_add, is_undef, AllParts, AllPartsOf}
+use Rattle.tree_bits.proofs.Shared.{◌≡◌, ◌≢◌, ℕ, ◌+◌, ◌*◌, ◌^◌, ◌≤◌, inl, inr, List, [], ◌∷◌, max, ℤ, pos, Bool, true, false, ◌==◌, not, if◌then◌else◌, refl, sym, ap, ◌∙◌, subst, arith, dvd_refl}
+use Rattle.tree_bits.proofs.Shared.{and_parts, eqb-true, not_from_false, ◌∣◌, number_test, term_test, IsTerm, AreTerms, is_term, value, terms_of, HasForm, NoneIs, num_one, number_terms, other_terms}
+use Rattle.tree_bits.proofs.Shared.{surd_of, surd_one, root_least, Parts, AreWholeOver, magnitude_over, mass, root_above, whole_of, zero_test, one_test, no_zero, whole_numerator, whole_denominator}
+use Rattle.tree_bits.proofs.Shared.{Fraction, whole_fraction, is_zero_fraction, int_is_zero, Tree, num, symbol, add, mult, root, Trees, none, more, is_add, is_undef, AllParts, AllPartsOf, Counts}
+use Rattle.tree_bits.proofs.Shared.{counts, multiple, is_counted, are_counted, counts_of, counts_of_all, Addend, addend, addend_of, addends, addends_of, power_high, power_low, IsTreeHeld, sum_held}
+use Rattle.tree_bits.proofs.Shared.{AreWeighted, none_weighted, more_weighted, IsPartHeld, no_factor_held, factor_held, symbol_held, Weighted, weighted, PartsAll, lows, weighted_mass, AreHeld}
 use Rattle.tree_bits.proofs.Sums.{one_counted, one_counts}
-use Rattle.tree_bits.specs.{Exponents.{Counts, counts, multiple, is_counted, are_counted, counts_of, counts_of_all}, HeldTrees.{Addend, addend, addend_of, addends, addends_of, power_high, power_low}}
-use Rattle.tree_bits.specs.HeldTrees.{IsTreeHeld, sum_held, AreWeighted, none_weighted, more_weighted, IsPartHeld, no_factor_held, factor_held, symbol_held}
-use Rattle.tree_bits.specs.Weighted.{Weighted, weighted, PartsAll, lows, weighted_mass, AreHeld}
+use Rattle.calc_algebra.proofs.SmallLaws.{term_no_sum as no_sum_term}
+use Rattle.calc_terms.proofs.SmallLaws.{zero_is_zero as nothing_is}
+use Rattle.std.proofs.Common.{nat_abs}
+use Rattle.calc_algebra.specs.Numbers.{is_number}
+use Rattle.calc_terms.specs.Fractions.{zero_fraction, one_fraction}
+
+some_times : (m n : ℕ) → 1 ≤ m → 1 ≤ n → 1 ≤ m * n
+some_times m n h k = grind arith
 
 pub clash : {A : Type 0} → true ≡ false → A
 clash e = absurd cc
@@ -50,15 +50,8 @@ some_magnitude z h = grind arith
 pub multiple_counts : (z : ℤ) (c : Counts) → (multiple z c).up + (multiple z c).down ≡ nat_abs z * (c.up + c.down)
 multiple_counts z c = grind arith
 
-some_times : (m n : ℕ) → 1 ≤ m → 1 ≤ n → 1 ≤ m * n
-some_times m n h k = grind arith
-
 multiple_some : (q : Fraction) (c : Counts) → (q.den == 1) ≡ true → q ≢ zero_fraction → 1 ≤ c.up + c.down → 1 ≤ (multiple q.num c).up + (multiple q.num c).down
 multiple_some q c w z k = omega (arith, multiple_counts q.num c, some_times (nat_abs q.num) (c.up + c.down) (some_magnitude q.num (not_nothing q w z)) k)
-
-pub nothing_is : is_zero_fraction zero_fraction ≡ true
-unfolding zero_fraction
-nothing_is = ap int_is_zero (whole_numerator (pos 0))
 
 -- the first term of a sum is not 0
 first_not_zero : (t : Tree) (ts : Trees) → HasForm (add (more t ts)) → t ≢ num zero_fraction
@@ -217,9 +210,6 @@ split_light (more t ts) f n s c = by (λ o. split_light ts f.1 o s.1 (and_parts 
         let o = subst (NoneIs is_number) (ap (λ (x : Bool). if x then other_terms ts else more t ts) e) n in
         split_wider (omega arith)
         (kept_light t ts (2 * ((counts_of t).up + (counts_of t).down)) (2 * ((counts_of_all ts).up + (counts_of_all ts).down)) e (other_light t f.0 o.0 s.0 a) (others_light ts f.1 o.1 s.1 b))
-
-no_sum_term : (t : Tree) → IsTerm t → is_add t ≡ false
-no_sum_term t h = grind arith
 
 terms_alone : (ts : Trees) → AreTerms ts → NoneIs is_number (other_terms ts) × NoneIs is_add ts
 terms_alone none a = (tt, tt)

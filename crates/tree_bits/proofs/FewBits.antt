@@ -1,8 +1,7 @@
 -- The bits of the parts of a tree, and highs of at least 1.
-use Rattle.std.proofs.Common.{◌≡◌, ℕ, ◌≤◌, ℤ, Bool, true, if◌then◌else◌, arith}
-use Rattle.std.specs.Prelude.{Option}
-use Rattle.tree_bits.proofs.Shared.{whole_literal, half_literal, or_literal, HighLow, power_bounds, bounds, high, bits, most_bits, most_bits_of, all_simple, Tree, num, symbol, undef, add, mult, power}
-use Rattle.tree_bits.proofs.Shared.{root, neg, sub, div, Trees, none, more, AllParts, AllPartsOf, IsComplete, IsWithinBits, bits_limit}
+use Rattle.tree_bits.proofs.Shared.{◌≡◌, ℕ, ◌≤◌, ℤ, Bool, true, if◌then◌else◌, arith, Option, whole_literal, half_literal, or_literal, HighLow, power_bounds, bounds, high, bits, most_bits}
+use Rattle.tree_bits.proofs.Shared.{most_bits_of, all_simple, Tree, num, symbol, undef, add, mult, power, root, neg, sub, div, Trees, none, more, AllParts, AllPartsOf, IsComplete, IsWithinBits}
+use Rattle.tree_bits.proofs.Shared.{bits_limit}
 
 -- ---- highs of at least 1
 

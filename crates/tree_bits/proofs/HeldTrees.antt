@@ -1,8 +1,7 @@
 -- What holds trees: the lesser of two bounds, and products of parts.
-use Rattle.std.proofs.Common.{◌≡◌, ℕ, ◌+◌, ◌≤◌, List, ◌∷◌, min, Bool, true, false, not, refl, ap, arith}
-use Rattle.tree_bits.proofs.Shared.{is_number, Surd, Tree, root, Trees, append, Counts, counts_of, Addend, exponent_in, power_high, power_low, IsTreeHeld, undef_held, sum_held, AreWeighted}
-use Rattle.tree_bits.proofs.Shared.{none_weighted, more_weighted, IsPartHeld, no_factor_held, factor_held, IsBaseHeld, symbol_held, root_held, tree_held, Weighted, coefficients, lesser}
-use Rattle.tree_bits.proofs.Weighted.{held_by_both}
+use Rattle.tree_bits.proofs.Shared.{◌≡◌, ℕ, ◌+◌, ◌≤◌, List, ◌∷◌, min, Bool, true, false, not, refl, ap, arith, is_number, Surd, Tree, root, Trees, append, Counts, counts_of, Addend, exponent_in}
+use Rattle.tree_bits.proofs.Shared.{power_high, power_low, IsTreeHeld, undef_held, sum_held, AreWeighted, none_weighted, more_weighted, IsPartHeld, no_factor_held, factor_held, IsBaseHeld}
+use Rattle.tree_bits.proofs.{Shared.{symbol_held, root_held, tree_held, Weighted, coefficients, lesser}, Weighted.{held_by_both}}
 
 -- ---- powers of a base that is held by less
 

@@ -1,9 +1,8 @@
 -- Addends and factors that are joined, replaced, reordered or left out.
-use Rattle.std.proofs.Common.{ℕ, ◌+◌, ◌*◌, ◌^◌, ◌≤◌, List, [], ◌∷◌, ◌++◌, min, sym, subst, arith}
-use Rattle.tree_bits.proofs.Shared.{mul-le, pow-le-pow_right, Surd, parts_append, mass-append, IsNoLarger, mass, Tree, Trees, none, more, append, IsSumHeld, Counts, counts_of, Addend, addend}
-use Rattle.tree_bits.proofs.Shared.{exponent_in, power_high, power_low, AreWeighted, more_weighted, IsPartHeld, factor_held, IsBaseHeld, Weighted, weighted, PartsAll, lows, weighted_mass, AreHeld}
-use Rattle.tree_bits.proofs.HeldTrees.{wider, part_by_both, base_by_both, high_at_most, low_at_most, min_first, min_second}
-use Rattle.tree_bits.specs.Joined.{IsJoint}
+use Rattle.tree_bits.proofs.Shared.{ℕ, ◌+◌, ◌*◌, ◌^◌, ◌≤◌, List, [], ◌∷◌, ◌++◌, min, sym, subst, arith, mul-le, pow-le-pow_right, Surd, parts_append, mass-append, IsNoLarger, mass, Tree, Trees, none}
+use Rattle.tree_bits.proofs.Shared.{more, append, IsSumHeld, Counts, counts_of, Addend, addend, exponent_in, power_high, power_low, AreWeighted, more_weighted, IsPartHeld, factor_held, IsBaseHeld}
+use Rattle.tree_bits.proofs.{Shared.{Weighted, weighted, PartsAll, lows, weighted_mass, AreHeld, IsJoint}, HeldTrees.{wider, part_by_both, base_by_both, high_at_most, low_at_most, min_first}}
+use Rattle.tree_bits.proofs.HeldTrees.{min_second}
 
 -- ---- factors
 

@@ -1,14 +1,11 @@
 -- Numbers are held as trees as they are held as surds.
-use Rattle.std.proofs.Common.{◌≡◌, ℕ, ◌+◌, ◌-◌, ◌*◌, ◌^◌, ◌≤◌, List, [], ◌∷◌, Bool, true, if◌then◌else◌, refl, sym, ap, ◌∙◌, subst, arith}
-use Rattle.std.specs.Prelude.{◌&&◌, nat_le, length}
-use Rattle.tree_bits.proofs.Shared.{mul-le, pow_pos, pow-le-pow_right, is_number, is_term, are_terms, rises, terms_of, value, number_terms, other_terms, Surd, mass, IsHeld, Tree, undef, add, Trees}
-use Rattle.tree_bits.proofs.Shared.{none, more, counts_of, Addend, addend, addends, exponent_in, IsTreeHeld, sum_held, AreWeighted, none_weighted, more_weighted, IsPartHeld, no_factor_held}
-use Rattle.tree_bits.proofs.{Shared.{factor_held, IsBaseHeld, Weighted, weighted, AreHeld}, Weighted.{put_before, split_off}}
+use Rattle.tree_bits.proofs.Shared.{◌≡◌, ℕ, ◌+◌, ◌-◌, ◌*◌, ◌^◌, ◌≤◌, List, [], ◌∷◌, Bool, true, if◌then◌else◌, refl, sym, ap, ◌∙◌, subst, arith, ◌&&◌, nat_le, length, mul-le, pow_pos}
+use Rattle.tree_bits.proofs.Shared.{pow-le-pow_right, is_number, is_term, are_terms, rises, terms_of, value, number_terms, other_terms, Surd, mass, IsHeld, Tree, undef, add, Trees, none, more}
+use Rattle.tree_bits.proofs.Shared.{counts_of, Addend, addend, addends, exponent_in, IsTreeHeld, sum_held, AreWeighted, none_weighted, more_weighted, IsPartHeld, no_factor_held, factor_held}
+use Rattle.tree_bits.proofs.{Shared.{IsBaseHeld, Weighted, weighted, AreHeld}, Weighted.{put_before, split_off}}
+use Rattle.calc_terms.proofs.Names.{both as both_true}
 
 -- ---- the one addend of a Number
-
-both_true : (a b : Bool) → (a && b) ≡ true → (a ≡ true) × (b ≡ true)
-both_true a b h = grind arith
 
 all_number : (ts : Trees) → are_terms ts ≡ true → number_terms ts ≡ ts
 all_number none h = refl

@@ -1,9 +1,6 @@
 -- Bits of powers.
-use Rattle.std.proofs.{Common.{◌≤◌, ℤ, Some, arith, ◌≡◌, ℕ, ◌+◌}, lemmas.Nat.{mul-le}}
-use Rattle.calc_measures.specs.Measures.{HighLow, power_bounds}
-use Rattle.calc_terms.proofs.FractionFacts.{whole_numerator}
-use Rattle.calc_terms.specs.{Fractions.{whole_fraction}, Trees.{num}}
-use Rattle.tree_bits.specs.{Exponents.{counts_of}, HeldTrees.{power_high, power_low}, Powers.{raised_high, raised_low}}
+use Rattle.tree_bits.proofs.Shared.{◌≤◌, ℤ, arith, ◌≡◌, ℕ, ◌+◌, mul-le, HighLow, power_bounds, whole_numerator, whole_fraction, num, counts_of, power_high, power_low, raised_high, raised_low}
+use Rattle.std.proofs.Common.{Some}
 
 pub base_most : (n : ℤ) (b : HighLow) → (b.high ≤ (power_bounds (Some n) b).high) × (b.low ≤ (power_bounds (Some n) b).low)
 base_most n b = grind (arith, mul-le)

@@ -1,14 +1,13 @@
 -- What the bounds on the bits of a node hold, where those of its children hold what these become.
-use Rattle.std.proofs.Common.{◌≡◌, ℕ, suc, ◌+◌, ◌*◌, ◌^◌, ◌≤◌, ◌<◌, List, [], ◌∷◌, ◌++◌, max, ℤ, negsuc, true, false, refl, sym, ap, subst, arith}
-use Rattle.std.specs.Prelude.{nat_abs, Option, Some}
-use Rattle.tree_bits.proofs.Shared.{mul-le, pow-add, pow_pos, pow-le-pow_right, dvd_refl, is_number, surd_of, magnitude_over, root_above, IsHeld, cancel_right, magnitude_cross, root_least}
-use Rattle.tree_bits.proofs.Shared.{whole_literal, half_literal, or_literal, HighLow, ceil_log2, power_bounds, bounds, bounds_of_terms, bounds_of_factors, high, low, Fraction, den_pos, Tree, num}
-use Rattle.tree_bits.proofs.Shared.{symbol, add, mult, power, root, neg, sub, div, Trees, none, more, count, IsComplete, AreComplete, IsSumHeld, addends_of_each, AreTreesHeld, ArePositive}
-use Rattle.tree_bits.proofs.Shared.{largest_high, high_sum, low_sum, Counts, counts, multiple, counts_of, is_counted, multiplied, product_of, distributed, surd_minus_one, Addend, power_high}
-use Rattle.tree_bits.proofs.Shared.{power_low, IsTreeHeld, symbol_held, tree_held, IsWithin, IsAddendPower, IsZeroAlone, raised_high, raised_low, bounds_of_each}
-use Rattle.tree_bits.proofs.{Children.{weighted_both, trees_by_count}, Factors.{tree_as_base, multiplied_held, products_held, distributed_held, minus_one_held}, FewBits.{high_positive}}
-use Rattle.tree_bits.proofs.{Numbers.{nothing_held, number_held}, Powers.{addend_raised}, Sums.{sums_held, wider_held, tree_wider, root_is_held, power_is_held}}
-use Rattle.calc_measures.proofs.CeilLog2.{ceil_log2_is}
+use Rattle.tree_bits.proofs.Shared.{◌≡◌, ℕ, suc, ◌+◌, ◌*◌, ◌^◌, ◌≤◌, ◌<◌, List, [], ◌∷◌, ◌++◌, max, ℤ, negsuc, true, false, refl, sym, ap, subst, arith, Option, mul-le, pow-add, pow_pos}
+use Rattle.tree_bits.proofs.Shared.{pow-le-pow_right, dvd_refl, is_number, surd_of, magnitude_over, root_above, IsHeld, cancel_right, magnitude_cross, root_least, whole_literal, half_literal}
+use Rattle.tree_bits.proofs.Shared.{or_literal, HighLow, ceil_log2, power_bounds, bounds, bounds_of_terms, bounds_of_factors, high, low, Fraction, den_pos, Tree, num, symbol, add, mult, power, root}
+use Rattle.tree_bits.proofs.Shared.{neg, sub, div, Trees, none, more, count, IsComplete, AreComplete, IsSumHeld, addends_of_each, AreTreesHeld, ArePositive, largest_high, high_sum, low_sum, Counts}
+use Rattle.tree_bits.proofs.Shared.{counts, multiple, counts_of, is_counted, multiplied, product_of, distributed, surd_minus_one, Addend, power_high, power_low, IsTreeHeld, symbol_held, tree_held}
+use Rattle.tree_bits.proofs.{Shared.{IsWithin, IsAddendPower, IsZeroAlone, raised_high, raised_low, bounds_of_each, ceil_log2_is}, Children.{weighted_both, trees_by_count}, Factors.{tree_as_base}}
+use Rattle.tree_bits.proofs.{Factors.{multiplied_held, products_held, distributed_held, minus_one_held}, FewBits.{high_positive}, Numbers.{nothing_held, number_held}, Powers.{addend_raised}}
+use Rattle.tree_bits.proofs.Sums.{sums_held, wider_held, tree_wider, root_is_held, power_is_held}
+use Rattle.std.specs.Prelude.{nat_abs, Some}
 
 sum_wider : {xs : List Addend} {h l k n : ℕ} → h ≤ k → l ≤ n → IsSumHeld xs h l → IsSumHeld xs k n
 sum_wider x y a = record { terms = a.terms; weighted = a.weighted; held = wider_held x y a.held }

@@ -1,11 +1,10 @@
 -- Sums of what is held, terms that are joined, and trees that are one addend.
-use Rattle.std.proofs.Common.{◌≡◌, ℕ, ◌+◌, ◌*◌, ◌^◌, ◌≤◌, ◌<◌, List, [], ◌∷◌, ◌++◌, Bool, true, false, pos, ◌==◌, if◌then◌else◌, refl, sym, ap, ◌∙◌, subst, arith}
-use Rattle.tree_bits.proofs.Shared.{mul-le, pow-add, pow-le-pow_right, is_number, value, Surd, surd_one, IsNoLarger, mass, IsHeld, held_power, parts_scale, parts_append, mass-append, mass_scale}
-use Rattle.tree_bits.proofs.Shared.{one_fraction, mul_pos, num_one, Tree, symbol, power, root, none, more, Counts, counts, multiple, counts_of, is_counted, Addend, addend, addend_of, addends, base_in}
-use Rattle.tree_bits.proofs.Shared.{exponent_in, power_high, power_low, IsTreeHeld, undef_held, sum_held, AreWeighted, none_weighted, more_weighted, IsPartHeld, no_factor_held, factor_held}
-use Rattle.tree_bits.proofs.{Shared.{IsBaseHeld, symbol_held, root_held, Weighted, weighted, PartsAll, lows, weighted_mass, AreHeld}, Numbers.{nothing_held}, Weighted.{put_before}}
-use Rattle.calc_terms.proofs.FractionFacts.{whole_numerator, whole_denominator}
-use native.Mathlib.Nat.{mul_comm}
+use Rattle.tree_bits.proofs.Shared.{◌≡◌, ℕ, ◌+◌, ◌*◌, ◌^◌, ◌≤◌, ◌<◌, List, [], ◌∷◌, ◌++◌, Bool, true, false, pos, ◌==◌, if◌then◌else◌, refl, sym, ap, ◌∙◌, subst, arith, mul-le, pow-add}
+use Rattle.tree_bits.proofs.Shared.{pow-le-pow_right, is_number, value, Surd, surd_one, IsNoLarger, mass, IsHeld, held_power, parts_scale, parts_append, mass-append, mass_scale, one_fraction, mul_pos}
+use Rattle.tree_bits.proofs.Shared.{num_one, Tree, symbol, power, root, none, more, Counts, counts, multiple, counts_of, is_counted, Addend, addend, addend_of, addends, base_in, exponent_in}
+use Rattle.tree_bits.proofs.Shared.{power_high, power_low, IsTreeHeld, undef_held, sum_held, AreWeighted, none_weighted, more_weighted, IsPartHeld, no_factor_held, factor_held, IsBaseHeld}
+use Rattle.tree_bits.proofs.{Shared.{symbol_held, root_held, Weighted, weighted, PartsAll, lows, weighted_mass, AreHeld, whole_numerator, whole_denominator, mul_comm}, Numbers.{nothing_held}}
+use Rattle.tree_bits.proofs.Weighted.{put_before}
 
 -- ---- sums
 

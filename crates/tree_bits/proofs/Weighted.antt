@@ -1,7 +1,6 @@
 -- What holds coefficients before parts.
-use Rattle.std.proofs.Common.{◌≡◌, ℕ, ◌+◌, ◌-◌, ◌*◌, ◌^◌, ◌≤◌, ◌<◌, ◌⊎◌, inl, inr, List, [], ◌∷◌, min, sym, ap, subst, arith}
-use Rattle.tree_bits.proofs.Shared.{mul-le, pow-add, pow_pos, pow-le-pow_right, Term, Surd, Parts, mass, IsHeld, cancel_le, Weighted, weighted, coefficients, PartsAll, lows, weighted_mass, AreHeld}
-use Rattle.tree_bits.proofs.Shared.{lesser}
+use Rattle.tree_bits.proofs.Shared.{trans, lesser_power, ◌≡◌, ℕ, ◌+◌, ◌-◌, ◌*◌, ◌^◌, ◌≤◌, ◌<◌, ◌⊎◌, inl, inr, List, [], ◌∷◌, min, sym, ap, subst, arith, mul-le, pow-add, pow_pos, pow-le-pow_right}
+use Rattle.tree_bits.proofs.Shared.{Term, Surd, Parts, mass, IsHeld, cancel_le, Weighted, weighted, coefficients, PartsAll, lows, weighted_mass, AreHeld, lesser}
 
 order : (a b : ℕ) → (a ≤ b) ⊎ (b ≤ a)
 order a b = grind arith
@@ -33,9 +32,6 @@ parts_second : (d : ℕ) (ws vs : List Weighted) → coefficients ws ≡ coeffic
 parts_second d [] vs e p = tt
 parts_second d (w ∷ ws) [] e p = tt
 parts_second d (w ∷ ws) (v ∷ vs) e (p, ps) = (subst (Parts d) (sym (first_of e)) p, parts_second d ws vs (rest_of e) ps)
-
-lesser_power : (m a b : ℕ) → a ≤ b → m * 2 ^ a ≤ m * 2 ^ b
-lesser_power m a b h = mul-le m (2 ^ a) m (2 ^ b) (omega arith) (pow-le-pow_right {n = 2} (omega arith) h)
 
 mass_first : (e : ℕ) (ws vs : List Weighted) → weighted_mass e (lesser ws vs) ≤ weighted_mass e ws
 mass_first e [] vs = omega arith
@@ -70,9 +66,6 @@ record HasHigh (ws : List Weighted) (h : ℕ) : Type 0 where
   positive : 0 < scale
   scaled : PartsAll scale ws
   high : weighted_mass scale ws ≤ scale * 2 ^ h
-
-trans : (a b c : ℕ) → a ≤ b → b ≤ c → a ≤ c
-trans a b c h k = omega arith
 
 lesser_low : (ws vs : List Weighted) (h k l n : ℕ) → coefficients ws ≡ coefficients vs → AreHeld ws h l → AreHeld vs k n → HasLow (lesser ws vs) (min l n)
 lesser_low ws vs h k l n e a b = by (order l n)

@@ -1,11 +1,11 @@
 -- A root that becomes a child.
-use Rattle.tree_handles.proofs.Shared.{◌≡◌, ℕ, ◌+◌, ◌-◌, ◌<◌, ◌≤◌, ◌⊎◌, inl, inr, List, [], ◌∷◌, ◌++◌, length, drop, refl, sym, ap, ◌∙◌, arith, append_assoc, true, false, cases_Bool}
-use Rattle.tree_handles.proofs.Shared.{length-append, Node, State, has, used, place_of, with_children, since, moved, IsBoundary, used-append, or_is_false, has-append, append-nil, moved_left}
-use Rattle.tree_handles.proofs.Shared.{moved_right, forest, Stands, IsCounted, Forest, join, arity, node_of, flatten, first_trees, rest_trees, with_nth, AllNodes, holds, kids_of, with_kids}
-use Rattle.tree_handles.proofs.Shared.{has_root, root_tree, without_root}
-use Rattle.tree_handles.proofs.{Shared.{skip, IsChildPlace}, Forests.{flatten-join, flatten-first_rest, arity-with_nth, has-flatten}, Parts.{IsAt, at, IsRekid, rekid, kid_place, IsTold, span, live_node}}
-use Rattle.tree_handles.proofs.{Roots.{top, root_held, root_arity, root_id-root_tree}, Counted.{counted-with_kids, all-with_nth, all-root_tree, all-without_root, all-kids_of}, Releases.arity_le}
-use Rattle.tree_handles.proofs.Joins.{holds-join, kids_of-join_left, kids_of-join_right, with_kids-join_left, with_kids-join_right}
+use Rattle.tree_handles.proofs.Shared.{◌≡◌, ℕ, ◌+◌, ◌-◌, ◌<◌, ◌≤◌, ◌⊎◌, inl, inr, List, [], ◌∷◌, ◌++◌, length, drop, refl, sym, ap, ◌∙◌, arith, append_assoc, true, false, cases_Bool, length-append}
+use Rattle.tree_handles.proofs.Shared.{Node, State, has, used, place_of, with_children, since, moved, IsBoundary, used-append, or_is_false, has-append, append-nil, moved_left, moved_right, forest}
+use Rattle.tree_handles.proofs.Shared.{Stands, IsCounted, Forest, join, arity, node_of, flatten, first_trees, rest_trees, with_nth, AllNodes, holds, kids_of, with_kids, has_root, root_tree}
+use Rattle.tree_handles.proofs.{Shared.{without_root, skip, IsChildPlace}, Forests.{flatten-join, flatten-first_rest, arity-with_nth, has-flatten}}
+use Rattle.tree_handles.proofs.{Parts.{IsAt, at, IsRekid, rekid, kid_place, IsTold, span, live_node}, Releases.arity_le, Roots.{top, root_held, root_arity, root_id-root_tree}}
+use Rattle.tree_handles.proofs.{Counted.{counted-with_kids, all-with_nth, all-root_tree, all-without_root, all-kids_of}, Joins.{holds-join, kids_of-join_left, kids_of-join_right, with_kids-join_left}}
+use Rattle.tree_handles.proofs.Joins.{with_kids-join_right}
 
 -- where the parent is to the left the block goes left
 add_left : (i n from end to : ℕ) (left t : Forest) (d ns : List Node) (p : IsAt i left) → arity t ≡ 1 → ns ≡ flatten left ++ (flatten t ++ d) → n ≤ arity (kids_of i left)

@@ -18,7 +18,7 @@ adopted-right i n (tree l k r) g h = grind (arith, adopted-right i n r g)
 pub behind_there : (i : ℕ) (f r k : Forest) (l : Label) → has_root i f ≡ false → l.id ≡ i → behind_root i (join f (tree l k r)) ≡ r
 behind_there i f r k l h e = behind-right i f (tree l k r) h ∙ ap (λ (t : Bool). cond t r (behind_root i r)) (eq-eqb l.id i e)
 
-adopted_there : (i n : ℕ) (f r k : Forest) (l : Label) → has_root i f ≡ false → l.id ≡ i → adopted i n (join f (tree l k r)) ≡ join f (tree l (join k (first_trees n r)) (rest_trees n r))
+pub adopted_there : (i n : ℕ) (f r k : Forest) (l : Label) → has_root i f ≡ false → l.id ≡ i → adopted i n (join f (tree l k r)) ≡ join f (tree l (join k (first_trees n r)) (rest_trees n r))
 adopted_there i n f r k l h e = grind (arith, adopted-right)
 
 -- all of them
@@ -27,14 +27,6 @@ adopted_all i n f r k l h e c =
     let first : first_trees n r ≡ r = ap (λ (m : ℕ). first_trees m r) c ∙ ap (first_trees (arity r)) (sym (join-empty r)) ∙ first_trees-join r empty in
     let rest : rest_trees n r ≡ empty = ap (λ (m : ℕ). rest_trees m r) c ∙ ap (rest_trees (arity r)) (sym (join-empty r)) ∙ rest_trees-join r empty in
     adopted_there i n f r k l h e ∙ ap (λ (x : Forest). join f (tree l (join k x) (rest_trees n r))) first ∙ ap (λ (x : Forest). join f (tree l (join k r) x)) rest
-
-behind_alone : (i : ℕ) (t r : Forest) → arity t ≡ 1 → root_id t ≡ i → behind_root i (join t r) ≡ r
-behind_alone i (tree l k empty) r a e = ap (λ (t : Bool). cond t r (behind_root i r)) (eq-eqb l.id i e)
-behind_alone i t r a e = absurd (omega arith)
-
--- two trees that came after it
-pub two_behind : {i j k : ℕ} {t u v others f g h : Forest} → Ends i t others f → Ends j u f g → Ends k v g h → 2 ≤ arity (behind_root i h)
-two_behind a b c = grind (arith, join_assoc, behind-right, behind_alone, arity-join)
 
 -- the tree just behind a root
 pub record IsNextAdopted (i : ℕ) (t u f new : Forest) : Type 0 where

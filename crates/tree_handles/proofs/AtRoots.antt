@@ -3,7 +3,8 @@ use Rattle.tree_handles.proofs.Shared.{◌≡◌, ℕ, ◌+◌, ◌<◌, ◌≤�
 use Rattle.tree_handles.proofs.Shared.{AreDistinct-append, AreApart-parts, Forest, tree, join, arity, kids, root_id, node_of, flatten, tree_nth, without_nth, with_nth, set_nth, with_root_kids, Ends}
 use Rattle.tree_handles.proofs.{Shared.{holds, kids_of, with_kids, has_root, root_tree, without_root, put, Stands, forest}, Distinct.{Distinct, distinct, put-root, clear_front}}
 use Rattle.tree_handles.proofs.{Forests.{flatten-join, arity-with_nth, arity-tree_nth}, Joins.{holds-with_kids, kids_of-with_kids}, Replacing.held_beside}
-use Rattle.tree_handles.proofs.{Lasts.{kids_of_root, last_root, takes_root, takes_next}, Roots.{top, root_arity, root-without, root_id-root_tree}, Outcomes.{eqb-sym}}
+use Rattle.tree_handles.proofs.{Lasts.{kids_of_root, last_root, takes_root, takes_next}, Roots.{top, root_arity, root-without, root_id-root_tree}}
+use Rattle.node_pool.proofs.Ids.{eqb_sym as eqb-sym}
 
 pub distinct-without : (i : ℕ) (f : Forest) → Distinct f → has_root i f ≡ true → Distinct (without_root i f)
 distinct-without i f d h =

@@ -1,9 +1,8 @@
 -- Children one after another.
 use Rattle.tree_handles.proofs.Shared.{◌≡◌, ℕ, zero, suc, ◌+◌, ◌-◌, ◌<◌, ◌≤◌, List, [], ◌∷◌, ◌++◌, length, drop, refl, sym, ap, ◌∙◌, subst, arith, append_assoc, true, Node, used, has, first_of}
 use Rattle.tree_handles.proofs.Shared.{place_of, since, IsBoundary, State, used-append, size_from, root_ids, IsChildAt, AreSiblings, nth, plain, IsExpression, AllExpressions, children_of, Forest}
-use Rattle.tree_handles.proofs.Shared.{empty, tree, join, arity, root_id, node_of, first_trees, rest_trees, forest_of, flatten, tree_nth, holds, kids_of, tree_at, Stands, forest, skip}
-use Rattle.tree_handles.proofs.Shared.{IsChildPlace}
-use Rattle.tree_handles.proofs.{Distinct.{distinct, child_tree, held_parent}, Forests.{forest_of-flatten, flatten-first_rest, skip-first, arity-join, arity-rest_trees}, Nths.first_trees-behind}
+use Rattle.tree_handles.proofs.Shared.{empty, tree, join, arity, root_id, node_of, first_trees, rest_trees, forest_of, flatten, tree_nth, holds, kids_of, tree_at, Stands, forest, skip, IsChildPlace}
+use Rattle.tree_handles.proofs.{Distinct.{distinct, child_tree, held_parent}, Forests.{forest_of-flatten, flatten-first_rest, skip-first, arity-join, arity-rest_trees}, Nths.{first_trees-behind}}
 use Rattle.tree_handles.proofs.{Parts.{is_before, kid, kid_here, found_behind, found_tree, live_at, live_node}, Readings.{expression_child, whole_child}}
 
 -- ---- a walk over trees

@@ -1,10 +1,9 @@
 -- Copying nodes, one after the other.
-use Rattle.tree_handles.proofs.Shared.{◌≡◌, ℕ, suc, ◌+◌, ◌-◌, ◌<◌, ◌≤◌, List, [], ◌∷◌, ◌++◌, refl, sym, ap, ◌∙◌, subst, arith, append_assoc, true}
-use Rattle.tree_handles.proofs.Shared.{append-nil, Node, size_of, used, first_of, since, until, between, IsBoundary, IsPool, State, free_of, used-append, size_from, until-since}
-use Rattle.tree_handles.proofs.Shared.{since-append, step, cut, boundary_le, between_next, between_none, boundary-append, between-append, AreCopies, copy_of, IsCopy, plains}
-use Rattle.tree_handles.proofs.Shared.{plain, AllExpressions, IsExpression, Forest, empty, tree, join, arity, node_of, flatten, forest_of, root_id, bytes_in, AllNodes, AllOnce, Gives, holds}
-use Rattle.tree_handles.proofs.{Shared.{tree_at, Stands, forest, IsCounted, KeepsRefusals}, Copies.{AreCopies-push, copied}, Distinct.clear_front}
-use Rattle.tree_handles.proofs.{Forests.{flatten-join, stands, forest_of_whole, bytes-flatten, all-join, keeps}, Parts.{IsTold, live_at, span}}
+use Rattle.tree_handles.proofs.Shared.{◌≡◌, ℕ, suc, ◌+◌, ◌-◌, ◌<◌, ◌≤◌, List, [], ◌∷◌, ◌++◌, refl, sym, ap, ◌∙◌, subst, arith, append_assoc, true, append-nil, Node, size_of, used, first_of, since}
+use Rattle.tree_handles.proofs.Shared.{until, between, IsBoundary, IsPool, State, free_of, used-append, size_from, until-since, since-append, step, cut, boundary_le, between_next, between_none}
+use Rattle.tree_handles.proofs.Shared.{boundary-append, between-append, AreCopies, copy_of, IsCopy, plains, plain, AllExpressions, IsExpression, Forest, empty, tree, join, arity, node_of, flatten}
+use Rattle.tree_handles.proofs.{Shared.{forest_of, root_id, bytes_in, AllNodes, AllOnce, Gives, holds, tree_at, Stands, forest, IsCounted, KeepsRefusals}, Copies.{AreCopies-push, copied}}
+use Rattle.tree_handles.proofs.{Distinct.{clear_front}, Forests.{flatten-join, stands, forest_of_whole, bytes-flatten, all-join, keeps}, Parts.{IsTold, live_at, span}}
 
 pub record IsCopying (s t : State) (from at : ℕ) : Type 0 where
   pub made : List Node

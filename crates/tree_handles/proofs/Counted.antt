@@ -1,7 +1,6 @@
 -- Facts of each node, through the changes of a forest.
-use Rattle.tree_handles.proofs.Shared.{ℕ, ◌≤◌, arith, Label, Forest, empty, tree, join, first_trees, rest_trees, kids, tree_nth, without_nth}
-use Rattle.tree_handles.proofs.Shared.{with_nth, set_nth, AllNodes, tree_at, kids_of, with_kids, with_count_in, released, released_in, root_tree, without_root, IsCounted}
-use Rattle.tree_handles.proofs.{Forests.{all-join, all-first_trees, all-rest_trees}}
+use Rattle.tree_handles.proofs.Shared.{ℕ, ◌≤◌, arith, Label, Forest, empty, tree, join, first_trees, rest_trees, kids, tree_nth, without_nth, with_nth, set_nth, AllNodes, tree_at, kids_of, with_kids}
+use Rattle.tree_handles.proofs.{Shared.{with_count_in, released, released_in, root_tree, without_root, IsCounted}, Forests.{all-join, all-first_trees, all-rest_trees}}
 
 pub all-tree_at : (P : Label → ℕ → Type 0) (i : ℕ) (f : Forest) → AllNodes P f → AllNodes P (tree_at i f)
 all-tree_at P i empty h = tt

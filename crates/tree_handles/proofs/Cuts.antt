@@ -1,10 +1,10 @@
 -- Lists of trees that are cut, and one tree of them taken out.
-use Rattle.tree_handles.proofs.Shared.{◌≡◌, ℕ, refl, sym, ap, ◌∙◌, subst, Tree, Trees, none, more, append, count, inserted, Forest, empty, tree, arity, first_trees, rest_trees}
+use Rattle.tree_handles.proofs.Shared.{◌≡◌, ℕ, sym, ap, ◌∙◌, subst, Tree, Trees, none, more, append, count, Forest, empty, tree, arity, first_trees, rest_trees}
 use Rattle.tree_handles.proofs.{Shared.{tree_nth, without_nth, Represents}, Given.{represents_none, represents_join}, Plains.count-plains}
 
 -- ---- lists of children
 
-cut_empty : {t : Tree} {ts : Trees} → none ≡ more t ts → ⊥
+pub cut_empty : {t : Tree} {ts : Trees} → none ≡ more t ts → ⊥
 cut_empty e = cc
 
 -- some trees in front, and the others
@@ -42,7 +42,3 @@ cut_at n ts t us k e h = subst (λ (m : ℕ). IsCut m t (append ts us) k) (sym e
 
 pub represents_count : {k : Forest} {ts : Trees} → Represents k ts → arity k ≡ count ts
 represents_count {k = k} h = sym (count-plains k) ∙ ap count h.plain_trees
-
-pub inserted_behind : (ts us vs : Trees) → inserted (count ts) us (append ts vs) ≡ append ts (append us vs)
-inserted_behind none us vs = refl
-inserted_behind (more t ts) us vs = ap (more t) (inserted_behind ts us vs)

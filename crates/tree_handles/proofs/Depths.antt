@@ -1,7 +1,6 @@
 -- A walk that measures how deep a tree is.
 use Rattle.tree_handles.proofs.Shared.{◌≡◌, ℕ, ◌+◌, ◌-◌, ◌<◌, ◌≤◌, max, List, [], ◌∷◌, length, get_or, refl, sym, ap, ◌∙◌, subst, arith, get_or-set_other, get_or-set_same, length-set, set, Visit}
-use Rattle.tree_handles.proofs.{Shared.{Forest, empty, tree, join, arity, nodes_in, depth_in, visits_of}, Forests.join-empty, Visiting.{visit_here, visits_left, visits_length}}
-use Rattle.std.proofs.Common.{◌≢◌}
+use Rattle.tree_handles.proofs.{Shared.{Forest, empty, tree, join, arity, nodes_in, depth_in, visits_of, ◌≢◌}, Forests.{join-empty}, Visiting.{visit_here, visits_left, visits_length}}
 
 -- the trees that are still owed on the open levels, the deepest level first
 abbrev pub AreOpen : List Forest → ℕ → List ℕ → Type 0

@@ -1,8 +1,7 @@
 -- Forests whose nodes have distinct identifiers.
-use Rattle.tree_handles.proofs.Shared.{◌≡◌, ℕ, zero, suc, ◌<◌, ◌≤◌, List, [], ◌∷◌, ◌++◌, cond, eqb, refl, sym, ◌∙◌, subst, arith, true, false}
-use Rattle.tree_handles.proofs.Shared.{eqb-true, eq-eqb, append-nil, Node, has, AreDistinct, State, has-append, AreDistinct-parts, AreApart, AreApart-sym, Label, Forest, empty, tree, join}
-use Rattle.tree_handles.proofs.{Shared.{arity, flatten, tree_nth, kids, root_id, holds, tree_at, kids_of, with_kids, has_root, root_tree, put, Stands, forest}, Forests.{flatten-join, has-flatten}}
-use Rattle.tree_handles.proofs.{Roots.{root_held, no_root}, Outcomes.{or_true, not_left, not_right}}
+use Rattle.tree_handles.proofs.Shared.{◌≡◌, ℕ, zero, suc, ◌<◌, ◌≤◌, List, [], ◌∷◌, ◌++◌, cond, eqb, refl, sym, ◌∙◌, subst, arith, true, false, eqb-true, eq-eqb, append-nil, Node, has, AreDistinct}
+use Rattle.tree_handles.proofs.Shared.{State, has-append, AreDistinct-parts, AreApart, AreApart-sym, Label, Forest, empty, tree, join, arity, flatten, tree_nth, kids, root_id, holds, tree_at, kids_of}
+use Rattle.tree_handles.proofs.{Shared.{with_kids, has_root, root_tree, put, Stands, forest, or_true}, Forests.{flatten-join, has-flatten}, Roots.{root_held, no_root}, Outcomes.{not_left, not_right}}
 
 abbrev pub Distinct : Forest → Type 0
 Distinct f = AreDistinct (flatten f)

@@ -1,14 +1,14 @@
 -- A child is taken out of a root, and a tree fills its place.
-use Rattle.tree_handles.proofs.Shared.{◌≡◌, ℕ, zero, suc, ◌+◌, ◌≤◌, ◌<◌, ◌∷◌, List, [], eqb, refl, sym, ap, ◌∙◌, subst, arith, true, false, eqb-true, Payload, kind_of_payload, Tree, Trees}
-use Rattle.tree_handles.proofs.Shared.{more, count, size, nth, grown, compound, plain, plains, takes, children_of, Forest, empty, tree, join, arity, first_trees, rest_trees, bytes_in, kids}
-use Rattle.tree_handles.proofs.Shared.{with_root_kids, tree_nth, without_nth, with_nth, set_nth, AllOnce, AllExpressions, IsHanded, Ends, Gives, KeepsFront, tree_of, kids_of, holds, has_root}
-use Rattle.tree_handles.proofs.{Shared.{root_tree, without_root, put, State, free_of, Stands, forest, KeepsRefusals, Place}, Counted.{all-kids, all-set_nth, all-tree_nth}}
+use Rattle.tree_handles.proofs.Shared.{◌≡◌, ℕ, zero, suc, ◌+◌, ◌≤◌, ◌<◌, ◌∷◌, List, [], eqb, refl, sym, ap, ◌∙◌, subst, arith, true, false, eqb-true, Payload, kind_of_payload, Tree, Trees, more}
+use Rattle.tree_handles.proofs.Shared.{count, size, nth, grown, compound, plain, plains, takes, children_of, Forest, empty, tree, join, arity, first_trees, rest_trees, bytes_in, kids, with_root_kids}
+use Rattle.tree_handles.proofs.Shared.{tree_nth, without_nth, with_nth, set_nth, AllOnce, AllExpressions, IsHanded, Ends, Gives, KeepsFront, tree_of, kids_of, holds, has_root, root_tree, without_root}
+use Rattle.tree_handles.proofs.{Shared.{put, State, free_of, Stands, forest, KeepsRefusals, Place, ChangesTree, IsHole, set_child, set_tree}, Counted.{all-kids, all-set_nth, all-tree_nth}}
 use Rattle.tree_handles.proofs.{Distinct.{Distinct, distinct, distinct_parts}, Forests.{arity-set_nth, arity-without_nth, bytes_in-join, first-rest}, FreeBytes.{all_bytes, beside_bytes}}
-use Rattle.tree_handles.proofs.{Fronts.{behind_first, front_after_one, front_at, front_end, front_put, front_same, front_without, not_first, starts_end}, Fronts.starts_put, Nths.with_nth-without_nth}
+use Rattle.tree_handles.proofs.{Fronts.{behind_first, front_after_one, front_at, front_end, front_put, front_same, front_without, not_first, starts_end, starts_put}, Nths.{with_nth-without_nth}}
 use Rattle.tree_handles.proofs.{Given.{given_apart, given_other, given_rest, given_same, handed_at, handed_beside, handed_by_put}, Lasts.{apart, ends_as, kids_of_root, last_rest}}
-use Rattle.tree_handles.proofs.{Outcomes.{eqb-sym}, Over.{tree_put, without_put}, Plains.{children_of-plain, count-plains, grown_whole, plain-tree_nth, whole_kids}, Roots.{kids-put, no_root}}
-use Rattle.tree_handles.proofs.Roots.{put-left, put-put, put-same, root_arity, root-left, root-put, root-without, tree-left, tree-put, tree-without, without-put}
-use Rattle.tree_handles.specs.Holes.{ChangesTree, IsHole, set_child, set_tree}
+use Rattle.tree_handles.proofs.{Over.{tree_put, without_put}, Plains.{children_of-plain, count-plains, grown_whole, plain-tree_nth, whole_kids}, Roots.{kids-put, no_root, put-left, put-put, put-same}}
+use Rattle.tree_handles.proofs.Roots.{root_arity, root-left, root-put, root-without, tree-left, tree-put, tree-without, without-put}
+use Rattle.node_pool.proofs.Ids.{eqb_sym as eqb-sym}
 
 -- ---- the child goes
 

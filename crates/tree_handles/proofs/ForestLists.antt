@@ -1,6 +1,5 @@
 -- Trees behind one another: those from a place on, their number, and their identifiers.
-use Rattle.std.proofs.Common.{◌≡◌, ℕ, zero, suc, ◌+◌, ◌<◌, ◌≤◌, length, get_or, refl, sym, ap, ◌∙◌, arith}
-use Rattle.tree_handles.specs.{Children.{root_ids}, Forest.{Forest, empty, tree, arity, kids, nodes_in, rest_trees, root_id, tree_nth}}
+use Rattle.tree_handles.proofs.Shared.{◌≡◌, ℕ, zero, suc, ◌+◌, ◌<◌, ◌≤◌, length, get_or, refl, sym, ap, ◌∙◌, arith, root_ids, Forest, empty, tree, arity, kids, nodes_in, rest_trees, root_id, tree_nth}
 
 pub no_trees : (f : Forest) → arity f ≡ 0 → f ≡ empty
 no_trees empty e = refl

@@ -158,9 +158,6 @@ placed f ns ms id x e q = q ∙ ap (λ (y : List Node). y ++ fresh id x ∷ []) 
 pub keeps : (s t : State) (ns : List Node) → t ≡ record s { nodes = ns } → KeepsRefusals s t
 keeps s t ns e = record { size = ap (λ (x : State). x.size) e; refusals = ap (λ (x : State). x.refusals) e; last_refused = ap (λ (x : State). x.last_refused) e }
 
-pub keeps_none : (s : State) → KeepsRefusals s s
-keeps_none s = record { size = refl; refusals = refl; last_refused = refl }
-
 pub keeps_after : (s t u : State) → KeepsRefusals s t → KeepsRefusals t u → KeepsRefusals s u
 keeps_after s t u a b = record { size = b.size ∙ a.size; refusals = b.refusals ∙ a.refusals; last_refused = b.last_refused ∙ a.last_refused }
 

@@ -22,7 +22,7 @@ beside_bytes i f h = omega (arith, bytes_without i f h.root, size-plain (root_tr
 beside_both_bytes : (i j : ℕ) (f : Forest) → eqb i j ≡ false → IsHanded i f → IsHanded j f → bytes_in f ≡ bytes_in (without_root j (without_root i f)) + size (plain (root_tree i f)) + size (plain (root_tree j f))
 beside_both_bytes i j f a h k = grind (arith, tree-without, beside_bytes, handed_beside)
 
-last_bytes : {g f : Forest} {i : ℕ} {Told : Tree → Type 0} → Gives g f i Told → bytes_in f ≡ bytes_in g + size (plain (root_tree i f))
+pub last_bytes : {g f : Forest} {i : ℕ} {Told : Tree → Type 0} → Gives g f i Told → bytes_in f ≡ bytes_in g + size (plain (root_tree i f))
 last_bytes e = grind (arith, bytes_in-join, size-plain, last_tree)
 
 -- a tree in place of a handed one

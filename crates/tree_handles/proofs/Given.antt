@@ -4,10 +4,6 @@ use Rattle.tree_handles.proofs.Shared.{inserted, takes, Forest, empty, tree, joi
 use Rattle.tree_handles.proofs.{Counted.all-with_nth, Forests.{join-empty, all-join}, Lasts.{last_root, last_tree, last_rest, other_tree, other_apart, other_handed, ends_without, ends_as}}
 use Rattle.tree_handles.proofs.{Plains.{plains-join, count-plains, alone}, Roots.{root_arity, root-without, tree-without, root-put, tree-put}}
 
-pub append-none : (ts : Trees) → append ts none ≡ ts
-append-none none = refl
-append-none (more t ts) = ap (more t) (append-none ts)
-
 pub plains-with_nth : (n : ℕ) (c k : Forest) → plains (with_nth n c k) ≡ inserted n (plains c) (plains k)
 plains-with_nth zero c k = plains-join c k
 plains-with_nth (suc n) c empty = ap plains (join-empty c)

@@ -1,9 +1,8 @@
 -- A released node, wherever it stands.
-use Rattle.tree_handles.proofs.Shared.{◌≡◌, ℕ, ◌-◌, ◌<◌, inl, inr, List, ◌∷◌, ◌++◌, cond, refl, sym, ap, ◌∙◌, arith, Bool, true, false, eq-eqb, Node, State, has, used, place_of, AreDistinct}
-use Rattle.tree_handles.proofs.Shared.{since, until, until-append, Label, Forest, empty, tree, join, root_count, node_of, flatten, forest_of, AllOnce, IsOwned, holds, kids_of, count_of, with_count_in}
-use Rattle.tree_handles.proofs.Shared.{released, released_in, has_root, root_tree, without_root, IsReleasable, forest, Stands, release_first, released_at}
-use Rattle.tree_handles.proofs.{Distinct.{Distinct, distinct_parts}, Parts.{at, found, found_behind}, Joins.released_in-join_right, Releases.released_held, Roots.{top, root_held}}
-use Rattle.tree_handles.proofs.Forests.{flatten-join, forest_of_whole, has-flatten}
+use Rattle.tree_handles.proofs.Shared.{◌≡◌, ℕ, ◌-◌, ◌<◌, inl, inr, List, ◌∷◌, ◌++◌, cond, refl, sym, ap, ◌∙◌, arith, Bool, true, false, eq-eqb, Node, State, has, used, place_of, AreDistinct, since}
+use Rattle.tree_handles.proofs.Shared.{until, until-append, Label, Forest, empty, tree, join, root_count, node_of, flatten, forest_of, AllOnce, IsOwned, holds, kids_of, count_of, with_count_in}
+use Rattle.tree_handles.proofs.{Shared.{released, released_in, has_root, root_tree, without_root, IsReleasable, forest, Stands, release_first, released_at}, Distinct.{Distinct, distinct_parts}}
+use Rattle.tree_handles.proofs.{Parts.{at, found, found_behind}, Joins.{released_in-join_right}, Releases.{released_held}, Roots.{top, root_held}, Forests.{flatten-join, forest_of_whole, has-flatten}}
 
 -- the nodes before, and the trees from the node on
 pub record IsReleased (i : ℕ) (f : Forest) : Type 0 where

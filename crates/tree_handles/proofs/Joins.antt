@@ -1,6 +1,5 @@
 -- A node in the first or in the last of two forests.
-use Rattle.tree_handles.proofs.Shared.{arith, ◌≡◌, ℕ, cond, refl, ap, true, false, Forest, empty, tree, join, kids, holds, tree_at, kids_of, with_kids}
-use Rattle.tree_handles.proofs.{Shared.released_in, Outcomes.{or_true}}
+use Rattle.tree_handles.proofs.Shared.{arith, ◌≡◌, ℕ, cond, refl, ap, true, false, Forest, empty, tree, join, kids, holds, tree_at, kids_of, with_kids, released_in, or_true}
 
 pub holds-join : (i : ℕ) (f g : Forest) → holds i (join f g) ≡ cond (holds i f) true (holds i g)
 holds-join i empty g = refl

@@ -1,8 +1,7 @@
 -- Two trees that stand last.
-use Rattle.tree_handles.proofs.Shared.{◌≡◌, ℕ, ◌≤◌, [], ◌++◌, refl, sym, ap, ◌∙◌, arith, true, append-nil, used, since, State, since-append, Forest}
-use Rattle.tree_handles.proofs.Shared.{empty, join, arity, flatten, forest_of, bytes_in, before_last, last_trees, Ends, has_root, root_tree, without_root, forest, Stands}
-use Rattle.tree_handles.proofs.{Forests.{arity-join, bytes-flatten, forest_of_whole, join-empty, join_assoc}, Gathering.{before_last-join, last_trees-join}, Lasts.last_rest}
-use Rattle.tree_handles.proofs.{Roots.{root_arity, root_id-root_tree}, Swapping.{no_bytes, block}, Parts.IsTold}
+use Rattle.tree_handles.proofs.Shared.{◌≡◌, ℕ, ◌≤◌, [], ◌++◌, refl, sym, ap, ◌∙◌, arith, true, append-nil, used, since, State, since-append, Forest, empty, join, arity, flatten, forest_of, bytes_in}
+use Rattle.tree_handles.proofs.{Shared.{before_last, last_trees, Ends, has_root, root_tree, without_root, forest, Stands}, Forests.{arity-join, bytes-flatten, forest_of_whole, join-empty, join_assoc}}
+use Rattle.tree_handles.proofs.{Gathering.{before_last-join, last_trees-join}, Lasts.{last_rest}, Roots.{root_arity, root_id-root_tree}, Swapping.{no_bytes, block}, Parts.{IsTold}}
 
 pub record AreLastTwo (a b begin : ℕ) (f : Forest) : Type 0 where
   pub trees : last_trees 2 f ≡ join (root_tree a f) (root_tree b f)

@@ -2,7 +2,8 @@
 use Rattle.tree_handles.proofs.Shared.{◌≡◌, ℕ, eqb, refl, sym, ap, ◌∙◌, subst, arith, true, false, eqb-true, eq-eqb, State, plain, AllExpressions, IsExpression, Forest, empty, tree, join}
 use Rattle.tree_handles.proofs.Shared.{arity, kids, root_id, with_root_kids, with_nth, IsHanded, Ends, holds, tree_at, kids_of, has_root, root_tree, without_root, put, Stands}
 use Rattle.tree_handles.proofs.{Shared.forest, Forests.join-empty, Distinct.{Distinct, distinct, distinct_parts, tree_at-root}, Roots.{root_held, root-left, root-right, tree-left, tree-right}}
-use Rattle.tree_handles.proofs.{Roots.{without-left, without-right, put-left, put-right, root-without, root-put}, Outcomes.{eqb-sym}}
+use Rattle.tree_handles.proofs.Roots.{without-left, without-right, put-left, put-right, root-without, root-put}
+use Rattle.node_pool.proofs.Ids.{eqb_sym as eqb-sym}
 
 -- one tree, by its root's identifier
 alone_tree : (i : ℕ) (t : Forest) → arity t ≡ 1 → root_id t ≡ i → (has_root i t ≡ true) × (root_tree i t ≡ t) × (without_root i t ≡ empty) × ((n : Forest) → put i n t ≡ with_root_kids n t)
@@ -57,10 +58,10 @@ ends_as {i = i} {u = u} {g = g} {f = f} e p q = subst (λ (x : Forest). Ends i u
 
 -- ---- the last tree takes a child
 
-with_kids_alone : (n t : Forest) → arity (with_root_kids n t) ≡ arity t
+pub with_kids_alone : (n t : Forest) → arity (with_root_kids n t) ≡ arity t
 with_kids_alone n t = grind arith
 
-with_kids_root : (n t : Forest) → root_id (with_root_kids n t) ≡ root_id t
+pub with_kids_root : (n t : Forest) → root_id (with_root_kids n t) ≡ root_id t
 with_kids_root n t = grind arith
 
 -- a root from those before it

@@ -23,7 +23,6 @@ pub mod Lasts
 pub mod AtRoots
 pub mod Given
 pub mod Fronts
-pub mod Tested
 pub mod Places
 pub mod UndefChildren
 pub mod NextChildren
@@ -44,3 +43,4 @@ pub mod Seen
 pub mod Filling
 pub mod Shared
 pub mod LastTwo
+pub mod SmallLaws

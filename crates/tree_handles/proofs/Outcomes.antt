@@ -1,14 +1,9 @@
 -- Proofs by a test, and of a result.
-use Rattle.tree_handles.proofs.Shared.{arith, ◌≡◌, ℕ, cond, eqb, sym, Bool, true, false, Result, IfErr, eqb-false, ne_eqb}
-use Rattle.std.proofs.Common.{Err}
-use Rattle.std.specs.Prelude.{IsErr, IsErrAnd, IfOk}
+use Rattle.tree_handles.proofs.Shared.{arith, ◌≡◌, ℕ, cond, eqb, sym, Bool, true, false, Result, IfErr, eqb-false, ne_eqb, Err, IsErr, IsErrAnd, IfOk}
 
 -- both outcomes of a test
 pub by_test : (P : Bool → Type 0) (t : Bool) → (t ≡ true → P true) → (t ≡ false → P false) → P t
 by_test P t y n = grind arith
-
-pub or_true : (t : Bool) → cond t true true ≡ true
-or_true t = grind arith
 
 pub not_left : (x y : Bool) → cond x true y ≡ false → x ≡ false
 not_left x y h = grind arith
@@ -16,14 +11,7 @@ not_left x y h = grind arith
 pub not_right : (x y : Bool) → cond x true y ≡ false → y ≡ false
 not_right x y h = grind arith
 
-pub eqb-sym : (a b : ℕ) → eqb a b ≡ false → eqb b a ≡ false
-eqb-sym a b h = ne_eqb b a (λ e. eqb-false a b h (sym e))
-
 -- ---- results
-
--- what a `?` passes on: a fact of the error, or of the result
-pub passed_on : {A E : Type 0} (r : Result A E) (e : E) (P : E → Type 0) → IsErr r → IsErrAnd r (λ x. x ≡ e) → P e → IfErr r P
-passed_on r e P h a p = grind arith
 
 pub passed_result : {A E : Type 0} (r : Result A E) (e : E) (P : Result A E → Type 0) → IsErr r → IsErrAnd r (λ x. x ≡ e) → P (Err e) → P r
 passed_result r e P h a p = grind arith

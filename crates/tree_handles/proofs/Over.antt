@@ -66,10 +66,10 @@ pub without_put : (i : ℕ) (n f : Forest) → without_root i (put i n f) ≡ wi
 without_put i n empty = refl
 without_put i n (tree l k r) = grind (arith, without_put i n r)
 
-payload_with : (n t : Forest) → root_payload (with_root_kids n t) ≡ root_payload t
+pub payload_with : (n t : Forest) → root_payload (with_root_kids n t) ≡ root_payload t
 payload_with n t = grind arith
 
-count_with : (n t : Forest) → root_count (with_root_kids n t) ≡ root_count t
+pub count_with : (n t : Forest) → root_count (with_root_kids n t) ≡ root_count t
 count_with n t = grind arith
 
 -- it has other children

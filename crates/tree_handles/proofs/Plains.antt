@@ -90,7 +90,7 @@ size_grown t = grind arith
 depth_grown : (t : Tree) → depth t ≡ suc (depths (children_of t))
 depth_grown t = grind arith
 
-nodes_grown : (t : Tree) → nodes t ≡ suc (nodes_of (children_of t))
+pub nodes_grown : (t : Tree) → nodes t ≡ suc (nodes_of (children_of t))
 nodes_grown t = grind arith
 
 pub depths-plains : (f : Forest) → AllExpressions f → depths (plains f) ≡ depth_in f

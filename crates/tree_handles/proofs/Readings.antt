@@ -1,10 +1,9 @@
 -- What a node's header and payload tell of its tree.
-use Rattle.tree_handles.proofs.Shared.{arith, ◌≡◌, ℕ, List, [], ◌∷◌, ◌++◌, refl, sym, ap, ◌∙◌, subst, true, false, eq-eqb, Header, lowest, Node}
-use Rattle.tree_handles.proofs.Shared.{header_of, Payload, rational, named, kind_of_payload, IsPayload, Ratio, num, symbol, is_num, is_symbol, root_kind, count, has, place_of, first_of}
-use Rattle.tree_handles.proofs.Shared.{payload_of_id, AreNodes, used, since, State, AreNodes-right, since-append, place_of-append, Label, Forest, empty, tree, arity, node_of, flatten}
-use Rattle.tree_handles.proofs.Shared.{root_payload, root_count, tree_nth, rest_trees, holds, tree_at, kids_of, count_of, payload_in, nth, grown, plains, plain, IsWhole, IsExpression}
-use Rattle.tree_handles.proofs.{Shared.{AllExpressions, children_of, Stands, forest}, Forests.{all-first_trees, all-rest_trees}, Parts.{at, live_at}}
-use Rattle.tree_handles.proofs.Plains.{is_num-plain, is_symbol-plain, root_kind-plain, children_of-plain, count-plains, plain-tree_nth, whole_kids}
+use Rattle.tree_handles.proofs.Shared.{arith, ◌≡◌, ℕ, List, [], ◌∷◌, ◌++◌, refl, sym, ap, ◌∙◌, subst, true, false, eq-eqb, Header, lowest, Node, header_of, Payload, rational, named, kind_of_payload}
+use Rattle.tree_handles.proofs.Shared.{IsPayload, Ratio, num, symbol, is_num, is_symbol, root_kind, count, has, place_of, first_of, payload_of_id, AreNodes, used, since, State, AreNodes-right}
+use Rattle.tree_handles.proofs.Shared.{since-append, place_of-append, Label, Forest, empty, tree, arity, node_of, flatten, root_payload, root_count, tree_nth, rest_trees, holds, tree_at, kids_of}
+use Rattle.tree_handles.proofs.{Shared.{count_of, payload_in, nth, grown, plains, plain, IsWhole, IsExpression, AllExpressions, children_of, Stands, forest}, Forests.{all-first_trees, all-rest_trees}}
+use Rattle.tree_handles.proofs.{Parts.{at, live_at}, Plains.{is_num-plain, is_symbol-plain, root_kind-plain, children_of-plain, count-plains, plain-tree_nth, whole_kids}}
 use Rattle.calc_terms.specs.declared.kind.Kind.TheVariants as kind
 
 pub payload_of_id-append : (i : ℕ) (a : List Node) (n : Node) (b : List Node) → has i a ≡ false → n.id ≡ i → payload_of_id i (a ++ n ∷ b) ≡ n.payload

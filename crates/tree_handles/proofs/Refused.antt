@@ -1,7 +1,5 @@
 -- What a call is refused for, after calls that were not, and in other words.
-use Rattle.tree_handles.proofs.Shared.{arith, ℕ, ◌+◌, Result, refl, ap, ◌∙◌, ◌-◌, ◌^◌, min, IfErr, Full, State, KeepsRefusals, Refuses}
-use Rattle.tree_handles.specs.{Faults.OfOverflow, declared.fault.NumberFault.NumberFault}
-use Rattle.rational128.specs.declared.overflow.Overflow.{Overflow}
+use Rattle.tree_handles.proofs.Shared.{arith, ℕ, ◌+◌, Result, refl, ap, ◌∙◌, ◌-◌, ◌^◌, min, IfErr, Full, State, KeepsRefusals, Refuses, OfOverflow, NumberFault, Overflow}
 
 pub overflow_as : {P Q : Overflow → Type 0} (e : NumberFault) → OfOverflow P e → ((o : Overflow) → P o → Q o) → OfOverflow Q e
 overflow_as e p k = grind arith

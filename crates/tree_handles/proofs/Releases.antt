@@ -1,11 +1,10 @@
 -- Releasing trees, node after node.
-use Rattle.tree_handles.proofs.Shared.{◌≡◌, ℕ, zero, suc, ◌+◌, ◌-◌, ◌<◌, ◌≤◌, List, [], ◌∷◌, ◌++◌, length, cond, eqb, refl, sym, ap, ◌∙◌, subst, arith}
-use Rattle.tree_handles.proofs.Shared.{append_assoc, Bool, true, false, eqb-false, leb-true, lt-ltb, le-ltb, IsStep, step, unheld, unheld_more, owed_behind, length-append, Node, size_of, has}
-use Rattle.tree_handles.proofs.Shared.{used, first_of, with_count, AreDistinct, until, since, between, without, IsBoundary, State, IsPool, used-append, length_le_used, since-append}
-use Rattle.tree_handles.proofs.Shared.{until-append, until-since, cut, boundary-append, with_count-append, without-append, Label, Forest, empty, tree, join, arity, node_of, flatten, first_trees}
-use Rattle.tree_handles.proofs.{Shared.{rest_trees, forest_of, released, release_first, released_at, skip, IsOwed, IsNearer, owed_nodes}, Distinct.not_before}
-use Rattle.tree_handles.proofs.{Forests.{flatten-join, arity-join, join_assoc, forest_of_whole, skip-flatten}, Parts.{place_is, has_mid, used_some}}
-use Rattle.std.proofs.Common.{leb}
+use Rattle.tree_handles.proofs.Shared.{◌≡◌, ℕ, zero, suc, ◌+◌, ◌-◌, ◌<◌, ◌≤◌, List, [], ◌∷◌, ◌++◌, length, cond, eqb, refl, sym, ap, ◌∙◌, subst, arith, append_assoc, Bool, true, false, eqb-false}
+use Rattle.tree_handles.proofs.Shared.{leb-true, lt-ltb, le-ltb, IsStep, step, unheld, unheld_more, owed_behind, length-append, Node, size_of, has, used, first_of, with_count, AreDistinct, until}
+use Rattle.tree_handles.proofs.Shared.{since, between, without, IsBoundary, State, IsPool, used-append, length_le_used, since-append, until-append, until-since, boundary-append, with_count-append}
+use Rattle.tree_handles.proofs.Shared.{without-append, Label, Forest, empty, tree, join, arity, node_of, flatten, first_trees, rest_trees, forest_of, released, release_first, released_at, skip}
+use Rattle.tree_handles.proofs.{Shared.{IsOwed, IsNearer, owed_nodes, leb}, Distinct.{not_before}, Forests.{flatten-join, arity-join, join_assoc, forest_of_whole, skip-flatten}}
+use Rattle.tree_handles.proofs.Parts.{place_is, has_mid, used_some}
 
 pub since_is : (ns : List Node) (at owed : ℕ) (end : List Node) (o : IsOwed ns at owed end) → since at ns ≡ flatten o.trees
 since_is ns at owed end o = ap (λ (k : ℕ). since k ns) o.place ∙ ap (since (used o.before)) o.whole ∙ since-append o.before (flatten o.trees)
@@ -175,11 +174,6 @@ since-without place at ns b = ap (λ (k : ℕ). since k (until place ns ++ since
 pub without-without : (place at : ℕ) (n : Node) (ns rest : List Node) → IsBoundary place ns → since at ns ≡ n ∷ rest → without place (place + size_of n) (without place at ns) ≡ until place ns ++ rest
 without-without place at n ns rest b e =
     ap (λ (l : List Node). without place (place + size_of n) (until place ns ++ l)) e ∙ without-append (until place ns) (n ∷ []) rest place (place + size_of n) (sym b) (omega arith)
-
-pub length-without : (place at : ℕ) (ns : List Node) → IsBoundary place ns → IsBoundary at ns → place ≤ at → length (without place at ns) ≤ length ns
-length-without place at ns a b h =
-    let x = cut place at ns a b h in
-    omega (arith, length-append (until place ns) (since at ns), ap length x.whole, length-append (until place ns) (between place at ns ++ since at ns), length-append (between place at ns) (since at ns))
 
 -- the end is told by the nodes as they are
 pub owed_left : (ns : List Node) (at owed : ℕ) (end : List Node) → IsOwed ns at owed end → released_at at owed ns ≡ end

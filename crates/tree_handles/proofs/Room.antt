@@ -1,8 +1,6 @@
 -- Free bytes from call to call.
-use Rattle.tree_handles.proofs.Shared.{◌≡◌, ℕ, ◌+◌, ◌≤◌, arith, Tree, num, size, State, free_of, plain}
-use Rattle.tree_handles.proofs.{Shared.{Gives, IsHanded, root_tree, without_root, Stands, forest, KeepsRefusals}, Forests.bytes_in-join, Lasts.last_tree}
-use Rattle.tree_handles.proofs.{FreeBytes.bytes_without, Places.used_forest, Plains.size-plain, Roots.root_arity}
-use Rattle.calc_terms.proofs.Sizes.{num_least}
+use Rattle.tree_handles.proofs.Shared.{◌≡◌, ℕ, ◌+◌, ◌≤◌, arith, Tree, num, size, State, free_of, plain, Gives, IsHanded, root_tree, without_root, Stands, forest, KeepsRefusals, num_least}
+use Rattle.tree_handles.proofs.{Forests.{bytes_in-join}, Lasts.{last_tree}, FreeBytes.{bytes_without}, Places.{used_forest}, Plains.{size-plain}, Roots.{root_arity}}
 
 -- a new tree takes its bytes
 pub given_free : {s t : State} {i : ℕ} {Told : Tree → Type 0} → Stands s → Stands t → KeepsRefusals s t → Gives (forest s) (forest t) i Told → free_of s ≡ free_of t + size (plain (root_tree i (forest t)))

@@ -1,6 +1,7 @@
 -- Laws of roots that need no more than the tests.
-use Rattle.tree_handles.proofs.Shared.{arith, ◌≡◌, ℕ, eqb, refl, ap, ◌∙◌, true, false, eqb-true, Label, Forest, empty, tree, join, arity, kids, root_id, holds}
-use Rattle.tree_handles.proofs.{Shared.{has_root, root_tree, without_root, put}, Outcomes.{or_true, eqb-sym}}
+use Rattle.tree_handles.proofs.Shared.{arith, ◌≡◌, ℕ, eqb, refl, ap, ◌∙◌, true, false, eqb-true, Label, Forest, empty, tree, join, arity, kids, root_id, holds, has_root, root_tree, without_root, put}
+use Rattle.tree_handles.proofs.Shared.{or_true}
+use Rattle.node_pool.proofs.Ids.{eqb_sym as eqb-sym}
 
 -- ---- a root is a node
 

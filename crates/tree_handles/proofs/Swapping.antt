@@ -3,11 +3,10 @@ use Rattle.tree_handles.proofs.Shared.{◌≡◌, ℕ, ◌+◌, ◌-◌, ◌<◌
 use Rattle.tree_handles.proofs.Shared.{size_of, has, used, place_of, first_of, with_children, AreDistinct, since, moved, without, exchanged, IsBoundary, State, used-append, size_from}
 use Rattle.tree_handles.proofs.Shared.{AreDistinct-parts, exchanged-append, moved_right, without-append, IsChildAt, AreSiblings, Ends, Forest, empty, tree, join, arity, kids, root_id, node_of}
 use Rattle.tree_handles.proofs.Shared.{flatten, first_trees, rest_trees, tree_nth, set_nth, swapped_nth, merged_nth, AllNodes, kids_of, with_kids, has_root, root_tree, without_root, put, forest}
-use Rattle.tree_handles.proofs.Shared.{Stands, IsCounted, skip}
-use Rattle.tree_handles.proofs.{Counted.{all-kids, all-kids_of, counted-with_kids, all-tree_nth, all-set_nth, all-root_tree, all-without_root}, Nths.pair, Releases.arity_le, Joins.holds-left}
-use Rattle.tree_handles.proofs.{Distinct.{Distinct, distinct, child_tree, clear_front, held_parent, put-root, tree_at-root}, Roots.{top, root_arity, root_id-root_tree}}
-use Rattle.tree_handles.proofs.Forests.{flatten-join, join-empty, has-flatten, arity-join, arity-set_nth, arity-tree_nth, nth_tree, all-join, all-left, all-right}
-use Rattle.tree_handles.proofs.Parts.{at, IsTold, span, kid, kid_here, reput, rekid}
+use Rattle.tree_handles.proofs.{Shared.{Stands, IsCounted, skip}, Counted.{all-kids, all-kids_of, counted-with_kids, all-tree_nth, all-set_nth, all-root_tree, all-without_root}, Nths.{pair}}
+use Rattle.tree_handles.proofs.{Releases.{arity_le}, Joins.{holds-left}, Distinct.{Distinct, distinct, child_tree, clear_front, held_parent, put-root, tree_at-root}}
+use Rattle.tree_handles.proofs.{Roots.{top, root_arity, root_id-root_tree}, Forests.{flatten-join, join-empty, has-flatten, arity-join, arity-set_nth, arity-tree_nth, nth_tree, all-join, all-left}}
+use Rattle.tree_handles.proofs.{Forests.{all-right}, Parts.{at, IsTold, span, kid, kid_here, reput, rekid}}
 
 -- ---- two children change places
 

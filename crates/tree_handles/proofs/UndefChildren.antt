@@ -1,7 +1,6 @@
 -- Undef among the children of a node.
-use Rattle.tree_handles.proofs.Shared.{ℕ, zero, suc, ◌<◌, ◌≤◌, ◌≡◌, Bool, true, false, refl, ap, ◌∙◌, arith, Tree, undef, Trees, none, more, count, is_undef, IsPartOf}
-use Rattle.tree_handles.proofs.Shared.{itself, first, later, has_undef, nth}
-use Rattle.std.proofs.Common.{◌||◌}
+use Rattle.tree_handles.proofs.Shared.{ℕ, zero, suc, ◌<◌, ◌≤◌, ◌≡◌, Bool, true, false, refl, ap, ◌∙◌, arith, Tree, undef, Trees, none, more, count, is_undef, IsPartOf, itself, first, later, has_undef}
+use Rattle.tree_handles.proofs.Shared.{nth, ◌||◌}
 
 pub undef_inside : (ts : Trees) → has_undef ts ≡ true → IsPartOf undef ts
 undef_inside none h = cc

@@ -1,12 +1,11 @@
 -- Walks over nodes, and what they come to.
 use Rattle.tree_handles.proofs.Shared.{◌≡◌, ℕ, zero, suc, ◌+◌, ◌-◌, ◌<◌, ◌≤◌, List, [], ◌∷◌, ◌++◌, length, drop, refl, sym, ap, ◌∙◌, subst, arith, true, eq-eqb, length-append, length-map, map-append}
-use Rattle.tree_handles.proofs.Shared.{Header, Node, header_of, used, place_of, first_of, since, until, IsBoundary, State, IsPool, until-since, length_le_used, Visit, Label, Forest}
-use Rattle.tree_handles.proofs.Shared.{empty, tree, join, arity, node_of, flatten, first_trees, rest_trees, forest_of, kids, nodes_in, holds, tree_at, kids_of, Stands, forest, visit_of}
-use Rattle.tree_handles.proofs.{Shared.{visits_of, visit_at, AreFound, BeginsTrees, skip}, Distinct.{Distinct, distinct_parts, distinct-tree_at, holds-tree_at, tree_at-inside, other_id}}
-use Rattle.tree_handles.proofs.{Measures.before, Nths.first_trees-behind, Releases.arity_le, Forests.{arity-join, arity-rest_trees, first-rest, flatten-join, forest_of-flatten, nodes-flatten}}
-use Rattle.tree_handles.proofs.Parts.{is_before, kid_here, live_at}
-use Rattle.std.proofs.{lemmas.Iterator.items_from_drains, lemmas.Iterator.Consumers.YieldsList-from_first, Common.{map, Option, Some, append-nil}}
-use Rattle.std.specs.{Prelude.IsSome, Iterator.{YieldsFirst, Drains}}
+use Rattle.tree_handles.proofs.Shared.{Header, Node, header_of, used, place_of, first_of, since, until, IsBoundary, State, IsPool, until-since, length_le_used, Visit, Label, Forest, empty, tree, join}
+use Rattle.tree_handles.proofs.Shared.{arity, node_of, flatten, first_trees, rest_trees, forest_of, kids, nodes_in, holds, tree_at, kids_of, Stands, forest, visit_of, visits_of, visit_at, AreFound}
+use Rattle.tree_handles.proofs.{Shared.{BeginsTrees, skip, items_from_drains, YieldsList-from_first, map, Option, Some, IsSome, YieldsFirst, Drains}, Distinct.{Distinct, distinct_parts}}
+use Rattle.tree_handles.proofs.{Distinct.{distinct-tree_at, holds-tree_at, tree_at-inside, other_id}, Measures.{before}, Nths.{first_trees-behind}, Releases.{arity_le}, Forests.{arity-join}}
+use Rattle.tree_handles.proofs.{Forests.{arity-rest_trees, first-rest, flatten-join, forest_of-flatten, nodes-flatten}, Parts.{is_before, kid_here, live_at}}
+use Rattle.std.proofs.Common.{append-nil}
 
 -- ---- the pool's side
 

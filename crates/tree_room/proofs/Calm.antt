@@ -1,14 +1,9 @@
 -- Exponents that mean whole numbers.
-use Rattle.std.proofs.{Common.{arith, ◌≡◌, negsuc, ◌+ℤ◌, ◌*ℤ◌, Bool, true, false, ◌==◌, refl, ap}, lemmas.Bool.{eqb-true}}
-use Rattle.std.specs.Prelude.{Some, None, if◌then◌else◌}
-use Rattle.calc_measures.specs.Literals.{is_whole_literal, is_some, opposite}
-use Rattle.calc_terms.specs.{Fractions.{whole_fraction}, Trees.{Tree, num, symbol, undef, add, mult, power, root, neg, sub, div, Trees, none, more, append, AllParts, AllPartsOf, IsPart, IsPartOf}}
-use Rattle.calc_terms.specs.Trees.{itself, in_add, in_mult, in_base, in_exponent, in_root, in_neg, in_left, in_right, in_dividend, in_divisor, first, later}
-use Rattle.calc_algebra.specs.{Meanings.{Assignment}, Numbers.{IsNumber, IsTerm, AreTerms}, Reduced.{is_whole_num, is_half_num}, Surds.{surd_of}}
-use Rattle.calc_algebra.proofs.{ExponentLaws.{whole_plus, whole_times}, MeaningLaws.{one_rational, whole_is_no_half, Same-sym}, MeaningRewrites.{sum_two, product_two}, NumberRewrites.{fraction_whole}}
-use Rattle.calc_algebra.proofs.{ReducedLaws.{AllParts-map}, SquareClassLaws.{Same-trans}, SurdLaws.{Agree-refl}, TermLaws.{Same-refl, Same-eq, joined_radicand}}
-use Rattle.calc_room.specs.Powers.{IsPowerOf, HasPowersOf}
-use Rattle.tree_room.specs.Exponents.{MeansWhole, HasCalmExponent, IsCalm, AreCalm}
+use Rattle.tree_room.proofs.Shared.{arith, ◌≡◌, negsuc, ◌+ℤ◌, ◌*ℤ◌, Bool, true, false, ◌==◌, refl, ap, eqb-true, Some, None, if◌then◌else◌, is_whole_literal, is_some, opposite, whole_fraction, Tree}
+use Rattle.tree_room.proofs.Shared.{num, symbol, undef, add, mult, power, root, neg, sub, div, Trees, none, more, append, AllParts, AllPartsOf, IsPart, IsPartOf, itself, in_add, in_mult, in_base}
+use Rattle.tree_room.proofs.Shared.{in_exponent, in_root, in_neg, in_left, in_right, in_dividend, in_divisor, first, later, Assignment, IsNumber, IsTerm, AreTerms, is_whole_num, is_half_num, surd_of}
+use Rattle.tree_room.proofs.Shared.{whole_plus, whole_times, one_rational, whole_is_no_half, Same-sym, sum_two, product_two, fraction_whole, AllParts-map, Same-trans, Agree-refl, Same-refl, Same-eq}
+use Rattle.tree_room.proofs.Shared.{joined_radicand, IsPowerOf, HasPowersOf, MeansWhole, HasCalmExponent, IsCalm, AreCalm}
 
 -- ---- what means a whole number
 

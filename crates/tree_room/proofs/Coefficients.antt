@@ -1,12 +1,8 @@
 -- A coefficient changes no count.
-use Rattle.std.proofs.Common.{◌≡◌, ◌+◌, ◌≤◌, max, Bool, true, false, refl, sym, ap, ◌∙◌, arith}
-use Rattle.std.specs.Prelude.{if◌then◌else◌}
-use Rattle.calc_algebra.specs.{Numbers.{is_number, is_radicand}, Reduced.{split, split_product, product_tree, part_of, num_one}}
-use Rattle.calc_room.specs.Counts.{counted, counted_among}
-use Rattle.calc_room.proofs.TreeBytes.{counted_number, counted_other}
-use Rattle.calc_terms.specs.{Fractions.{Fraction}, Trees.{Tree, num, add, mult, root, Trees, none, more}}
-use Rattle.tree_room.specs.Handed.{HasSamePart, HaveSameParts}
+use Rattle.tree_room.proofs.Shared.{◌≡◌, ◌+◌, ◌≤◌, max, Bool, true, false, refl, sym, ap, ◌∙◌, arith, if◌then◌else◌, is_radicand, split, split_product, product_tree, part_of, num_one, counted}
+use Rattle.tree_room.proofs.Shared.{counted_among, counted_number, counted_other, Fraction, Tree, num, add, mult, root, Trees, none, more, HasSamePart, HaveSameParts}
 use Rattle.tree_room.proofs.Counts.{counts_one, number_counts_one, at_most_itself}
+use Rattle.calc_algebra.specs.Numbers.{is_number}
 
 -- ---- what is split off
 

@@ -1,12 +1,7 @@
 -- What counts among children.
-use Rattle.std.proofs.Common.{◌≡◌, ℕ, suc, ◌+◌, ◌≤◌, Bool, true, false, refl, ap, ◌∙◌, arith}
-use Rattle.std.specs.Prelude.{if◌then◌else◌}
-use Rattle.calc_algebra.specs.{Numbers.{IsNumber, is_number}, Reduced.{is_whole_num}}
-use Rattle.calc_algebra.proofs.NumberLaws.{number_words}
-use Rattle.calc_room.specs.Counts.{counted, counted_among}
-use Rattle.calc_room.proofs.TreeBytes.{counted_number, counted_other, none_counted, number_counts}
-use Rattle.calc_terms.specs.Trees.{Tree, num, symbol, undef, add, mult, power, root, neg, sub, div, Trees, none, more, append, is_num}
-use Rattle.tree_room.specs.Handed.{counted_in_all, numbers_among, product_count}
+use Rattle.tree_room.proofs.Shared.{◌≡◌, ℕ, suc, ◌+◌, ◌≤◌, Bool, true, false, refl, ap, ◌∙◌, arith, if◌then◌else◌, IsNumber, is_number, is_whole_num, number_words, counted, counted_among}
+use Rattle.tree_room.proofs.Shared.{counted_number, counted_other, none_counted, number_counts, Tree, num, symbol, undef, add, mult, power, root, neg, sub, div, Trees, none, more, append, is_num}
+use Rattle.tree_room.proofs.Shared.{counted_in_all, numbers_among, product_count}
 
 pub counts_one : (t : Tree) → 1 ≤ counted t
 counts_one (add ts) = omega arith

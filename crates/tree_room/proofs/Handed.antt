@@ -1,12 +1,7 @@
 -- How many bytes trees have that are handed to a sum, a product or a power.
-use Rattle.std.proofs.{Common.{◌≡◌, ℕ, ◌+◌, ◌*◌, ◌^◌, ◌≤◌, List, length, Bool, true, false, not, refl, arith}, lemmas.Bool.{and_parts, not-true}, lemmas.Nat.{pow_pos, mul-le}}
-use Rattle.std.specs.Prelude.{if◌then◌else◌}
-use Rattle.calc_algebra.specs.{Numbers.{is_number}, Reduced.{are_reduced, is_reduced, is_whole_num, none_is}}
-use Rattle.calc_algebra.proofs.{NumberLaws.{number_words}, ReducedLaws.{reduced_words}}
-use Rattle.calc_room.specs.{Counts.{counted, counted_among}, Spans.{SpansTree, SpansTrees}}
-use Rattle.calc_room.proofs.{NumberBytes.{number_bytes}, NumberSpans.{value_spanned}, TreeBytes.{tree_bytes, factor_bytes, counted_other}}
-use Rattle.calc_terms.specs.Trees.{Tree, add, mult, power, Trees, none, more, is_mult, size, sizes}
-use Rattle.tree_room.specs.Handed.{counted_in_all, sum_count, numbers_among, product_count}
+use Rattle.tree_room.proofs.Shared.{◌≡◌, ℕ, ◌+◌, ◌*◌, ◌^◌, ◌≤◌, List, length, Bool, true, false, not, refl, arith, and_parts, not-true, pow_pos, mul-le, if◌then◌else◌, is_number, are_reduced}
+use Rattle.tree_room.proofs.Shared.{is_reduced, is_whole_num, none_is, number_words, reduced_words, counted, counted_among, SpansTree, SpansTrees, number_bytes, value_spanned, tree_bytes}
+use Rattle.tree_room.proofs.Shared.{factor_bytes, counted_other, Tree, add, mult, power, Trees, none, more, is_mult, size, sizes, counted_in_all, sum_count, numbers_among, product_count}
 
 -- s bytes for n nodes that count, and as many bytes for each of k Numbers
 joined : (s u a c k m : ℕ) → s ≤ 204 * a * m → u ≤ 204 * c * m + 96 * k * m → s + u ≤ 204 * (a + c) * m + 96 * k * m

@@ -1,11 +1,6 @@
 -- What a list of radicands spans, two lists joined span.
-use Rattle.std.proofs.Common.{◌≡◌, ℕ, ◌*◌, List, [], ◌∷◌, ◌++◌, Bool, false, refl, ap, ◌∙◌, arith}
-use Rattle.std.specs.Prelude.{if◌then◌else◌}
-use Rattle.calc_algebra.specs.SquareClasses.{are_alike}
-use Rattle.calc_algebra.proofs.ReducedLaws.{AllParts-map, AllPartsOf-map}
-use Rattle.calc_room.specs.Spans.{chosen_product, IsSpanned, SpansRoot, SpansTree, SpansTrees}
-use Rattle.calc_room.proofs.SpanLaws.{none_chosen}
-use Rattle.calc_terms.specs.Trees.{Tree, Trees}
+use Rattle.tree_room.proofs.Shared.{◌≡◌, ℕ, ◌*◌, List, [], ◌∷◌, ◌++◌, Bool, false, refl, ap, ◌∙◌, arith, if◌then◌else◌, are_alike, AllParts-map, AllPartsOf-map, chosen_product, IsSpanned, SpansRoot}
+use Rattle.tree_room.proofs.Shared.{SpansTree, SpansTrees, none_chosen, Tree, Trees}
 
 -- one choice for each radicand; one that is missing does not take it
 abbrev choices : List ℕ → List Bool → List Bool

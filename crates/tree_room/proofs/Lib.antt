@@ -8,3 +8,4 @@ pub mod Rooms
 pub mod JoinedSpans
 pub mod Calm
 pub mod Zeros
+mod Shared

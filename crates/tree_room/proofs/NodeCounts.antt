@@ -1,18 +1,12 @@
 -- The answers of children count at most the nodes of their parent.
-use Rattle.std.proofs.Common.{ℕ, ◌+◌, ◌≤◌, arith}
-use Rattle.calc_room.specs.Counts.{counted}
-use Rattle.calc_terms.specs.Trees.{Tree, num, symbol, undef, add, mult, power, root, neg, sub, div, Trees, none, more, count, nodes, nodes_of}
-use Rattle.tree_room.specs.{Children.{CountWithin}, Handed.{counted_in_all, product_count}}
-use Rattle.tree_room.proofs.Counts.{numbers_and_others}
+use Rattle.tree_room.proofs.Shared.{ℕ, ◌+◌, ◌≤◌, arith, counted, Tree, num, symbol, undef, add, mult, power, root, neg, sub, div, Trees, none, more, count, nodes, nodes_of, CountWithin}
+use Rattle.tree_room.proofs.{Shared.{counted_in_all, product_count}, Counts.{numbers_and_others}}
+use Rattle.calc_terms.proofs.SmallLaws.{one_node as some_node}
 
 pub all_within : (rs ts : Trees) → CountWithin rs ts → counted_in_all rs ≤ nodes_of ts
 all_within none none h = omega arith
 all_within (more r rs) (more t ts) (h, hs) = let x : counted_in_all rs ≤ nodes_of ts = all_within rs ts hs in omega arith
 all_within _ _ h = absurd h
-
-pub some_node : (t : Tree) → 1 ≤ nodes t
-some_node (num q) = omega arith
-some_node t = omega arith
 
 some_nodes : (ts : Trees) → 1 ≤ count ts → 1 ≤ nodes_of ts
 some_nodes none h = omega arith

@@ -1,12 +1,7 @@
 -- How powers count.
-use Rattle.std.proofs.{Common.{◌≡◌, suc, ◌+◌, ◌≤◌, Bool, true, false, refl, sym, ap, ◌∙◌, arith}, lemmas.Bool.{true≢false}}
-use Rattle.std.specs.Prelude.{if◌then◌else◌}
-use Rattle.calc_algebra.specs.{Numbers.{is_number}, Reduced.{is_whole_num}}
-use Rattle.calc_room.specs.Counts.{counted, counted_among}
-use Rattle.calc_room.proofs.TreeBytes.{counted_number, counted_other}
-use Rattle.calc_terms.specs.Trees.{Tree, mult, power, root, Trees, none, more, is_num}
-use Rattle.tree_room.specs.Handed.{numbers_among, sum_count, product_count, exponent_count}
-use Rattle.tree_room.proofs.Counts.{counts_one, at_most_itself}
+use Rattle.tree_room.proofs.Shared.{◌≡◌, suc, ◌+◌, ◌≤◌, Bool, true, false, refl, sym, ap, ◌∙◌, arith, true≢false, if◌then◌else◌, is_whole_num, counted, counted_among, counted_number, counted_other}
+use Rattle.tree_room.proofs.{Shared.{Tree, mult, power, root, Trees, none, more, is_num, numbers_among, sum_count, product_count, exponent_count}, Counts.{counts_one, at_most_itself}}
+use Rattle.calc_algebra.specs.Numbers.{is_number}
 
 -- a whole exponent is a Number and adds nothing, and another adds one more than it counts
 record Whole (e : Tree) : Type 0 where

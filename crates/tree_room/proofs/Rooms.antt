@@ -1,23 +1,13 @@
 -- The room of a tree against that of its children.
-use Rattle.std.proofs.{Common.{◌≡◌, ℕ, ◌+◌, ◌*◌, ◌^◌, ◌≤◌, List, length, true, ◌&&◌, ap, arith}, lemmas.Bool.{and_parts}, lemmas.Nat.{pow_pos, mul-le}, Math.Nat.{pow-le-pow_right}}
-use Rattle.std.specs.Prelude.{if◌then◌else◌}
-use Rattle.calc_algebra.specs.Reduced.{is_reduced}
-use Rattle.calc_algebra.proofs.ReducedLaws.{reduced_words}
-use Rattle.calc_measures.specs.Measures.{roots, roots_of, all_simple, are_all_simple, is_simple_power, room, unbounded_room}
-use Rattle.calc_room.specs.{Counts.{counted}, Spans.{SpansTree}}
-use Rattle.calc_room.proofs.TreeBytes.{tree_bytes}
-use Rattle.calc_terms.specs.Trees.{Tree, num, symbol, undef, add, mult, power, root, neg, sub, div, Trees, none, more, append, nodes, nodes_of, size, sizes}
-use Rattle.calc_terms.proofs.Sizes.{root_most}
-use Rattle.tree_room.specs.{Children.{answer_bytes, answers_bytes}, Needs.{simple_room}}
+use Rattle.tree_room.proofs.Shared.{◌≡◌, ℕ, ◌+◌, ◌*◌, ◌^◌, ◌≤◌, List, length, true, ◌&&◌, ap, arith, and_parts, pow_pos, mul-le, pow-le-pow_right, if◌then◌else◌, is_reduced, reduced_words, roots}
+use Rattle.tree_room.proofs.Shared.{roots_of, all_simple, are_all_simple, is_simple_power, room, unbounded_room, counted, SpansTree, tree_bytes, Tree, num, symbol, undef, add, mult, power, root, neg}
+use Rattle.tree_room.proofs.Shared.{sub, div, Trees, none, more, append, nodes, nodes_of, size, sizes, root_most, answer_bytes, answers_bytes, simple_room}
+use Rattle.calc_terms.proofs.SmallLaws.{lesser_power as within}
 
 -- ---- multiples of powers of 2
 
 grown : (a b : ℕ) → a ≤ b → 2 ^ a ≤ 2 ^ b
 grown a b h = pow-le-pow_right {n = 2} (omega arith) h
-
--- k nodes with a roots, within more roots
-within : (k a b : ℕ) → a ≤ b → k * 2 ^ a ≤ k * 2 ^ b
-within k a b h = mul-le k (2 ^ a) k (2 ^ b) (omega arith) (grown a b h)
 
 -- ---- the bytes of answers
 

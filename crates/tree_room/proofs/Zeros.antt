@@ -1,11 +1,8 @@
 -- Every name is 0.
-use Rattle.std.proofs.{Common.{◌≡◌, ℕ, suc, pos, ◌⊎◌, inl, inr, List, [], ◌∷◌, Bool, true, false, refl, sym, ap, ◌∙◌, subst, arith}, lemmas.Bool.{true≢false}, lemmas.List.{get_or-map, length-map}}
-use Rattle.std.proofs.lemmas.Slice.Eq.{bytes_eq-Decides}
-use Rattle.std.specs.{Prelude.{Contains}, Str.{bytes_eq}}
-use Rattle.calc_algebra.specs.{Meanings.{Binding, IsAssignment, bound_names}, Surds.{surd_of}}
-use Rattle.calc_algebra.proofs.TermLaws.{Same-refl}
-use Rattle.calc_terms.specs.{Fractions.{zero_fraction}, Trees.{symbol}}
-use Rattle.tree_room.specs.Exponents.{MeansWhole, zeros}
+use Rattle.tree_room.proofs.Shared.{in_front, behind, where_in, ◌≡◌, ℕ, suc, pos, ◌⊎◌, inl, inr, List, [], ◌∷◌, Bool, true, false, refl, sym, ap, ◌∙◌, subst, arith, true≢false, get_or-map, length-map}
+use Rattle.tree_room.proofs.Shared.{bytes_eq-Decides, Contains, bytes_eq, Binding, IsAssignment, bound_names, surd_of, Same-refl, symbol, MeansWhole, zeros}
+use Rattle.calc_terms.proofs.SmallLaws.{nobody as none_in}
+use Rattle.calc_terms.specs.Fractions.{zero_fraction}
 
 abbrev as_zero : List ℕ → Binding
 as_zero x = record { name = x; value = zero_fraction }
@@ -19,18 +16,6 @@ symbol_zero ns x (k, l, e) = (pos 0, (zero_fraction, (k, rw length-map l, get_or
 zero_names : (ns : List (List ℕ)) → bound_names (zeros ns) ≡ ns
 zero_names [] = refl
 zero_names (x ∷ ns) = ap (λ ms. x ∷ ms) (zero_names ns)
-
-in_front : (x : List ℕ) (ns : List (List ℕ)) → Contains (x ∷ ns) x
-in_front x ns = (0, omega arith, refl)
-
-behind : (y x : List ℕ) (ns : List (List ℕ)) → Contains ns x → Contains (y ∷ ns) x
-behind y x ns (k, l, e) = (suc k, omega arith, e)
-
-where_in : (y x : List ℕ) (ns : List (List ℕ)) → Contains (y ∷ ns) x → (y ≡ x) ⊎ Contains ns x
-where_in y x ns h = grind arith
-
-none_in : (x : List ℕ) → Contains [] x → ⊥
-none_in x (k, l, e) = absurd (omega arith)
 
 -- whether a name is in a list
 known : (x : List ℕ) (ns : List (List ℕ)) → Contains ns x ⊎ (Contains ns x → ⊥)

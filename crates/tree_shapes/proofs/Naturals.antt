@@ -1,8 +1,5 @@
 -- The opposite of a number is no number that a text can hold, unless it is 0.
-use Rattle.std.proofs.{Common.{◌≡◌, ◌∙◌, ◌==◌, ℕ, zero, suc, pos, negsuc, neg_ℤ, IsTrue, sym, ap, refl}, lemmas.Bool.{eqb-true}}
-use Rattle.calc_language.specs.Texts.{IsNatural}
-use Rattle.calc_terms.specs.Fractions.{Fraction, whole_fraction}
-use Rattle.calc_terms.proofs.FractionFacts.{whole_numerator}
+use Rattle.tree_shapes.proofs.Shared.{◌≡◌, ◌∙◌, ◌==◌, ℕ, zero, suc, pos, negsuc, neg_ℤ, IsTrue, sym, ap, refl, eqb-true, IsNatural, Fraction, whole_fraction, whole_numerator}
 
 pub natural : (n : ℕ) → (IsTrue (n == 0) → IsNatural (whole_fraction (neg_ℤ (pos n)))) × (IsNatural (whole_fraction (neg_ℤ (pos n))) → IsTrue (n == 0))
 natural zero = (λ h. (0, refl), λ h. refl)

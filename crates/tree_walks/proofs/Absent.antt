@@ -1,7 +1,7 @@
 -- A tree without the name, as it is left.
-use Rattle.tree_walks.proofs.Shared.{◌≡◌, ℕ, zero, suc, List, refl, sym, ap, ◌∙◌, subst, arith, Contains, Tree, names, size, root_size, symbol, State, free_of, Gives, tree_of}
-use Rattle.tree_walks.proofs.{Shared.{plain, tree_at, without_root, Stands, forest, replacing, occurrences, last_root, last_tree, tree_of_root}, Composing.stays_where_absent}
-use Rattle.tree_walks.proofs.{Filling.{IsDone, front_kept}, Searches.counted}
+use Rattle.tree_walks.proofs.Shared.{◌≡◌, ℕ, zero, suc, List, refl, sym, ap, ◌∙◌, subst, arith, Contains, Tree, names, size, root_size, symbol, State, free_of, Gives, tree_of, plain, tree_at}
+use Rattle.tree_walks.proofs.{Shared.{without_root, Stands, forest, replacing, occurrences, last_root, last_tree, tree_of_root}, Composing.{stays_where_absent}, Filling.{IsDone}, Searches.{counted}}
+use Rattle.tree_handles.proofs.SmallLaws.{starts_behind as front_kept}
 
 none_occur : (x : List ℕ) (t : Tree) → ¬ (Contains (names t) x) → occurrences x t ≡ 0
 none_occur x t h = by (occurrences x t) refl

@@ -1,8 +1,7 @@
 -- The leaves of a name that are found at a time, and replaced one after another.
 use Rattle.tree_walks.proofs.Shared.{◌≡◌, ℕ, ◌+◌, ◌-◌, ◌*◌, ◌<◌, ◌≤◌, List, [], ◌∷◌, ◌++◌, length, take, drop, get_or, sym, ap, ◌∙◌, subst, arith, drop_of_length-le, drop_more, get_or-take}
 use Rattle.tree_walks.proofs.Shared.{length-append, length-take-le, Tree, State, free_of, plain, bytes_in, tree_at, Stands, forest, KeepsRefusals, without_root, few_in, one_at, occurrences, AreFirst}
-use Rattle.tree_walks.proofs.{Shared.{IsLeafAt, PutsCopy, leaves_of}, Filling.{IsFilling, IsSource, leaves_now, next, source_in}, LeafLists.{few_leaves, leaves_plain}}
-use Rattle.std.proofs.Math.Seq.{drop-append_seam}
+use Rattle.tree_walks.proofs.{Shared.{IsLeafAt, PutsCopy, leaves_of, drop-append_seam}, Filling.{IsFilling, IsSource, leaves_now, next, source_in}, LeafLists.{few_leaves, leaves_plain}}
 
 -- of the leaves that were found some have been replaced, and the others and all behind them are left
 pub record IsReplacing (i : ℕ) (x : List ℕ) (u : Tree) (start s : State) (passed at found : ℕ) (leaves : List ℕ) : Type 0 where

@@ -1,10 +1,8 @@
 -- What comes of a tree in which a name was replaced.
-use Rattle.tree_walks.proofs.Shared.{◌≡◌, ℕ, ◌+◌, ◌*◌, List, [], ◌∷◌, ◌++◌, cond, refl, ap, ◌∙◌, subst, arith, inl, inr, Bool, true, false, Contains, ◌⊎◌}
-use Rattle.tree_walks.proofs.Shared.{count_by, bytes_eq, Contains-append_cases, Contains-append_left, Contains-append_right, Contains-push, Contains-push_cases, sum_by-append, bytes_eq-Decides}
-use Rattle.tree_walks.proofs.Shared.{Tree, symbol, add, mult, power, root, neg, sub, div, Trees, none, more, names, names_of, size, sizes, root_size, by_test, replaced, replaced_in}
-use Rattle.tree_walks.proofs.{Shared.occurrences, Names.occurrences_in, Searches.{counted, uncounted}}
-use Rattle.std.specs.Prelude.{◌≢◌}
-use Rattle.tree_walks.specs.Laws.{StaysWhereAbsent, NamesOfReplaced, OccursWhereNamed, BytesOfReplaced}
+use Rattle.tree_walks.proofs.Shared.{◌≡◌, ℕ, ◌+◌, ◌*◌, List, [], ◌∷◌, ◌++◌, cond, refl, ap, ◌∙◌, subst, arith, inl, inr, Bool, true, false, Contains, ◌⊎◌, count_by, bytes_eq, Contains-append_cases}
+use Rattle.tree_walks.proofs.Shared.{Contains-append_left, Contains-append_right, Contains-push, Contains-push_cases, sum_by-append, bytes_eq-Decides, Tree, symbol, add, mult, power, root, neg, sub}
+use Rattle.tree_walks.proofs.Shared.{div, Trees, none, more, names, names_of, size, sizes, root_size, by_test, replaced, replaced_in, occurrences, ◌≢◌, StaysWhereAbsent, NamesOfReplaced}
+use Rattle.tree_walks.proofs.{Shared.{OccursWhereNamed, BytesOfReplaced}, Names.{occurrences_in}, Searches.{counted, uncounted}}
 
 -- ---- a tree without the name
 

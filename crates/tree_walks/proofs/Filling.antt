@@ -1,17 +1,14 @@
 -- A name is replaced in the last tree: how it begins, goes on and ends, and what finds room.
-use Rattle.tree_walks.proofs.Shared.{◌≡◌, ℕ, suc, ◌+◌, ◌-◌, ◌<◌, ◌≤◌, List, ◌∷◌, ◌++◌, length, refl, sym, ap, ◌∙◌, subst, arith, append_assoc, inl, inr, true, false, [], le-leb, lt-leb}
-use Rattle.tree_walks.proofs.Shared.{length-append, Payload, Tree, Trees, symbol, none, more, size, root_size, State, free_of, nth, grown, plains, plain, AllExpressions}
-use Rattle.tree_walks.proofs.Shared.{IsExpression, Label, Forest, empty, tree, join, arity, kids, root_id, root_count, root_payload, flatten, set_nth, tree_nth, bytes_in, AllOnce, IsOwned, Ends}
-use Rattle.tree_walks.proofs.Shared.{Gives, IsHanded, KeepsFront, tree_of, holds, tree_at, kids_of, with_kids, payload_in, without_root, Stands, forest, KeepsRefusals, IsRefused, Refuses, Distinct}
-use Rattle.tree_walks.proofs.Shared.{distinct, distinct_parts, other_id, clear_front, arity-tree_nth, bytes_in-join, flatten-join, keeps_none, keeps_after, refuses_after, given_handed, given_other}
-use Rattle.tree_walks.proofs.Shared.{given_root, given_told, ends_at, ends_without, last_root, last_tree, other_tree, tree_of_root, one_at, alone, size-plain, replaced, replaced_in, replacing}
-use Rattle.tree_walks.proofs.{Shared.{occurrences, IsLeafAt, PutsCopy, has_name, leaves_of}, Holes.{IsBelow, hole}, LeafLists.{later, later-all, later-none, leaves_plain}}
-use Rattle.std.proofs.Common.{leb, append-nil}
-use Rattle.std.specs.Prelude.{Ok, Err}
-use Rattle.node_pool.specs.{declared.full.Full.Full, Nodes.AreDistinct}
-use Rattle.node_pool.proofs.Ids.{AreDistinct-parts}
-use Rattle.tree_handles.proofs.{Fronts.{starts_join, starts_same, starts_without}, Joins.{holds-left, holds-right, kids_of-join_right, tree_at-join_left, with_kids-join_right}, Places.used_forest}
-use Rattle.tree_handles.proofs.Room.{given_free, released_free}
+use Rattle.tree_walks.proofs.Shared.{◌≡◌, ℕ, suc, ◌+◌, ◌-◌, ◌<◌, ◌≤◌, List, ◌∷◌, ◌++◌, length, refl, sym, ap, ◌∙◌, subst, arith, append_assoc, inl, inr, true, false, [], le-leb, lt-leb, length-append}
+use Rattle.tree_walks.proofs.Shared.{Payload, Tree, Trees, symbol, none, more, size, root_size, State, free_of, nth, grown, plains, plain, AllExpressions, IsExpression, Label, Forest, empty, tree}
+use Rattle.tree_walks.proofs.Shared.{join, arity, kids, root_id, root_count, root_payload, flatten, set_nth, tree_nth, bytes_in, AllOnce, IsOwned, Ends, Gives, IsHanded, KeepsFront, tree_of, holds}
+use Rattle.tree_walks.proofs.Shared.{tree_at, kids_of, with_kids, payload_in, without_root, Stands, forest, KeepsRefusals, IsRefused, Refuses, Distinct, distinct, distinct_parts, other_id}
+use Rattle.tree_walks.proofs.Shared.{clear_front, arity-tree_nth, bytes_in-join, flatten-join, keeps_none, keeps_after, refuses_after, given_handed, given_other, given_root, given_told, ends_at}
+use Rattle.tree_walks.proofs.Shared.{ends_without, last_root, last_tree, other_tree, tree_of_root, one_at, alone, size-plain, replaced, replaced_in, replacing, occurrences, IsLeafAt, PutsCopy}
+use Rattle.tree_walks.proofs.Shared.{has_name, leaves_of, leb, Ok, Err, Full, AreDistinct, AreDistinct-parts, starts_join, starts_same, starts_without, holds-left, holds-right, kids_of-join_right}
+use Rattle.tree_walks.proofs.{Shared.{tree_at-join_left, with_kids-join_right, used_forest, given_free, released_free}, Holes.{IsBelow, hole}, LeafLists.{later, later-all, later-none, leaves_plain}}
+use Rattle.tree_handles.proofs.SmallLaws.{starts_behind as front_kept}
+use Rattle.std.proofs.Common.{append-nil}
 
 -- ---- a leaf goes
 
@@ -178,11 +175,6 @@ next {i = i} {n = n} {j = j} {x = x} {rest = rest} {u = u} {start = start} {s = 
     one_tree c e = absurd cc
 
 -- ---- it ends
-
--- what stood first stays
-pub front_kept : {i : ℕ} {old new : Forest} (now : Forest) → new ≡ join (without_root i old) now → KeepsFront (i ∷ []) old new
-front_kept {i = i} {old = old} {new = new} now e =
-    record { keeps = λ p s n. starts_same p (join (without_root i old) now) new e (starts_join p (without_root i old) now (starts_without i p old n.0 s)) }
 
 -- a copy finds no room
 pub record IsStopped (i : ℕ) (x : List ℕ) (u : Tree) (start v : State) (full : Full) : Type 0 where

@@ -1,8 +1,7 @@
 -- The leaves of a name, in prefix order, and what comes of them one after another.
-use Rattle.tree_walks.proofs.Shared.{◌≡◌, ℕ, ◌+◌, ◌-◌, ◌≤◌, List, [], ◌∷◌, ◌++◌, length, cond, eqb, refl, ap, ◌∙◌, arith, append_assoc, Bool, true, false, eq-eqb, ne_eqb, length-append}
-use Rattle.tree_walks.proofs.Shared.{Payload, Tree, Trees, none, more, append, grown, plains, plain, AllExpressions, Label, Forest, empty, tree, join, arity, nodes_in, alone}
-use Rattle.tree_walks.proofs.Shared.{replaced_in}
-use Rattle.tree_walks.proofs.{Shared.{occurrences, has_name, leaves_of}, Names.{named_in, named-tree, occurrences_in, occurrences-alone, replaced-other, replaced-named}}
+use Rattle.tree_walks.proofs.Shared.{◌≡◌, ℕ, ◌+◌, ◌-◌, ◌≤◌, List, [], ◌∷◌, ◌++◌, length, cond, eqb, refl, ap, ◌∙◌, arith, append_assoc, Bool, true, false, eq-eqb, ne_eqb, length-append, Payload, Tree}
+use Rattle.tree_walks.proofs.Shared.{Trees, none, more, append, grown, plains, plain, AllExpressions, Label, Forest, empty, tree, join, arity, nodes_in, alone, replaced_in, occurrences, has_name}
+use Rattle.tree_walks.proofs.{Shared.{leaves_of}, Names.{named_in, named-tree, occurrences_in, occurrences-alone, replaced-other, replaced-named}}
 
 -- how many there are at a node and below it
 abbrev pub leaves_at : List ℕ → Label → Forest → ℕ

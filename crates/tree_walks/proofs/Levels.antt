@@ -1,6 +1,5 @@
 -- A walk that has met no node below the limit.
-use Rattle.tree_walks.proofs.Shared.{◌≡◌, ℕ, ◌-◌, ◌<◌, ◌≤◌, List, [], ◌∷◌, get_or, arith, Visit, Forest, empty, tree, AreOpen, reach, IsWalked, open_count}
-use Rattle.std.proofs.Common.{max}
+use Rattle.tree_walks.proofs.Shared.{◌≡◌, ℕ, ◌-◌, ◌<◌, ◌≤◌, List, [], ◌∷◌, get_or, arith, Visit, Forest, empty, tree, AreOpen, reach, IsWalked, open_count, max}
 
 pub record IsShallow (left : List Visit) (height total many : ℕ) (owed : List ℕ) : Type 0 where
   pub deepest : ℕ

@@ -1,8 +1,7 @@
 -- Names and replaced names, node by node.
-use Rattle.tree_walks.proofs.Shared.{◌≡◌, ℕ, zero, suc, ◌+◌, List, cond, refl, sym, ap, ◌∙◌, arith, Bool, true, false, count_by, bytes_eq, bytes_eq-Decides, eqb-true, name_of}
-use Rattle.tree_walks.proofs.Shared.{append-nil, sum_by-append, Payload, Tree, symbol, Trees, none, more, names, names_of, nth}
-use Rattle.tree_walks.proofs.Shared.{compound, grown, plains, takes, AllExpressions, children_of, Label, Forest, empty, tree, arity, grown_whole, replaced, replaced_in, occurrences, has_name}
-use Rattle.calc_terms.specs.{Name.{before_zero, padded}, declared.name.Name.Name, declared.kind.Kind.Kind}
+use Rattle.tree_walks.proofs.Shared.{same_tests, no_trees, ◌≡◌, ℕ, zero, suc, ◌+◌, List, cond, refl, sym, ap, ◌∙◌, arith, Bool, true, false, count_by, bytes_eq, bytes_eq-Decides, eqb-true, name_of}
+use Rattle.tree_walks.proofs.Shared.{append-nil, sum_by-append, Payload, Tree, symbol, Trees, none, more, names, names_of, nth, compound, grown, plains, takes, AllExpressions, children_of, Label}
+use Rattle.tree_walks.proofs.Shared.{Forest, empty, tree, arity, grown_whole, replaced, replaced_in, occurrences, has_name, before_zero, padded, Name, Kind}
 
 -- ---- how often a name occurs
 
@@ -59,17 +58,10 @@ replaced-named x u q ts h = grind arith
 leaf_takes : (x : List ℕ) (q : Payload) (n : ℕ) → has_name x q ≡ true → takes q n ≡ true → n ≡ 0
 leaf_takes x q n h e = grind (arith, eqb-true)
 
-no_trees : (f : Forest) → arity f ≡ 0 → f ≡ empty
-no_trees empty h = refl
-no_trees (tree l k r) h = absurd (omega arith)
-
 pub leaf_alone : (x : List ℕ) (l : Label) (k r : Forest) → has_name x l.payload ≡ true → AllExpressions (tree l k r) → k ≡ empty
 leaf_alone x l k r h w = no_trees k (leaf_takes x l.payload (arity k) h w.0)
 
 -- ---- names by their eight bytes
-
-same_tests : (s t : Bool) → (s ≡ true → t ≡ true) → (t ≡ true → s ≡ true) → s ≡ t
-same_tests s t h k = grind arith
 
 pub same_name : (a b : Name) → bytes_eq a.text b.text ≡ bytes_eq (name_of a) (name_of b)
 same_name a b = same_tests _ _

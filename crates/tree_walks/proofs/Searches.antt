@@ -1,9 +1,8 @@
 -- Walks that look for the leaves of a name.
-use Rattle.tree_walks.proofs.Shared.{◌≡◌, ℕ, ◌<◌, List, [], ◌∷◌, ◌++◌, get_or, cond, refl, sym, ap, ◌∙◌, subst, arith, Bool, true, false, Contains, count_by}
-use Rattle.tree_walks.proofs.Shared.{bytes_eq, Contains-append_left, Contains-append_right, Contains-push, get_or-le-sum_by, sum_by-cons, bytes_eq-Decides, kind_of_payload, State, Visit, Forest}
-use Rattle.tree_walks.proofs.Shared.{empty, tree, join, root_payload, holds, payload_in, tree_at, Stands, forest, by_test, seen, found, found-join, visit_here, visits_left, no_visit, has_name}
-use Rattle.tree_walks.proofs.{Shared.leaves_of, LeafLists.leaves-join}
-use Rattle.tree_handles.specs.Visits.{visits_of, AreFound}
+use Rattle.tree_walks.proofs.Shared.{◌≡◌, ℕ, ◌<◌, List, [], ◌∷◌, ◌++◌, get_or, cond, refl, sym, ap, ◌∙◌, subst, arith, Bool, true, false, Contains, count_by, bytes_eq, Contains-append_left}
+use Rattle.tree_walks.proofs.Shared.{Contains-append_right, Contains-push, get_or-le-sum_by, sum_by-cons, bytes_eq-Decides, kind_of_payload, State, Visit, Forest, empty, tree, join, root_payload}
+use Rattle.tree_walks.proofs.Shared.{holds, payload_in, tree_at, Stands, forest, by_test, seen, found, found-join, visit_here, visits_left, no_visit, has_name, leaves_of, visits_of, AreFound}
+use Rattle.tree_walks.proofs.LeafLists.{leaves-join}
 
 -- the trees that are still to be looked through, and the leaves of the name in them
 pub record IsLooking (x : List ℕ) (left : List Visit) (leaves : List ℕ) (base : Forest) : Type 0 where

@@ -1,10 +1,7 @@
 -- A tree is as deep as it has nodes at most, and each node takes eight bytes at least.
-use Rattle.tree_walks.proofs.Shared.{ℕ, ◌+◌, ◌*◌, ◌≤◌, ◌≡◌, ◌++◌, true, ap, length, arith, State, Stands, forest, holds, nodes_in, tree_at, flatten, length-append}
-use Rattle.tree_walks.proofs.Shared.{Tree, Trees, add, depth, div, more, mult, neg, none, power, root, sub}
-use Rattle.node_pool.specs.{Nodes.{used, place_of}, Places.{since, until, IsBoundary}}
-use Rattle.node_pool.proofs.{Cuts.until-since, Sizes.{length_le_used, used-append}}
-use Rattle.tree_handles.proofs.{Forests.nodes-flatten, Measures.before}
-use Rattle.calc_terms.specs.Trees.{depths, nodes, nodes_of}
+use Rattle.tree_walks.proofs.Shared.{ℕ, ◌+◌, ◌*◌, ◌≤◌, ◌≡◌, ◌++◌, true, ap, length, arith, State, Stands, forest, holds, nodes_in, tree_at, flatten, length-append, Tree, Trees, add, depth, div, more}
+use Rattle.tree_walks.proofs.Shared.{mult, neg, none, power, root, sub, used, place_of, since, until, IsBoundary, until-since, length_le_used, used-append, nodes-flatten, before, depths, nodes}
+use Rattle.tree_walks.proofs.Shared.{nodes_of}
 
 mutual
   pub depth_within : (t : Tree) → depth t ≤ nodes t

@@ -1,4 +1,5 @@
-use Rattle.beautify.proofs.{Pushing.owes_as, Shared.{◌≡◌, ◌≤◌, arith, append, factors_above, children_of, plain, tree_at, forest, count}, Resolving.{product_first}, Trees.{count-append}}
+use Rattle.beautify.proofs.{Pushing.{owes_as}, Shared.{◌≡◌, ◌≤◌, arith, append, factors_above, children_of, plain, tree_at, forest, count}, Resolving.{product_first}}
+use Rattle.calc_terms.proofs.SmallLaws.{count_append as count-append}
 use Rattle.beautify.proofs.products.push_above.Goals as goal
 
 pub returns-clause-owed : goal.returns-clause-owed

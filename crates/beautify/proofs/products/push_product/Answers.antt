@@ -1,5 +1,6 @@
-use Rattle.beautify.proofs.Shared.{◌≡◌, ◌+◌, ◌<◌, ◌∙◌, sym, ap, arith, Tree, Trees, share_room, Below, append, more, factors_below, children_of, plain, tree_at, forest}
-use Rattle.beautify.proofs.{Shared.count, Pushing.owes_as, Resolving.{product, product_first, no_trees}, Trees.count-append}
+use Rattle.beautify.proofs.{Shared.{◌≡◌, ◌+◌, ◌<◌, ◌∙◌, sym, ap, arith, Tree, Trees, share_room, Below, append, more, factors_below, children_of, plain, tree_at, forest, count}, Pushing.{owes_as}}
+use Rattle.beautify.proofs.Resolving.{product, product_first}
+use Rattle.calc_terms.proofs.SmallLaws.{no_factors as no_trees, count_append as count-append}
 use Rattle.beautify.proofs.products.push_product.Goals as goal
 
 pub returns-then-below-eq0-clause-owed : goal.returns-then-below-eq0-clause-owed

@@ -1,6 +1,5 @@
-use Rattle.beautify.proofs.Shared.{◌≡◌, ◌∙◌, ◌∷◌, ◌++◌, [], ℕ, suc, length, refl, sym, ap, arith, length-append, has_minus, children_of, plain, rest_trees, tree_at}
-use Rattle.beautify.proofs.{Shared.{kids_of, forest, next_child, last_child, root_ids}, SumSigns.{signed_first, plus_next, minus_next, signed_all, added_length}}
-use Rattle.beautify.proofs.{Steps.few_children, Pushing.owes_as, Trees.count_behind}
+use Rattle.beautify.proofs.Shared.{◌≡◌, ◌∙◌, ◌∷◌, ◌++◌, [], ℕ, suc, length, refl, sym, ap, arith, length-append, has_minus, children_of, plain, rest_trees, tree_at, kids_of, forest, next_child}
+use Rattle.beautify.proofs.{Shared.{last_child, root_ids}, SumSigns.{signed_first, plus_next, minus_next, signed_all, added_length}, Steps.{few_children}, Pushing.{owes_as}, Trees.{count_behind}}
 use Rattle.beautify.proofs.sums.push_signs.Goals as goal
 
 pub loop-term-init : goal.loop-term-init

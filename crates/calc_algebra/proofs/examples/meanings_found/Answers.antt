@@ -1,6 +1,5 @@
 use Rattle.calc_algebra.proofs.Shared.{refl, inr, [], ◌∷◌, ◌++◌, pos, negsuc, gcd, lowest, quotient, plus, times, zero_fraction, one_fraction, minus_one_fraction, square_root, term, surd_of}
-use Rattle.calc_terms.specs.Trees.{whole_num}
-use Rattle.calc_algebra.proofs.{SquareClassLaws.{Same-trans}, InverseLaws.{Inverts-not_zero}, PowerLaws.{root_zero, zero_surd_of}, BadLaws.{no_root}, NumberRewrites.{root_parts}}
+use Rattle.calc_algebra.proofs.{Shared.{whole_num}, SquareClassLaws.{Same-trans}, InverseLaws.{Inverts-not_zero}, PowerLaws.{root_zero, zero_surd_of}, BadLaws.{no_root}, NumberRewrites.{root_parts}}
 use Rattle.calc_algebra.proofs.{PowerRewrites.{half_exponent_is, power_parts}, Compared.{compared_same}}
 use Rattle.calc_algebra.proofs.examples.meanings_found.Goals as goal
 

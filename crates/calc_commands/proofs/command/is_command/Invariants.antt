@@ -1,6 +1,4 @@
-use Rattle.calc_commands.proofs.Shared.{◌≡◌}
-use Rattle.std.proofs.Common.{drop}
-use Rattle.calc_commands.specs.Commands.{is_command}
+use Rattle.calc_commands.proofs.Shared.{◌≡◌, drop, is_command}
 use Rattle.calc_commands.proofs.command.is_command.Given as goal
 
 abbrev pub invariant-loop-byte : goal.invariant-loop-byte

@@ -1,5 +1,4 @@
-use Rattle.calc_commands.proofs.{Shared.{◌∙◌, ℕ, List, length, get_or, take, refl, sym, ap, extended, length-encodings, entries}, Dumps.{used_there, written_more}}
-use Rattle.std.proofs.lemmas.List.{take_all}
+use Rattle.calc_commands.proofs.{Shared.{◌∙◌, ℕ, List, length, get_or, take, refl, sym, ap, extended, length-encodings, entries, take_all}, Dumps.{used_there, written_more}}
 use Rattle.calc_commands.proofs.dump.write_dump.Goals as goal
 
 pub slice_bounds-bytes-end : goal.slice_bounds-bytes-end

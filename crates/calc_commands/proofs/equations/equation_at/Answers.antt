@@ -1,8 +1,6 @@
-use Rattle.std.proofs.Common.{rules}
-use Rattle.std.proofs.{Common.{◌≡◌, ◌∙◌, ◌+◌, ◌≤◌, ◌∷◌, length, take, drop, sym, ap, subst, arith}, lemmas.List.{take_rest}, Math.Dec.{eqb}}
-use Rattle.std.specs.List.{position_or_len}
+use Rattle.calc_commands.proofs.Shared.{rules, ◌≡◌, ◌∙◌, ◌+◌, ◌≤◌, ◌∷◌, length, take, drop, sym, ap, subst, arith, take_rest, position_or_len, AreSides, cut_at, written, pieces_from}
 use Rattle.calc_commands.proofs.{Splitting.{first_piece, lacking, lacks_before, sides_are, within_is, written_is}, equations.equation_at.Goals.{After-len_before-end}}
-use Rattle.calc_commands.specs.{Equations.{AreSides, cut_at, written}, Ranges.{pieces_from}}
+use Rattle.std.proofs.Math.Dec.{eqb}
 use Rattle.calc_commands.proofs.equations.equation_at.Goals as goal
 
 -- the end, in what stands from there on

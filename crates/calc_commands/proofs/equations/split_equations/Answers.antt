@@ -1,7 +1,4 @@
-use Rattle.std.proofs.Common.{◌≡◌, ◌<◌, ◌++◌, ◌∷◌, [], List, length, Bool, true, false, Result, Ok, Err, IsOk, refl, sym, ap, subst, arith}
-use Rattle.std.specs.{Prelude.{OnErr, OnOk}, Result.{is_err}}
-use Rattle.calc_commands.specs.declared.equations.EquationRange.{EquationRange}
-use Rattle.arrayvec.specs.ArrayVec.{ArrayVec}
+use Rattle.calc_commands.proofs.Shared.{◌≡◌, ◌<◌, ◌++◌, ◌∷◌, [], List, length, Bool, true, false, Result, Ok, Err, IsOk, refl, sym, ap, subst, arith, OnErr, OnOk, is_err, EquationRange, ArrayVec}
 use Rattle.calc_commands.proofs.Splitting.{IsSplitting, Pushes, all_split, no_room, pushed, split_end, split_next, split_start, unwritten}
 use Rattle.calc_commands.proofs.equations.split_equations.Goals as goal
 

@@ -1,6 +1,4 @@
-use Rattle.calc_commands.proofs.Shared.{◌∙◌, is_in}
-use Rattle.std.proofs.lemmas.List.Sums.{prefix_len-le-length}
-use Rattle.calc_language.proofs.LeadingRuns.{run_front, run_back}
+use Rattle.calc_commands.proofs.Shared.{◌∙◌, is_in, prefix_len-le-length, run_front, run_back}
 use Rattle.calc_commands.proofs.parts.split.Goals as goal
 
 pub split_at-requires : goal.split_at-requires

@@ -1,8 +1,5 @@
-use Rattle.std.proofs.{Common.{◌≡◌, Err, ℕ, ◌+◌, ◌-◌, List, ◌++◌, length, take, drop, arith, sym, ap, ◌∙◌, subst, take-add, drop-drop, length-drop}, lemmas.List.{take_rest}}
-use Rattle.std.proofs.KnownBytes.{Appends-trans}
-use Rattle.std.specs.Io.KnownBytes.{Appends}
+use Rattle.calc_edges.proofs.Shared.{◌≡◌, Err, ℕ, ◌+◌, ◌-◌, List, ◌++◌, length, take, drop, arith, sym, ap, ◌∙◌, subst, take-add, drop-drop, length-drop, take_rest, Appends-trans, Appends, Failures}
 use Rattle.calc_edges.proofs.Stops.{cause_of_call}
-use Rattle.calc_edges.specs.declared.failures.Failures.{Failures}
 use Rattle.calc_edges.proofs.sink.write_all.Goals as goal
 
 -- what a write leaves of the rest is a rest of the whole

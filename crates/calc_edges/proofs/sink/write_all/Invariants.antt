@@ -1,7 +1,5 @@
 -- What is gone from `rest` was taken, and no write failed.
-use Rattle.std.proofs.Common.{◌≡◌, ℕ, ◌≤◌, length, take, drop}
-use Rattle.std.specs.Io.KnownBytes.{Appends}
-use Rattle.calc_edges.specs.Faults.{IsCalm}
+use Rattle.calc_edges.proofs.Shared.{◌≡◌, ℕ, ◌≤◌, length, take, drop, Appends, IsCalm}
 use Rattle.calc_edges.proofs.sink.write_all.Given as goal
 
 abbrev pub invariant-loop-rest : goal.invariant-loop-rest

@@ -1,6 +1,5 @@
 -- What the source gave so far is what the sink took, and no count of failures fell.
-use Rattle.std.proofs.Common.{◌≤◌, ℕ, List}
-use Rattle.std.specs.Io.KnownBytes.{Appends, Consumes}
+use Rattle.calc_edges.proofs.Shared.{◌≤◌, ℕ, List, Appends, Consumes}
 use Rattle.calc_edges.proofs.tests.pour.Given as goal
 
 abbrev pub invariant-loop : goal.invariant-loop

@@ -1,30 +1,14 @@
 use Rattle.calc_measures.proofs.Shared.{refl, lowest, gcd, is_short}
 use Rattle.calc_measures.proofs.examples.a_sum_measured.Goals as goal
 
-pub returns-clause-nodes : goal.returns-clause-nodes
-unfolding gcd lowest
-returns-clause-nodes c = refl
-
-pub returns-clause-depth : goal.returns-clause-depth
-unfolding gcd lowest
-returns-clause-depth c = refl
-
-pub returns-clause-size : goal.returns-clause-size
+pub returns : goal.returns
 unfolding gcd lowest is_short
-returns-clause-size c = refl
-
-pub returns-clause-room : goal.returns-clause-room
-unfolding gcd lowest
-returns-clause-room c = refl
-
-pub returns-clause-high : goal.returns-clause-high
-unfolding gcd lowest
-returns-clause-high c = refl
-
-pub returns-clause-low : goal.returns-clause-low
-unfolding gcd lowest
-returns-clause-low c = refl
-
-pub returns-clause-bits : goal.returns-clause-bits
-unfolding gcd lowest
-returns-clause-bits c = refl
+returns c = record {
+  nodes = refl;
+  depth = refl;
+  size = refl;
+  room = refl;
+  high = refl;
+  low = refl;
+  bits = refl;
+}

@@ -1,6 +1,5 @@
-use Rattle.calc_parser.proofs.Shared.{◌≡◌, List, map, OnOk, Ok, Err, refl, sym, ap, ◌∙◌, subst, Tree, bare, tokens_of, free_of, gives_as, placing, IsTreeOf, Node, postfix, node_of, tokens_in}
-use Rattle.calc_parser.proofs.{Leaves.ok_as, LineSteps.same_tokens, Replay.same_nodes, building.place_line.Goals.{After-items}}
-use Rattle.std.specs.Prelude.{IfErr}
+use Rattle.calc_parser.proofs.Shared.{◌≡◌, List, map, OnOk, Ok, Err, refl, sym, ap, ◌∙◌, subst, Tree, bare, tokens_of, free_of, gives_as, placing, IsTreeOf, Node, postfix, node_of, tokens_in, IfErr}
+use Rattle.calc_parser.proofs.{Leaves.{ok_as}, LineSteps.{same_tokens}, Replay.{same_nodes}, building.place_line.Goals.{After-items}}
 use Rattle.calc_parser.proofs.building.place_line.Goals as goal
 
 -- the steps are the nodes of the line's tree

@@ -1,5 +1,4 @@
-use Rattle.calc_parser.proofs.{Shared.{◌≤◌, ◌+◌, ◌-◌, length, [], arith, ap, ◌∙◌, get_or, slice_get, Leaf, deepest, node_of}, Measures.{add_on, with_node_small, one_left}}
-use Rattle.std.specs.Prelude.{unwrap_or}
+use Rattle.calc_parser.proofs.{Shared.{◌≤◌, ◌+◌, ◌-◌, length, [], arith, ap, ◌∙◌, get_or, slice_get, Leaf, deepest, node_of, unwrap_or}, Measures.{add_on, with_node_small, one_left}}
 use Rattle.calc_parser.proofs.depth.depth.Goals as goal
 
 pub loop-step-preserved : goal.loop-step-preserved

@@ -17,28 +17,14 @@ not_by_zero [] h = cc
 not_by_zero (true ∷ cs) h = cc
 not_by_zero (false ∷ cs) h = cc
 
-pub returns-clause-a_product : goal.returns-clause-a_product
-unfolding square_root
-returns-clause-a_product c = record { chosen = true ∷ true ∷ []; alike = refl }
-
-pub returns-clause-times_a_square : goal.returns-clause-times_a_square
-unfolding square_root
-returns-clause-times_a_square c = record { chosen = true ∷ true ∷ []; alike = refl }
-
-pub returns-clause-another : goal.returns-clause-another
-returns-clause-another c = λ h. not_five h.chosen h.alike
-
-pub returns-clause-by_a_multiple : goal.returns-clause-by_a_multiple
-unfolding square_root
-returns-clause-by_a_multiple c = record { chosen = true ∷ []; alike = refl }
-
-pub returns-clause-by_zero : goal.returns-clause-by_zero
-returns-clause-by_zero c = λ h. not_by_zero h.chosen h.alike
-
-pub returns-clause-a_surd : goal.returns-clause-a_surd
-unfolding square_root
-returns-clause-a_surd c = (one_spanned (2 ∷ 3 ∷ []), (record { chosen = true ∷ true ∷ []; alike = refl }, tt))
-
-pub returns-clause-a_tree : goal.returns-clause-a_tree
+pub returns : goal.returns
 unfolding square_root gcd lowest
-returns-clause-a_tree c = (tt, (tt, ((record { chosen = true ∷ []; alike = refl }, tt), tt)))
+returns c = record {
+  a_product = record { chosen = true ∷ true ∷ []; alike = refl };
+  times_a_square = record { chosen = true ∷ true ∷ []; alike = refl };
+  another = λ h. not_five h.chosen h.alike;
+  by_a_multiple = record { chosen = true ∷ []; alike = refl };
+  by_zero = λ h. not_by_zero h.chosen h.alike;
+  a_surd = (one_spanned (2 ∷ 3 ∷ []), (record { chosen = true ∷ true ∷ []; alike = refl }, tt));
+  a_tree = (tt, (tt, ((record { chosen = true ∷ []; alike = refl }, tt), tt)));
+}

@@ -1,5 +1,4 @@
-use Rattle.std.proofs.Common.{◌∙◌, sym, subst, codes}
-use Rattle.calc_session.proofs.{Shared.{TripsRose, states, after_report, IsReplyToArming, arms_a_breaker, finds_no_breaker, report}, CommandLemmas.{arming_trips_none, written}}
+use Rattle.calc_session.proofs.{Shared.{◌∙◌, sym, subst, codes, TripsRose, states, after_report, IsReplyToArming, arms_a_breaker, finds_no_breaker, report}, CommandLemmas.{arming_trips_none, written}}
 use Rattle.calc_session.proofs.EvaluationLemmas.{none_rose}
 use Rattle.calc_session.proofs.commanding.arm.Goals as goal
 

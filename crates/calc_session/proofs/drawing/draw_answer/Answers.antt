@@ -1,6 +1,5 @@
-use Rattle.std.proofs.Common.{ap, sym, subst, arith}
-use Rattle.calc_session.proofs.{Shared.{IsLayout, drawing, given_layout, given_room, bytes_in, tree_at, forest, CountsRefusal, lack_in, rows_text, told_at}, DrawingLemmas.{drawn_all, drawn_in_part}}
-use Rattle.calc_session.proofs.{DrawingLemmas.{given_told, lacks_where, told_where}, PoolLemmas.{old_below, rolled_back}}
+use Rattle.calc_session.proofs.Shared.{ap, sym, subst, arith, IsLayout, drawing, given_layout, given_room, bytes_in, tree_at, forest, CountsRefusal, lack_in, rows_text, told_at}
+use Rattle.calc_session.proofs.{DrawingLemmas.{drawn_all, drawn_in_part, given_told, lacks_where, told_where}, PoolLemmas.{old_below, rolled_back}}
 use Rattle.calc_session.proofs.drawing.draw_answer.Goals as goal
 
 pub write_rows-requires-clause-layout : goal.write_rows-requires-clause-layout

@@ -1,6 +1,4 @@
-use Rattle.std.proofs.Common.{◌≡◌}
-use Rattle.calc_session.proofs.Shared.{Appends, Measures, drawing, picture, tree_at, forest, first_rows}
-use Rattle.calc_edges.specs.Faults.{IsCalm}
+use Rattle.calc_session.proofs.Shared.{◌≡◌, Appends, Measures, drawing, picture, tree_at, forest, first_rows, IsCalm}
 use Rattle.calc_session.proofs.drawing.write_rows.Given as goal
 
 -- the first rows are written, and no write failed

@@ -1,5 +1,4 @@
-use Rattle.std.proofs.Common.{◌∙◌, sym, subst}
-use Rattle.calc_session.proofs.Shared.{bare, tokens_of, LacksNames, HasEntries, table_names, keeps_after, given_rest, gives_as, reason_of, refusal_in}
+use Rattle.calc_session.proofs.Shared.{◌∙◌, sym, subst, bare, tokens_of, LacksNames, HasEntries, table_names, keeps_after, given_rest, gives_as, reason_of, refusal_in}
 use Rattle.calc_session.proofs.EvaluationLemmas.{fault_interrupts_none, front_over, full_interrupts_none, gives_told, keeps_then, made_filled, unbuilt, unfilled, unfilled_count}
 use Rattle.calc_session.proofs.evaluating.build_and_fill.Goals as goal
 

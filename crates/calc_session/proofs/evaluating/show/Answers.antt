@@ -1,6 +1,4 @@
-use Rattle.std.proofs.Common.{◌≡◌, ◌∙◌, sym, ap}
-use Rattle.calc_session.proofs.{Shared.{root_kind, tree_of}, EvaluationLemmas.{undef_by_kind, defined_by_kind}, evaluating.show.Goals.{After-kind}}
-use Rattle.tree_handles.proofs.Seen.{expression, seen}
+use Rattle.calc_session.proofs.{Shared.{◌≡◌, ◌∙◌, sym, ap, root_kind, tree_of, expression, seen}, EvaluationLemmas.{undef_by_kind, defined_by_kind}, evaluating.show.Goals.{After-kind}}
 use Rattle.calc_session.proofs.evaluating.show.Goals as goal
 
 kind_is : (c : After-kind) → c.kind.result ≡ root_kind (tree_of c.args.answer c.args.work.now.pool)

@@ -1,6 +1,6 @@
 use Rattle.std.proofs.Common.{◌≡◌, ◌≤◌, false, [], ap, arith}
-use Rattle.calc_session.proofs.Shared.{is_zero_fraction, rational, size_of_payload, ratio_of, value_of, sizes, free_of}
-use Rattle.calc_session.proofs.PlacingLemmas.{placed_none, placed_one, tests_nonzero, tests_zero, with_constant}
+use Rattle.calc_session.proofs.{Shared.{is_zero_fraction, rational, size_of_payload, ratio_of, value_of, sizes, free_of}, PlacingLemmas.{placed_none, placed_one, tests_nonzero, with_constant}}
+use Rattle.rational128.proofs.SmallLaws.{zero_rational as tests_zero}
 use Rattle.calc_session.proofs.forms.place_constant.Goals as goal
 
 pub returns-then-num-eq0-clause-ok : goal.returns-then-num-eq0-clause-ok

@@ -1,7 +1,8 @@
 use Rattle.std.proofs.Common.{◌≤◌, ◌+◌, map, sym, subst, arith}
 use Rattle.std.specs.Prelude.{Some}
 use Rattle.calc_session.proofs.{Shared.{length-map, name_of, value_of, size, entries_of, free_of, front_after, multiple_of}, PlacingLemmas.{AreFirst, first_all, first_more, first_none, first_same}}
-use Rattle.calc_session.proofs.{PlacingLemmas.{front_of_all, name_there, next_fits, tests_nonzero, tests_zero}, forms.place_multiples.Goals.{then-num-ne0+in_ok-tree, else-num-ne0}}
+use Rattle.calc_session.proofs.{PlacingLemmas.{front_of_all, name_there, next_fits, tests_nonzero}, forms.place_multiples.Goals.{then-num-ne0+in_ok-tree, else-num-ne0}}
+use Rattle.rational128.proofs.SmallLaws.{zero_rational as tests_zero}
 use Rattle.node_pool.specs.State.{State}
 use Rattle.calc_session.specs.declared.forms.Placed.{Placed}
 use Rattle.calc_session.proofs.forms.place_multiples.Goals as goal

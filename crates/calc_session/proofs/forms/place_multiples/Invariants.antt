@@ -1,5 +1,4 @@
-use Rattle.std.proofs.Common.{map}
-use Rattle.calc_session.proofs.{Shared.{name_of, entries_of}, PlacingLemmas.{AreFirst}}
+use Rattle.calc_session.proofs.{Shared.{map, name_of, entries_of}, PlacingLemmas.{AreFirst}}
 use Rattle.calc_session.proofs.forms.place_multiples.Given as goal
 
 abbrev pub invariant-loop-at : goal.invariant-loop-at

@@ -1,5 +1,4 @@
-use Rattle.std.proofs.Common.{◌∙◌, sym}
-use Rattle.calc_session.proofs.Shared.{finds_names_full, is_ans}
+use Rattle.calc_session.proofs.Shared.{◌∙◌, sym, finds_names_full, is_ans}
 use Rattle.calc_session.proofs.reading.check_store.Goals as goal
 
 pub returns-then-is_ans-clause-refused : goal.returns-then-is_ans-clause-refused

@@ -1,5 +1,4 @@
-use Rattle.std.proofs.Common.{subst}
-use Rattle.calc_session.proofs.Shared.{bare, IsFaultOf, forms_no_line, forms_a_deep_line}
+use Rattle.calc_session.proofs.Shared.{subst, bare, IsFaultOf, forms_no_line, forms_a_deep_line}
 use Rattle.calc_session.proofs.reading.line_refusal.Goals as goal
 
 pub returns-in-Syntax-clause-refused : goal.returns-in-Syntax-clause-refused

@@ -1,5 +1,4 @@
-use Rattle.std.proofs.Common.{subst}
-use Rattle.calc_session.proofs.Shared.{tokens_of, name_in, ReadsText, forms_a_store, is_misread}
+use Rattle.calc_session.proofs.Shared.{subst, tokens_of, name_in, ReadsText, forms_a_store, is_misread}
 use Rattle.calc_session.proofs.reading.read_expression.Goals as goal
 
 pub returns-in-None-clause-tree : goal.returns-in-None-clause-tree

@@ -1,5 +1,4 @@
-use Rattle.std.proofs.Common.{subst}
-use Rattle.calc_parser.specs.Refused.{IsLineFaultOf}
+use Rattle.calc_session.proofs.Shared.{subst, IsLineFaultOf}
 use Rattle.calc_session.proofs.reading.refusal_to_read.Goals as goal
 
 pub token_refusal-requires : goal.token_refusal-requires

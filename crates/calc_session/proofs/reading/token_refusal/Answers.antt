@@ -1,5 +1,4 @@
-use Rattle.std.proofs.Common.{arith, subst}
-use Rattle.calc_session.proofs.{Shared.{meets_no_token, meets_a_wide_number}, ReadLemmas.{character_within, wide_within}}
+use Rattle.calc_session.proofs.{Shared.{arith, subst, meets_no_token, meets_a_wide_number}, ReadLemmas.{character_within, wide_within}}
 use Rattle.calc_tokens.specs.Faults.{IsFaultOf}
 use Rattle.calc_session.proofs.reading.token_refusal.Goals as goal
 

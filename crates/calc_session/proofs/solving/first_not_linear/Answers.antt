@@ -1,5 +1,4 @@
-use Rattle.std.proofs.Common.{◌∙◌, sym, arith}
-use Rattle.calc_session.proofs.{Shared.{forest, equation_at, is_linear_equation}, SolvingLemmas.{element_at, expression_at, first_found, linear_more, linear_none, none_found}}
+use Rattle.calc_session.proofs.{Shared.{◌∙◌, sym, arith, forest, equation_at, is_linear_equation}, SolvingLemmas.{element_at, expression_at, first_found, linear_more, linear_none, none_found}}
 use Rattle.calc_session.proofs.solving.first_not_linear.Goals as goal
 
 pub loop-at-init : goal.loop-at-init

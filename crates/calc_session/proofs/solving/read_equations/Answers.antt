@@ -1,6 +1,5 @@
-use Rattle.std.proofs.Common.{refl, sym, subst}
-use Rattle.calc_session.proofs.{Shared.{EquationRange, err_from_is_err_and, reason_of, AreSplit, IsSplitFault, are_not_written, are_too_many}, RangeLemmas.{read_more, unread_reply}}
-use Rattle.calc_session.specs.Solving.{at_left, at_right}
+use Rattle.calc_session.proofs.Shared.{refl, sym, subst, EquationRange, err_from_is_err_and, reason_of, AreSplit, IsSplitFault, are_not_written, are_too_many, at_left, at_right}
+use Rattle.calc_session.proofs.RangeLemmas.{read_more, unread_reply}
 use Rattle.calc_session.proofs.solving.read_equations.Goals as goal
 
 pub returns-in-Err-Unwritten-clause-refused : goal.returns-in-Err-Unwritten-clause-refused

@@ -1,7 +1,8 @@
-use Rattle.std.proofs.Common.{rules, ◌≡◌, ◌∙◌, length, refl, sym, ap, subst, arith}
-use Rattle.std.specs.Prelude.{All}
-use Rattle.calc_session.proofs.Shared.{states, equations_in, values, flatten, free_of, IsExpression, forest, CountsRefusal, keeps_after, reason_of, refusal_in, Become, are_made, are_not_made}
-use Rattle.calc_session.proofs.{PoolLemmas.{old_below, still_counted}, SolvingLemmas.{calm_refusal, err_as, ok_as, on_ok}}
+use Rattle.calc_session.proofs.Shared.{rules, ◌≡◌, ◌∙◌, refl, sym, ap, subst, arith, All, states, equations_in, values, flatten, free_of, IsExpression, forest, CountsRefusal, keeps_after, reason_of}
+use Rattle.calc_session.proofs.{Shared.{refusal_in, Become, are_made, are_not_made}, PoolLemmas.{old_below, still_counted}, SolvingLemmas.{calm_refusal, on_ok}}
+use Rattle.std.proofs.Common.{length}
+use Rattle.calc_session.proofs.SolvingLemmas.{err_as}
+use Rattle.calc_terms.proofs.SmallLaws.{if_ok_map as ok_as}
 use Rattle.calc_session.proofs.solving.solve_read.Goals as goal
 
 pub roll_back-requires-clause-below : goal.roll_back-requires-clause-below

@@ -1,10 +1,8 @@
-use Rattle.std.proofs.Common.{◌≡◌, ℕ, suc, ◌+◌, ◌≤◌, List, length, map, take, refl, sym, ap, subst, arith}
-use Rattle.std.specs.Prelude.{All, Err}
-use Rattle.linear_solve.specs.Checks.{solving_checks}
-use Rattle.calc_session.proofs.Shared.{length-map, states, name_of, AreDistinct, IsLinearIn, equations_in, OfOverflow, StopsAfter, solving, misfit_of, forest, names_listed, not_linear, refused}
-use Rattle.calc_session.proofs.{Shared.{IsReplyToSolve, are_not_linear, have_too_many_names}, SolutionMeanings.{linear_in}, SolvingLemmas.{calm_refusal, found_within, names_same, none_there}}
-use Rattle.calc_session.proofs.SolvingLemmas.{unsolved_reply}
-use Rattle.linear_solve.proofs.RisingLemmas.{rises_distinct}
+use Rattle.calc_session.proofs.Shared.{◌≡◌, suc, map, take, refl, sym, ap, subst, arith, All, solving_checks, length-map, states, name_of, AreDistinct, IsLinearIn, equations_in, OfOverflow}
+use Rattle.calc_session.proofs.Shared.{StopsAfter, solving, misfit_of, forest, names_listed, not_linear, refused, IsReplyToSolve, are_not_linear, have_too_many_names, rises_distinct}
+use Rattle.calc_session.proofs.{SolutionMeanings.{linear_in}, SolvingLemmas.{calm_refusal, found_within, names_same, none_there, unsolved_reply}}
+use Rattle.std.proofs.Common.{ℕ, ◌+◌, ◌≤◌, List, length}
+use Rattle.std.specs.Prelude.{Err}
 use Rattle.calc_session.specs.declared.answers.Refusal.TheVariants as refusal
 use Rattle.calc_session.proofs.solving.solve_trees.Goals as goal
 

@@ -1,5 +1,4 @@
-use Rattle.std.proofs.Common.{◌∙◌, ap, sym}
-use Rattle.calc_session.proofs.{Shared.{signed_decimal, ratio_of, Content, extended, denominator_text}, ReplyLemmas.{extended_twice, text_of_operand}}
+use Rattle.calc_session.proofs.{Shared.{◌∙◌, ap, sym, signed_decimal, ratio_of, Content, extended, denominator_text, extended_twice}, ReplyLemmas.{text_of_operand}}
 use Rattle.calc_session.proofs.text.push_operand.Goals as goal
 
 pub returns-clause-value : goal.returns-clause-value

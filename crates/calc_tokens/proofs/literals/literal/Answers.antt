@@ -1,7 +1,6 @@
-use Rattle.calc_tokens.proofs.Shared.{ℕ, ◌≡◌, List, false, pos, ◌∙◌, refl, sym, ap, lowest, leading_run, decimals, digits_value, is_digit, trimmed, unscaled, scale, has_point}
-use Rattle.calc_tokens.proofs.{Runs.run_passes, Parts.{decimals_pass, trimmed_pass, same_value, no_decimals, short_fits, short_is}}
-use Rattle.calc_terms.specs.Fractions.{Fraction}
-use Rattle.calc_language.specs.Tokens.{literal, literal_at}
+use Rattle.calc_tokens.proofs.Shared.{ℕ, ◌≡◌, List, false, pos, ◌∙◌, refl, sym, ap, lowest, leading_run, decimals, digits_value, is_digit, trimmed, unscaled, scale, has_point, Fraction, literal}
+use Rattle.calc_tokens.proofs.{Runs.{run_passes}, Parts.{decimals_pass, trimmed_pass, same_value, no_decimals, short_fits, short_is}}
+use Rattle.calc_language.specs.Tokens.{literal_at}
 use Rattle.calc_tokens.proofs.literals.literal.Goals as goal
 
 pub value-requires-clause-whole_digits : goal.value-requires-clause-whole_digits

@@ -1,5 +1,4 @@
-use Rattle.calc_tokens.proofs.{Shared.{arith, sym, ap, ◌∙◌}, Parts.{whole_too_wide, kept_too_wide, both_fit, scale_pos, scaled_is}}
-use Rattle.std.specs.Option.{is_some}
+use Rattle.calc_tokens.proofs.{Shared.{arith, sym, ap, ◌∙◌, is_some}, Parts.{whole_too_wide, kept_too_wide, both_fit, scale_pos, scaled_is}}
 use Rattle.calc_tokens.proofs.literals.value.Goals as goal
 
 pub returns-in_err-spelled-clause-fits : goal.returns-in_err-spelled-clause-fits

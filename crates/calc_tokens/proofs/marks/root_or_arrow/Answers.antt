@@ -1,5 +1,4 @@
-use Rattle.calc_tokens.proofs.{Shared.{[], ◌∷◌, option_map, ap, ◌∙◌, rest_after, root_mark, front_of}, Prefixes.either_token}
-use Rattle.calc_language.specs.Tokens.{arrow_mark}
+use Rattle.calc_tokens.proofs.{Shared.{[], ◌∷◌, option_map, ap, ◌∙◌, rest_after, root_mark, front_of, arrow_mark}, Prefixes.{either_token}}
 use Rattle.calc_tokens.proofs.marks.root_or_arrow.Goals as goal
 
 pub returns : goal.returns

@@ -1,8 +1,7 @@
-use Rattle.std.proofs.Common.{rules, length, ◌≡◌, false, ◌<◌, ◌+◌, ◌^◌, sym, ap, ◌∙◌, subst, arith}
-use Rattle.deep_reduce.proofs.Shared.{is_reduced, Tree, neg, size, has_undef, counted, SpansTree, IsCalmAtZero, HoldsNode, free_of, replaced_free, product_room, keeps_after, tree_of, behind_first}
-use Rattle.deep_reduce.proofs.Shared.{behind_new, front_same, front_end, front_without, front_after_one, given_handed, given_told, given_rest, nth, children_of, count, parent_handed}
-use Rattle.deep_reduce.proofs.{Lacking.{result_lacks}, Parents.{alone_out, parent_children}, Results.{answer_as, overflow_as}, Told.{answer_at, overflow_at, neg_is, neg_children, only_reduced}}
-use Rattle.node_bounds.proofs.NodeBytes.{negated_calm, negated_spans, negated_fits}
+use Rattle.deep_reduce.proofs.Shared.{rules, length, ◌≡◌, false, ◌<◌, ◌+◌, ◌^◌, sym, ap, ◌∙◌, subst, arith, is_reduced, Tree, neg, size, has_undef, counted, SpansTree, IsCalmAtZero, HoldsNode}
+use Rattle.deep_reduce.proofs.Shared.{free_of, replaced_free, product_room, keeps_after, tree_of, behind_first, behind_new, front_same, front_end, front_without, front_after_one, given_handed}
+use Rattle.deep_reduce.proofs.{Shared.{given_told, given_rest, nth, children_of, count, parent_handed, negated_calm, negated_spans, negated_fits}, Lacking.{result_lacks}}
+use Rattle.deep_reduce.proofs.{Parents.{alone_out, parent_children}, Results.{answer_as, overflow_as}, Told.{answer_at, overflow_at, neg_is, neg_children, only_reduced}}
 use Rattle.deep_reduce.proofs.differences.negate.Goals as goal
 
 pub take_child-argument-requires-clause-within : goal.take_child-argument-requires-clause-within

@@ -1,10 +1,9 @@
-use Rattle.std.proofs.Common.{◌≡◌, rules, length, true, false, ◌<◌, ◌+◌, ◌^◌, refl, sym, ap, ◌∙◌, subst, arith}
-use Rattle.deep_reduce.proofs.Shared.{fraction_fits, Fraction, HoldsNode, is_reduced, Tree, size, sizes, num, has_undef, tree_of, gives_as, given_handed, given_root, given_told, nth, children_of}
-use Rattle.deep_reduce.proofs.Shared.{counted, SpansTree, seen, IsNodeAnswer, IsCalmAtZero, stands_last, free_of, replaced_free, passed_on, turned, joined_by, joined_room, turned_room, expression}
-use Rattle.deep_reduce.proofs.Connected.{HoldsTurned, children_joined, sides_answer, sides_children, sides_held, sides_overflow, sides_ready, turned_lacks, turned_overflow, turned_ready}
-use Rattle.deep_reduce.proofs.{Results.{answer_as, overflow_as, overflow_on}, Sides.{left_beside, rewritten_front, paired_front, sides_free}, Steps.{two, undefined_answer}, Told.{answer_at}}
-use Rattle.deep_reduce.proofs.{Told.{overflow_at, both_reduced}, Lacking.{lacks_as, result_lacks}, differences.reduce_sides.Goals.{After-take_sides-left}}
-use Rattle.node_bounds.proofs.NodeBits.{holds_as, second_side}
+use Rattle.deep_reduce.proofs.Shared.{◌≡◌, rules, length, true, false, ◌<◌, ◌+◌, ◌^◌, refl, sym, ap, ◌∙◌, subst, arith, fraction_fits, Fraction, HoldsNode, is_reduced, Tree, size, sizes, num}
+use Rattle.deep_reduce.proofs.Shared.{has_undef, tree_of, gives_as, given_handed, given_root, given_told, nth, children_of, counted, SpansTree, seen, IsNodeAnswer, IsCalmAtZero, stands_last, free_of}
+use Rattle.deep_reduce.proofs.{Shared.{replaced_free, passed_on, turned, joined_by, joined_room, turned_room, expression, holds_as, second_side}, Connected.{HoldsTurned, children_joined}}
+use Rattle.deep_reduce.proofs.Connected.{sides_answer, sides_children, sides_held, sides_overflow, sides_ready, turned_lacks, turned_overflow, turned_ready}
+use Rattle.deep_reduce.proofs.{Results.{answer_as, overflow_as, overflow_on}, Sides.{left_beside, rewritten_front, paired_front, sides_free}, Steps.{two, undefined_answer}}
+use Rattle.deep_reduce.proofs.{Told.{answer_at, overflow_at, both_reduced}, Lacking.{lacks_as, result_lacks}, differences.reduce_sides.Goals.{After-take_sides-left}}
 use Rattle.reduce_walk.proofs.HeldRationals.{root_fits}
 use Rattle.deep_reduce.proofs.differences.reduce_sides.Goals as goal
 

@@ -1,6 +1,4 @@
-use Rattle.std.proofs.Common.{rules, inl, refl, arith}
-use Rattle.deep_reduce.proofs.{Shared.{tree_of, behind_first, front_at, front_without, children_of}, Parents.{first_out, both_out, parent_children}}
-use Rattle.reduce_walk.proofs.TakenOut.{parent_end}
+use Rattle.deep_reduce.proofs.{Shared.{rules, inl, refl, arith, tree_of, behind_first, front_at, front_without, children_of, parent_end}, Parents.{first_out, both_out, parent_children}}
 use Rattle.deep_reduce.proofs.differences.take_sides.Goals as goal
 
 pub take_child-right-requires-clause-within : goal.take_child-right-requires-clause-within

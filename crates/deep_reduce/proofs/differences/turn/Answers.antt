@@ -1,16 +1,13 @@
-use Rattle.std.proofs.Common.{false, rules, length, negsuc, ◌<◌, ◌+◌, ◌^◌, ◌≡◌, true, refl, sym, ap, ◌∙◌, subst, arith, IfErr}
-use Rattle.deep_reduce.proofs.Shared.{Connective, turned, turned_room, SpansTree, factors_room, IsCalmAtZero, whole_power_room, LacksBelow, counted, HoldsNode, has_undef, free_of, both_replaced_free}
-use Rattle.deep_reduce.proofs.Shared.{given_free, whole_is, minus_one_fraction, plain_value, is_reduced, is_whole_num, are_reduced, Tree, num, mult, neg, power, size, base_in, exponent_in}
-use Rattle.deep_reduce.proofs.Shared.{are_rationals, children_of, tree_of, behind_first, behind_new, front_same, front_end, front_after_two, gives_as, given_handed, given_told, given_other}
-use Rattle.deep_reduce.proofs.Shared.{given_rest, given_without, given_apart, without_root, number_reduced, Fraction, fraction_fits, Gives, forest, passed_on, rational, ratio_of, value_of}
-use Rattle.deep_reduce.proofs.{Shared.{refused_below}, Connected.{turning_lacks}, Lacking.{result_lacks}, Results.{answered, answer_as, overflow_as, overflowed_defined}, Sides.{IsPaired}}
-use Rattle.deep_reduce.proofs.{Sides.{apart_second, beside_new, new_first, new_second, reduced_front}, Steps.{neg_answer, neg_overflow}, Told.{answer_at, overflow_at, minus_one_value, power_told}}
-use Rattle.deep_reduce.proofs.{Told.{power_words, power_sides, two_reduced, inverse_no_half}, differences.turn.Goals.{In_ok-minus_one, In_ok-product-in-Sum}}
-use Rattle.node_bounds.proofs.{HeldFits.{product_fits}, NodeBits.{as_overflow, holds_as, only_undef, opposite_factors, power_node_fits, second_side}, NodeBytes.{opposite_calm, opposite_spans}}
-use Rattle.node_bounds.proofs.{NodeBytes.{opposite_fits, inverse_calm, inverse_spans}, PowerBytes.{needs_most}}
+use Rattle.deep_reduce.proofs.Shared.{false, rules, length, negsuc, ◌<◌, ◌+◌, ◌^◌, ◌≡◌, true, refl, sym, ap, ◌∙◌, subst, arith, IfErr, Connective, turned, turned_room, SpansTree, factors_room}
+use Rattle.deep_reduce.proofs.Shared.{IsCalmAtZero, whole_power_room, LacksBelow, counted, HoldsNode, has_undef, free_of, both_replaced_free, given_free, whole_is, minus_one_fraction, plain_value}
+use Rattle.deep_reduce.proofs.Shared.{is_reduced, is_whole_num, are_reduced, Tree, num, mult, neg, power, size, base_in, exponent_in, are_rationals, children_of, tree_of, behind_first, behind_new}
+use Rattle.deep_reduce.proofs.Shared.{front_same, front_end, front_after_two, gives_as, given_handed, given_told, given_other, given_rest, given_without, given_apart, without_root, number_reduced}
+use Rattle.deep_reduce.proofs.Shared.{Fraction, fraction_fits, Gives, forest, passed_on, rational, ratio_of, value_of, refused_below, product_fits, as_overflow, holds_as, only_undef, opposite_factors}
+use Rattle.deep_reduce.proofs.Shared.{power_node_fits, second_side, opposite_calm, opposite_spans, opposite_fits, inverse_calm, inverse_spans, needs_most, num_bytes, number_refused}
+use Rattle.deep_reduce.proofs.{Connected.{turning_lacks}, Lacking.{result_lacks}, Results.{answered, answer_as, overflow_as, overflowed_defined}, Sides.{IsPaired, apart_second, beside_new, new_first}}
+use Rattle.deep_reduce.proofs.{Sides.{new_second, reduced_front}, Steps.{neg_answer, neg_overflow}, Told.{answer_at, overflow_at, minus_one_value, power_told, power_words, power_sides, two_reduced}}
+use Rattle.deep_reduce.proofs.{Told.{inverse_no_half}, differences.turn.Goals.{In_ok-minus_one, In_ok-product-in-Sum}}
 use Rattle.reduce_walk.proofs.HeldRationals.{root_fits}
-use Rattle.calc_room.proofs.NumberBytes.{num_bytes}
-use Rattle.coefficients.proofs.Free.{number_refused}
 use Rattle.tree_handles.specs.declared.fault.NumberFault.TheVariants as fault
 use Rattle.calc_terms.specs.declared.kind.Kind.TheVariants as kind
 use Rattle.deep_reduce.proofs.differences.turn.Goals as goal

@@ -1,7 +1,6 @@
-use Rattle.std.proofs.Common.{rules, ap, sym, ◌∙◌, refl, arith, subst}
-use Rattle.deep_reduce.proofs.Shared.{Tree, count, is_add, power, SpansTree, passed_on, forest, free_of, base_in, exponent_in, are_reduced, IsSumHeld, addends_of_each, tree_of, IsSumAnswer}
-use Rattle.deep_reduce.proofs.Shared.{ChangesTree, changes_as, changes_last, changes_last_front, children_of, given_handed, given_told, hole_stays, KeepsSumBounds}
-use Rattle.deep_reduce.proofs.{Lacking.{exponent_lacks, exponent_spans}, Children.{exponent_told, exponent_set}, exponents.sum_exponent.Goals.{After-fill}}
+use Rattle.deep_reduce.proofs.Shared.{rules, ap, sym, ◌∙◌, refl, arith, subst, Tree, count, is_add, power, SpansTree, passed_on, forest, free_of, base_in, exponent_in, are_reduced, IsSumHeld}
+use Rattle.deep_reduce.proofs.Shared.{addends_of_each, tree_of, IsSumAnswer, ChangesTree, changes_as, changes_last, changes_last_front, children_of, given_handed, given_told, hole_stays}
+use Rattle.deep_reduce.proofs.{Shared.{KeepsSumBounds}, Lacking.{exponent_lacks, exponent_spans}, Children.{exponent_told, exponent_set}, exponents.sum_exponent.Goals.{After-fill}}
 use Rattle.deep_reduce.proofs.exponents.sum_exponent.Goals as goal
 
 pub reduce_sum-requires : goal.reduce_sum-requires

@@ -1,5 +1,4 @@
-use Rattle.std.proofs.Common.{sym, ◌∙◌}
-use Rattle.deep_reduce.proofs.Folded.{two_children}
+use Rattle.deep_reduce.proofs.{Shared.{sym, ◌∙◌}, Folded.{two_children}}
 use Rattle.deep_reduce.proofs.folding.both.Goals as goal
 
 pub returns-in_ok-right-in-Num : goal.returns-in_ok-right-in-Num

@@ -1,7 +1,6 @@
-use Rattle.std.proofs.Common.{◌≡◌, ap, sym, ◌∙◌, subst}
-use Rattle.deep_reduce.proofs.{Shared.{IsNodeAnswer, Trees, Tree, add_op, mul_op, num, root_kind, children_of, kind_of_root, seen, plain, tree_at, tree_of, forest, value_of}, Steps.{two}}
-use Rattle.deep_reduce.proofs.Folded.{calculated_is, difference_answered, difference_over, opposite_answered, opposite_over, product_answered, product_over_these, quotient_over, rational_fits}
-use Rattle.deep_reduce.proofs.{Folded.{some_answered, some_told, sum_answered, sum_over_these}, folding.folded.Goals.{After-kind}}
+use Rattle.deep_reduce.proofs.Shared.{◌≡◌, ap, sym, ◌∙◌, subst, IsNodeAnswer, Trees, Tree, add_op, mul_op, num, root_kind, children_of, kind_of_root, seen, plain, tree_at, tree_of, forest, value_of}
+use Rattle.deep_reduce.proofs.{Shared.{rational_fits}, Steps.{two}, Folded.{calculated_is, difference_answered, difference_over, opposite_answered, opposite_over, product_answered}}
+use Rattle.deep_reduce.proofs.{Folded.{product_over_these, quotient_over, some_answered, some_told, sum_answered, sum_over_these}, folding.folded.Goals.{After-kind}}
 use Rattle.deep_reduce.proofs.folding.folded.Goals as goal
 
 kind-is : (c : After-kind) → c.kind.result ≡ root_kind (tree_of c.args.tree.now c.args.pool.now)

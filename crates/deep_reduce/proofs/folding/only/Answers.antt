@@ -1,6 +1,5 @@
-use Rattle.std.proofs.Common.{◌≡◌, sym, ◌∙◌, subst}
+use Rattle.deep_reduce.proofs.{Shared.{◌≡◌, sym, ◌∙◌, subst, Tree, children_of, num, plain, tree_at, forest, value_of}, Folded.{only_child}}
 use Rattle.std.specs.Prelude.{IfSome}
-use Rattle.deep_reduce.proofs.{Shared.{Tree, children_of, num, plain, tree_at, forest, value_of}, Folded.{only_child}}
 use Rattle.deep_reduce.proofs.folding.only.Goals as goal
 
 pub returns : goal.returns

@@ -1,5 +1,4 @@
-use Rattle.std.proofs.Common.{◌≡◌, false, sym, ◌∙◌}
-use Rattle.deep_reduce.proofs.{Shared.{mul_op, is_zero_fraction, value_of}, Folded.{calculated_is, quotient_answered, rational_fits, some_told}}
+use Rattle.deep_reduce.proofs.{Shared.{◌≡◌, false, sym, ◌∙◌, mul_op, is_zero_fraction, value_of, rational_fits}, Folded.{calculated_is, quotient_answered, some_told}}
 use Rattle.deep_reduce.proofs.folding.quotient.Goals as goal
 
 pub returns : goal.returns

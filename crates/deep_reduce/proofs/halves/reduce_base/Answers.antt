@@ -1,7 +1,6 @@
-use Rattle.std.proofs.Common.{◌≡◌, false, rules, refl, sym, ap, ◌∙◌, subst}
-use Rattle.deep_reduce.proofs.Shared.{value, int_is_negative, IsFactorHeld, IsNoLargerThanRoot, SpansTree, forest, free_of, passed_on, is_reduced, Tree, is_root, power, exponent_in, argument_of}
-use Rattle.deep_reduce.proofs.{Shared.{IfRational, IsRootAnswer, tree_of, ChangesTree, changes_as, changes_last, changes_last_front, given_handed, given_told, hole_stays}, HalfPowers.{root_lacks}}
-use Rattle.deep_reduce.proofs.{Children.{base_told, base_set}, halves.reduce_base.Goals.{After-fill}}
+use Rattle.deep_reduce.proofs.Shared.{◌≡◌, false, rules, refl, sym, ap, ◌∙◌, subst, value, int_is_negative, IsFactorHeld, IsNoLargerThanRoot, SpansTree, forest, free_of, passed_on, is_reduced, Tree}
+use Rattle.deep_reduce.proofs.Shared.{is_root, power, exponent_in, argument_of, IfRational, IsRootAnswer, tree_of, ChangesTree, changes_as, changes_last, changes_last_front, given_handed, given_told}
+use Rattle.deep_reduce.proofs.{Shared.{hole_stays}, HalfPowers.{root_lacks}, Children.{base_told, base_set}, halves.reduce_base.Goals.{After-fill}}
 use Rattle.node_bounds.proofs.HeldRoots.{root_fits}
 use Rattle.deep_reduce.proofs.halves.reduce_base.Goals as goal
 

@@ -1,5 +1,4 @@
-use Rattle.std.proofs.Common.{arith}
-use Rattle.deep_reduce.proofs.Shared.{rational, ratio_of, released_free, number_refused, passed_on, behind_first, front_same, front_at, front_without, front_after, owned}
+use Rattle.deep_reduce.proofs.Shared.{arith, rational, ratio_of, released_free, number_refused, passed_on, behind_first, front_same, front_at, front_without, front_after, owned}
 use Rattle.tree_handles.specs.declared.fault.NumberFault.TheVariants as fault
 use Rattle.deep_reduce.proofs.nodes.put.Goals as goal
 

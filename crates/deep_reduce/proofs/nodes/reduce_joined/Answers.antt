@@ -1,10 +1,9 @@
-use Rattle.std.proofs.Common.{ℤ, rules, ◌≡◌, ◌+◌, ◌≤◌, ◌^◌, length, ap, ◌∙◌, sym, refl, subst, arith, IfErr}
-use Rattle.deep_reduce.proofs.Shared.{plain_value, Tree, count, num, whole_fraction, is_add, is_mult, tree_of, children_of, expression, seen, sum_words, KeepsSumBounds, LacksBelow, free_of, size}
-use Rattle.deep_reduce.proofs.{Shared.{joined_by, joined_room, Connective}, Connected.{empty_answer, neutral_told}, Lacking.{result_lacks}}
-use Rattle.deep_reduce.proofs.{Results.{answered, answer_as, overflowed_defined, with_facts}, Told.{sum_told, product_told}, nodes.reduce_joined.Goals.{After-children}}
-use Rattle.node_bounds.proofs.{HeldFits.{product_fits}, NodeBits.{as_overflow, holds_as}, NodeBytes.{some_factors}}
+use Rattle.deep_reduce.proofs.Shared.{ℤ, rules, ◌≡◌, ◌+◌, ◌≤◌, ◌^◌, length, ap, ◌∙◌, sym, refl, subst, arith, IfErr, plain_value, Tree, count, num, whole_fraction, is_add, is_mult, tree_of}
+use Rattle.deep_reduce.proofs.Shared.{children_of, expression, seen, sum_words, KeepsSumBounds, LacksBelow, free_of, size, joined_by, joined_room, Connective, product_fits, as_overflow, holds_as}
+use Rattle.deep_reduce.proofs.{Shared.{some_factors}, Connected.{empty_answer, neutral_told}, Lacking.{result_lacks}, Results.{answered, answer_as, overflowed_defined, with_facts}}
+use Rattle.deep_reduce.proofs.{Told.{sum_told, product_told}, nodes.reduce_joined.Goals.{After-children}}
+use Rattle.tree_handles.proofs.SmallLaws.{mult_is as product_words}
 use Rattle.deep_reduce.proofs.nodes.reduce_joined.Goals as goal
-use Rattle.product_reduce.proofs.Stepped.{mult_words as product_words}
 
 many : (c : After-children) → c.children.result ≡ count (children_of (tree_of c.args.node c.args.pool.now))
 many c = c.children.ensures.plain (expression c.id.ensures c.requires.stands c.requires.handed) ∙ ap (λ (t : Tree). count (children_of t)) (seen c.id.ensures c.requires.stands c.requires.handed)

@@ -1,13 +1,11 @@
-use Rattle.std.proofs.Common.{rules, subst, false, ◌≡◌, ◌^◌, ℕ, List, length, refl, sym, ◌∙◌, arith}
-use Rattle.deep_reduce.proofs.Shared.{IsNodeAnswer, plain_value, Tree, root_kind, tree_of, keeps_none, front_same, gives, represents_handed, kind_of_root, pow_pos, SpansTree, value, int_is_negative}
-use Rattle.deep_reduce.proofs.{Shared.{base_in, exponent_in, argument_of, IfRational, IsNoLargerThanRoot, children_of, free_of, sum_kind, product_kind, sum_words}, Folded.{number_needs}}
-use Rattle.deep_reduce.proofs.{Lacking.{result_lacks, power_result}, Results.{answered, answer_as, overflow_as, overflowed_defined, with_facts, span_facts}, Told.{power_kind, root_kind_is, neg_kind}}
-use Rattle.deep_reduce.proofs.Told.{sub_is, div_is, power_told, power_sides, IsRationalPower, rational_answer, rational_overflow, power_reduced, root_told, root_overflow, argument_reduced, leaf_told}
-use Rattle.deep_reduce.proofs.{Told.{node_fits}, nodes.reduce_node.Goals.{After-kind}}
-use Rattle.node_bounds.proofs.{HeldFits.{product_fits}, NodeBits.{as_overflow, power_node_fits, root_node_fits, measured_facts, holds_as}, NodeBytes.{sum_fits, factors_fit, power_fits, half_fits}}
-use Rattle.node_bounds.proofs.NodeBytes.{root_result, no_half_power, node_spans}
-use Rattle.radical_forms.proofs.Handed.{root_is}
-use Rattle.product_reduce.proofs.Stepped.{mult_words as product_words}
+use Rattle.deep_reduce.proofs.Shared.{rules, subst, false, ◌≡◌, ◌^◌, ℕ, List, length, refl, sym, ◌∙◌, arith, IsNodeAnswer, plain_value, Tree, root_kind, tree_of, keeps_none, front_same, gives}
+use Rattle.deep_reduce.proofs.Shared.{represents_handed, kind_of_root, pow_pos, SpansTree, value, int_is_negative, base_in, exponent_in, argument_of, IfRational, IsNoLargerThanRoot, children_of}
+use Rattle.deep_reduce.proofs.Shared.{free_of, sum_kind, product_kind, sum_words, product_fits, as_overflow, power_node_fits, root_node_fits, measured_facts, holds_as, factors_fit, root_result}
+use Rattle.deep_reduce.proofs.{Shared.{no_half_power, node_spans, root_is}, Folded.{number_needs}, Lacking.{result_lacks, power_result}, Results.{answered, answer_as, overflow_as, overflowed_defined}}
+use Rattle.deep_reduce.proofs.{Results.{with_facts, span_facts}, Told.{power_kind, root_kind_is, neg_kind, sub_is, div_is, power_told, power_sides, IsRationalPower, rational_answer}}
+use Rattle.deep_reduce.proofs.{Told.{rational_overflow, power_reduced, root_told, root_overflow, argument_reduced, leaf_told, node_fits}, nodes.reduce_node.Goals.{After-kind}}
+use Rattle.node_bounds.proofs.NodeBytes.{sum_fits, power_fits, half_fits}
+use Rattle.tree_handles.proofs.SmallLaws.{mult_is as product_words}
 use Rattle.deep_reduce.proofs.nodes.reduce_node.Goals as goal
 
 -- what the readers tell

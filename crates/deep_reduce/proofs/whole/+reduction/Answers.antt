@@ -1,22 +1,21 @@
-use Rattle.std.proofs.Common.{rules, ◌≡◌, ◌<◌, ◌+◌, ◌^◌, ℕ, length, ap, ◌∙◌, refl, sym, subst, arith, Option, IfSome, Err}
-use Rattle.deep_reduce.proofs.Shared.{Tree, Trees, add, count, is_mult, size, kind_of_root, product_kind, no_product_kind, if_map, passed_on, IsReducedProduct, IsReducedPower, IsSummed, joins_none}
-use Rattle.deep_reduce.proofs.Shared.{joins_then, IsHeldAsPowerOf, IsFactorHeld, raised_high, raised_low, IsCalmAtZero, IsJoinedFrom, whole_power_room, SpansTree, free_of, replaced_free, gives_itself}
-use Rattle.deep_reduce.proofs.Shared.{IsPairAt, base_in, exponent_in, are_reduced, is_whole_num, Rewrites, tree_of, children_of, keeps_none, keeps_after, behind_first, front_same, front_end}
-use Rattle.deep_reduce.proofs.Shared.{front_without, gives, gives_as, given_handed, given_told, represents_handed, changes_as, changes_free, changes_front, changes_last, changes_last_front}
-use Rattle.deep_reduce.proofs.{Shared.{children_told, front_again, hole_stays, KeepsProductBounds}, Arms.{is_finished, is_gathered, is_at, is_few, is_done, is_again, is_held, gathered_hands}}
-use Rattle.deep_reduce.proofs.{Arms.{any_fault, any_refusal, misfit_fault, rewritten_defined, is_bounded}, Children.{exponent_told, exponent_set, factor_set, gives_next, front_next, exponent_seen}}
-use Rattle.deep_reduce.proofs.{Children.{with_product, without_product, taken_falls, two_sides, handed_within}, Falls.{joint_falls, two_falls, next_two_falls, pairs_fall, product_falls, power_falls}}
-use Rattle.deep_reduce.proofs.{Falls.{rewritten_falls, powers_fall, ready_product_falls, exponent_falls, ready_power_falls, one_power_falls}, Finished.{product_of_powers, ready_product}}
-use Rattle.deep_reduce.proofs.{Finished.{transparent_children, ready_power, power_lifted, power_of_kind}, Lacking.{lacks_as, result_lacks, handed_on, joint_sum_lacks, joint_power_short}}
-use Rattle.deep_reduce.proofs.Lacking.{joint_at_spans, joint_ready, next_bytes, step_lacks, power_refused, power_result, ready_product as ready_for_product, ready_power as ready_for_power}
-use Rattle.deep_reduce.proofs.{Lacking.{ready_exponent, ready_part}, Measures.{few_factors, below_measure}, Opened.{opened, power_after, power_finished}, Rows.{IsPowerOf, none_reduced, next_power}}
-use Rattle.deep_reduce.proofs.{Rows.{next_within, next_of, next_told, next_reduced, all_reduced}, Settled.{joint_at, ready_joint, ready_summed, pair_joined, settled_less, settled_within}}
-use Rattle.deep_reduce.proofs.Settled.{less_gathered, less_next, gathered_product, some_pair, product_after, product_finished}
-use Rattle.node_bounds.proofs.{Clashes.{contrary}, HeldFits.{product_fits, powers_ready, part_ready, power_fits, exponent_ready, joint_exponents, joint_fits}, HeldRoots.{half_no_whole}}
-use Rattle.node_bounds.proofs.{JointBytes.{joint_lacks}, Rewritten.{is_rewritten}}
+use Rattle.deep_reduce.proofs.Shared.{rules, ◌≡◌, ◌<◌, ◌+◌, ◌^◌, ℕ, length, ap, ◌∙◌, refl, sym, subst, arith, Option, Tree, Trees, add, count, is_mult, size, kind_of_root, product_kind}
+use Rattle.deep_reduce.proofs.Shared.{no_product_kind, if_map, passed_on, IsReducedProduct, IsReducedPower, IsSummed, joins_none, joins_then, IsHeldAsPowerOf, IsFactorHeld, raised_high, raised_low}
+use Rattle.deep_reduce.proofs.Shared.{IsCalmAtZero, IsJoinedFrom, whole_power_room, SpansTree, free_of, replaced_free, gives_itself, IsPairAt, base_in, exponent_in, are_reduced, is_whole_num}
+use Rattle.deep_reduce.proofs.Shared.{Rewrites, tree_of, children_of, keeps_none, keeps_after, behind_first, front_same, front_end, front_without, gives, gives_as, given_handed, given_told}
+use Rattle.deep_reduce.proofs.Shared.{represents_handed, changes_as, changes_free, changes_front, changes_last, changes_last_front, children_told, front_again, hole_stays, KeepsProductBounds}
+use Rattle.deep_reduce.proofs.Shared.{contrary, product_fits, powers_ready, part_ready, exponent_ready, joint_exponents, joint_fits, half_no_whole, joint_lacks, is_rewritten, on_ok_after, fault_after}
+use Rattle.deep_reduce.proofs.Arms.{is_finished, is_gathered, is_at, is_few, is_done, is_again, is_held, gathered_hands, any_fault, any_refusal, misfit_fault, rewritten_defined, is_bounded}
+use Rattle.deep_reduce.proofs.Children.{exponent_told, exponent_set, factor_set, gives_next, front_next, exponent_seen, with_product, without_product, taken_falls, two_sides, handed_within}
+use Rattle.deep_reduce.proofs.Falls.{joint_falls, two_falls, next_two_falls, pairs_fall, product_falls, power_falls, rewritten_falls, powers_fall, ready_product_falls, exponent_falls}
+use Rattle.deep_reduce.proofs.{Falls.{ready_power_falls, one_power_falls}, Finished.{product_of_powers, ready_product, transparent_children, ready_power, power_lifted, power_of_kind}}
+use Rattle.deep_reduce.proofs.Lacking.{lacks_as, result_lacks, handed_on, joint_sum_lacks, joint_power_short, joint_at_spans, joint_ready, next_bytes, step_lacks, power_refused, power_result}
+use Rattle.deep_reduce.proofs.{Lacking.{ready_product as ready_for_product, ready_power as ready_for_power, ready_exponent, ready_part}, Measures.{few_factors, below_measure}}
+use Rattle.deep_reduce.proofs.{Opened.{opened, power_after, power_finished}, Rows.{IsPowerOf, none_reduced, next_power, next_within, next_of, next_told, next_reduced, all_reduced}, Settled.{joint_at}}
+use Rattle.deep_reduce.proofs.Settled.{ready_joint, ready_summed, pair_joined, settled_less, settled_within, less_gathered, less_next, gathered_product, some_pair, product_after, product_finished}
+use Rattle.std.proofs.Common.{IfSome, Err}
+use Rattle.node_bounds.proofs.HeldFits.{power_fits}
 use Rattle.calc_terms.specs.Trees.{power as power_tree}
-use Rattle.coefficients.proofs.Puttings.{on_ok_after, fault_after}
-use Rattle.product_reduce.proofs.Stepped.{mult_words as product_words}
+use Rattle.tree_handles.proofs.SmallLaws.{mult_is as product_words}
 use Rattle.tree_handles.specs.declared.fault.NumberFault.TheVariants as fault
 use Rattle.deep_reduce.proofs.whole.+reduction.Goals as goal
 

@@ -1,5 +1,4 @@
-use Rattle.dual_diff.proofs.{Shared.{refl, sym, ◌∙◌, subst, arith, name_of, IsDerivableExponent}, Shared.tree_of, Exponents.{power_derivable, derivable_exponent, absent_derivable}}
-use Rattle.dual_diff.proofs.Forms.{base_and_exponent}
+use Rattle.dual_diff.proofs.{Shared.{refl, sym, ◌∙◌, subst, arith, name_of, IsDerivableExponent, tree_of}, Exponents.{power_derivable, derivable_exponent, absent_derivable}, Forms.{base_and_exponent}}
 use Rattle.dual_diff.proofs.derivable.is_derivable_power.Goals as goal
 
 pub child_of-requires-clause-within : goal.child_of-requires-clause-within

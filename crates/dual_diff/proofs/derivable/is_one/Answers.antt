@@ -1,4 +1,4 @@
-use Rattle.dual_diff.proofs.Numbers.{told_one}
+use Rattle.calc_terms.proofs.SmallLaws.{told_one}
 use Rattle.dual_diff.proofs.derivable.is_one.Goals as goal
 
 pub returns : goal.returns

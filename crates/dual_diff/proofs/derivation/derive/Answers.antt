@@ -1,7 +1,5 @@
-use Rattle.tree_handles.proofs.Fronts.{front_end, front_same}
-use Rattle.dual_diff.proofs.Shared.{subst, forest}
+use Rattle.dual_diff.proofs.Shared.{front_end, front_same, subst, forest, KeepsFront}
 use Rattle.std.specs.Prelude.{[]}
-use Rattle.tree_handles.specs.Handed.{KeepsFront}
 use Rattle.dual_diff.proofs.derivation.derive.Goals as goal
 
 pub returns-clause-front : goal.returns-clause-front

@@ -1,5 +1,4 @@
-use Rattle.dual_diff.proofs.Shared.{arith, forest}
-use Rattle.tree_handles.proofs.Readings.{expression_children}
+use Rattle.dual_diff.proofs.Shared.{arith, forest, expression_children}
 use Rattle.dual_diff.proofs.reading.child_of.Goals as goal
 
 pub child_id-requires-clause-within : goal.child_id-requires-clause-within

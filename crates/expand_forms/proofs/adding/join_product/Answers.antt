@@ -2,7 +2,7 @@ use Rattle.expand_forms.proofs.Shared.{refl, rules, ◌≡◌, ◌<◌, ◌∙�
 use Rattle.expand_forms.proofs.Shared.{lists_at, term_tree, IsNoOverflow, term_bytes, Monomial, monomial_times, summand, IsPlace, IsSum, HasMonomial, coefficient_in, free_of, OfFull, gives_rest}
 use Rattle.expand_forms.proofs.Shared.{passed_on, children_of, nth, plain, Forest, Gives, KeepsFront, tree_of, tree_at, without_root, forest, behind_first, behind_new, front_after, front_after_one}
 use Rattle.expand_forms.proofs.Shared.{front_after_two, front_same, given_handed, given_other, given_rest, given_root, given_same, given_told, gives_as, given_free, expression, lists_behind}
-use Rattle.expand_forms.proofs.{Shared.{factors_most, monomial_times_monomial}, Sums.{sum_still}, Splits.{contradiction, total_fits}, Joins.{IsFoundAt, has_monomial, placed_behind, put_in, set_in}}
+use Rattle.expand_forms.proofs.{Shared.{factors_most, monomial_times_monomial, contradiction}, Sums.{sum_still}, Splits.{total_fits}, Joins.{IsFoundAt, has_monomial, placed_behind, put_in, set_in}}
 use Rattle.expand_forms.proofs.{Joins.{sum_read, term_read}, TermReadings.{beside, product_monomial}, adding.join_product.Given.{Over}, adding.join_product.Goals.{After-child-other, After-id-2}}
 use Rattle.expand_forms.proofs.adding.join_product.Goals.{In-Err, In-Ok, In_ok-product, In_ok-term-in-Err}
 use Rattle.tree_handles.specs.declared.fault.NumberFault.TheVariants as fault

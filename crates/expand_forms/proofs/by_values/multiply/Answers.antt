@@ -1,4 +1,4 @@
-use Rattle.expand_forms.proofs.{Shared.{list_as, list_product}, TermReadings.{if_ok_map}, ValueNodes.{turned_same}}
+use Rattle.expand_forms.proofs.{Shared.{list_as, list_product, if_ok_map}, ValueNodes.{turned_same}}
 use Rattle.expand_forms.proofs.by_values.multiply.Goals as goal
 
 pub returns-else-a-b : goal.returns-else-a-b

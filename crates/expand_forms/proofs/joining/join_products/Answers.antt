@@ -2,7 +2,8 @@ use Rattle.expand_forms.proofs.Shared.{rules, ◌+◌, ◌<◌, ◌∙◌, ◌++
 use Rattle.expand_forms.proofs.Shared.{free_of, OfFull, gives_rest, passed_on, full_as, IsExpression, plain, Forest, tree_of, tree_at, without_root, forest, behind_first, front_after_one}
 use Rattle.expand_forms.proofs.{Shared.{given_handed, given_rest, lists_listed, gathered_append, gathered_products, gathered_refl}, JoinLoops.{IsNextPart, IsNextTerm, joined_all, joined_lacks}}
 use Rattle.expand_forms.proofs.{JoinLoops.{joined_more, joined_none, next_part, next_term, part_few, part_held, place_read, terms_read}, Joins.{no_summands}, ListedTerms.{lists_beside}}
-use Rattle.expand_forms.proofs.{Rows.{is_nonzero, next_coefficient, rows_next}, TermReadings.{beside}, joining.join_products.Given.{Over}, joining.join_products.Goals.{After-coefficient-factor}}
+use Rattle.expand_forms.proofs.{Rows.{next_coefficient, rows_next}, TermReadings.{beside}, joining.join_products.Given.{Over}, joining.join_products.Goals.{After-coefficient-factor}}
+use Rattle.calc_terms.proofs.FractionFacts.{zero_test as is_nonzero}
 use Rattle.expand_forms.proofs.joining.join_products.Goals as goal
 
 here : (g : Over) (c : After-coefficient-factor g)

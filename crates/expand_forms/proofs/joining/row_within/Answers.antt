@@ -1,9 +1,9 @@
 use Rattle.expand_forms.proofs.Shared.{rules, ◌≡◌, ◌+◌, ◌∙◌, ◌∷◌, [], ap, refl, sym, subst, arith, ◌<◌, not_from_false, no_zero, Fraction, times, value_of, size, IsNoOverflow, sum_bytes, Monomial}
 use Rattle.expand_forms.proofs.Shared.{monomial_times, summand, row, HasMonomial, coefficient_in, free_of, OfFull, gives_rest, passed_on, full_as, IsExpression, plain, Forest, tree_of, tree_at}
-use Rattle.expand_forms.proofs.{Shared.{without_root, forest, behind_first, front_after_one, given_handed, given_rest, lists_listed, gathered_refl, monomial_times_monomial}, JoinLoops.{joined_none}}
-use Rattle.expand_forms.proofs.{JoinLoops.{IsNextPart, IsNextTerm, joined_all, joined_more, next_term, part_few, part_held, place_read, terms_read}, JoinRooms.{term_lacks}, ListedTerms.{lists_beside}}
-use Rattle.expand_forms.proofs.{Rows.{next_coefficient, product_nonzero, row_end, row_next}, Splits.{contradiction, first_fits}, TermReadings.{beside, term_monomial}, joining.row_within.Given.{Over}}
-use Rattle.expand_forms.proofs.joining.row_within.Goals.{After-term_id-other}
+use Rattle.expand_forms.proofs.Shared.{without_root, forest, behind_first, front_after_one, given_handed, given_rest, lists_listed, gathered_refl, monomial_times_monomial, contradiction}
+use Rattle.expand_forms.proofs.{JoinLoops.{joined_none, IsNextPart, IsNextTerm, joined_all, joined_more, next_term, part_few, part_held, place_read, terms_read}, JoinRooms.{term_lacks}}
+use Rattle.expand_forms.proofs.{ListedTerms.{lists_beside}, Rows.{next_coefficient, product_nonzero, row_end, row_next}, Splits.{first_fits}, TermReadings.{beside, term_monomial}}
+use Rattle.expand_forms.proofs.{joining.row_within.Given.{Over}, joining.row_within.Goals.{After-term_id-other}}
 use Rattle.expand_forms.proofs.joining.row_within.Goals as goal
 
 here : (g : Over) (c : After-term_id-other g)

@@ -1,4 +1,4 @@
-use Rattle.expand_forms.proofs.{Shared.{◌≡◌, ◌+◌, ◌∙◌, arith, sym, refl, Equal, nat_cmp, slice_cmp, plus, factor, IsRead, sum_fits}, TermReadings.{exponent_sum}, Splits.{contradiction, exponents_fit}}
+use Rattle.expand_forms.proofs.{Shared.{◌≡◌, ◌+◌, ◌∙◌, arith, sym, refl, Equal, nat_cmp, slice_cmp, plus, factor, IsRead, sum_fits, contradiction}, TermReadings.{exponent_sum}, Splits.{exponents_fit}}
 use Rattle.expand_forms.proofs.merging.first_of.Goals as goal
 
 pub returns-in_ok-add-in-Equal-clause-next : goal.returns-in_ok-add-in-Equal-clause-next

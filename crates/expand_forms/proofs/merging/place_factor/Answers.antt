@@ -1,4 +1,4 @@
-use Rattle.expand_forms.proofs.{Shared.{◌∙◌, sym, refl, gives_as}, TermReadings.{factor_one, factor_other, if_ok_map}}
+use Rattle.expand_forms.proofs.{Shared.{◌∙◌, sym, refl, gives_as, if_ok_map}, TermReadings.{factor_one, factor_other}}
 use Rattle.expand_forms.proofs.merging.place_factor.Goals as goal
 
 pub returns-then-is_one-clause-ok : goal.returns-then-is_one-clause-ok

@@ -1,5 +1,5 @@
-use Rattle.expand_forms.proofs.Shared.{rules, ◌<◌, ap, refl, arith, size, factor_bytes, free_of, refused_below, passed_on, forest, front_end, front_same, given_told, given_free}
-use Rattle.expand_forms.proofs.{AddedTrees.{adds_more, adds_none, adopts, can_adopt, node_free}, Lacks.{number_refused}}
+use Rattle.expand_forms.proofs.Shared.{rules, ◌<◌, ap, refl, arith, size, factor_bytes, free_of, refused_below, passed_on, forest, front_end, front_same, given_told, given_free, node_free}
+use Rattle.expand_forms.proofs.{Shared.{number_refused}, AddedTrees.{adds_more, adds_none, adopts, can_adopt}}
 use Rattle.expand_forms.proofs.merging.place_power.Goals as goal
 
 pub adopt-requires : goal.adopt-requires

@@ -1,6 +1,6 @@
 use Rattle.expand_forms.proofs.Shared.{expression, rules, ◌∙◌, ap, refl, sym, ◌<◌, if◌then◌else◌, value_of, Tree, mult, more, num, seen, number_bytes, led_by, free_of, gives_itself, passed_on}
 use Rattle.expand_forms.proofs.Shared.{eqb-sym, children_of, tree_of, behind_first, front_end, front_same, front_without, given_apart, given_handed, given_root, given_told, gives_as, apart}
-use Rattle.expand_forms.proofs.{Shared.{other_root, root_held}, AddedTrees.{led_last}, Lacks.{number_refused}, TermReadings.{mult_is}}
+use Rattle.expand_forms.proofs.{Shared.{other_root, root_held, mult_is, number_refused}, AddedTrees.{led_last}}
 use Rattle.expand_forms.proofs.monomials.led_by.Goals as goal
 
 pub is_written-requires-clause-expression : goal.is_written-requires-clause-expression

@@ -1,10 +1,10 @@
 use Rattle.expand_forms.proofs.Shared.{rules, ◌≡◌, ◌<◌, ◌+◌, ◌-◌, ◌∙◌, ℕ, ap, refl, sym, subst, arith, ◌≤◌, ◌*◌, length, AreExpanded, Tree, count, has_polynomial_root, mult, names, one_value}
 use Rattle.expand_forms.proofs.Shared.{expanded, product_of, polynomial_of, IsExpanded, gives_rest, kept_after, IsExpression, children_of, nth, plain, Forest, tree_at, without_root, forest}
 use Rattle.expand_forms.proofs.Shared.{behind_new, front_after_one, front_same, given_handed, given_rest, given_told, gives_as, node_bytes, sum_bytes, free_of, OfFull, passed_on, full_as, Polynomial}
-use Rattle.expand_forms.proofs.{Shared.{given_free, IsHeld, has_factors, multiplied}, NodeAnswers.{empty_product, next_product, product_expanded, product_from}, NodeParts.{few_factor, few_rest}}
-use Rattle.expand_forms.proofs.{NodeParts.{multiplied_expanded, multiplied_product}, NodeChildren.{expanded_nth}, Nodes.{from}, TermReadings.{beside}, Within.{IsWithin, within}}
-use Rattle.expand_forms.proofs.{Lacks.{number_refused}, NodeRooms.{expanded_from, rest_product, some_product}, NodeBits.{together_next}, node.place_products.Goals.{After-factor_id}}
-use Rattle.expansions.proofs.{FewTerms.{answer_few, answer_size}, TermBytes.{terms_rise}, TermCounts.{product_length}, TreeMonomials.{tree_monomials}, Held.{answer_held, held_product}}
+use Rattle.expand_forms.proofs.Shared.{given_free, IsHeld, has_factors, multiplied, number_refused, answer_few, answer_size, terms_rise, product_length, tree_monomials, answer_held, held_product}
+use Rattle.expand_forms.proofs.{NodeAnswers.{empty_product, next_product, product_expanded, product_from}, NodeParts.{few_factor, few_rest, multiplied_expanded, multiplied_product}}
+use Rattle.expand_forms.proofs.{NodeChildren.{expanded_nth}, Nodes.{from}, TermReadings.{beside}, Within.{IsWithin, within}, NodeRooms.{expanded_from, rest_product, some_product}}
+use Rattle.expand_forms.proofs.{NodeBits.{together_next}, node.place_products.Goals.{After-factor_id}}
 use Rattle.tree_handles.specs.declared.fault.NumberFault.TheVariants as fault
 use Rattle.expand_forms.proofs.node.place_products.Goals as goal
 

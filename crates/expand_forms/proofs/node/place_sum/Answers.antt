@@ -2,7 +2,7 @@ use Rattle.expand_forms.proofs.Shared.{rules, ◌∙◌, inl, ap, refl, sym, sub
 use Rattle.expand_forms.proofs.Shared.{gives_rest, gives_without, kept_after, root_ids, kids_of_last, IsExpression, children_of, plain, Forest, tree_at, without_root, forest, behind_new, front_after}
 use Rattle.expand_forms.proofs.Shared.{front_after_one, front_at, front_same, front_without, given_handed, given_other, given_rest, given_told, gives_as, handed_at, owned, HasFewTerms, node_bytes}
 use Rattle.expand_forms.proofs.Shared.{free_of, OfFull, passed_on, full_as, num_most, refused_below, given_free, value_of, IsHeld, IsNoOverflow, Polynomial, lists_none, has_parts, parts_of, total}
-use Rattle.expand_forms.proofs.{Shared.{few_none}, Expansions.{empty_sum, nothing_added, sum_same}, NodeParts.{total_parts}, TermReadings.{beside}, Lacks.{number_refused}}
+use Rattle.expand_forms.proofs.{Shared.{few_none, number_refused}, Expansions.{empty_sum, nothing_added, sum_same}, NodeParts.{total_parts}, TermReadings.{beside}}
 use Rattle.tree_handles.specs.declared.fault.NumberFault.TheVariants as fault
 use Rattle.expand_forms.proofs.node.place_sum.Goals as goal
 

@@ -1,5 +1,5 @@
 use Rattle.expand_forms.proofs.Shared.{◌≡◌, ◌∙◌, true, ap, refl, sym, subst, arith, IsExpanded, Tree, children_number, children_of, count, divisor_of, forest, has_polynomial_root, inverse, is_divisor}
-use Rattle.expand_forms.proofs.{Shared.{is_zero_fraction, nth, one_value, plain, tree_at, value_of}, Expansions.{one_nonzero}, NodeAnswers.{opposite_value}, NodeKinds.{many_children, quotient_node}}
+use Rattle.expand_forms.proofs.{Shared.{is_zero_fraction, nth, one_value, plain, tree_at, value_of, one_nonzero}, NodeAnswers.{opposite_value}, NodeKinds.{many_children, quotient_node}}
 use Rattle.expand_forms.proofs.{PowersOfSums.{divisor_expanded, ready_nth}, NodeParts.{factor_opposite, factor_other, factor_quotient, factor_sign, minus_nonzero}}
 use Rattle.expand_forms.proofs.parts.factor_at.Goals as goal
 

@@ -1,4 +1,4 @@
-use Rattle.expand_forms.proofs.{Shared.{◌∙◌, ap, is_zero_fraction, one_value}, Expansions.{one_nonzero}, NodeAnswers.{opposite_value}, NodeParts.{minus_nonzero}}
+use Rattle.expand_forms.proofs.{Shared.{◌∙◌, ap, is_zero_fraction, one_value, one_nonzero}, NodeAnswers.{opposite_value}, NodeParts.{minus_nonzero}}
 use Rattle.expand_forms.proofs.parts.sign_at.Goals as goal
 
 pub returns-then-at-eq0 : goal.returns-then-at-eq0

@@ -1,5 +1,5 @@
 use Rattle.expand_forms.proofs.Shared.{◌<◌, ◌+◌, ◌∙◌, length, refl, sym, ap, arith, eq-eqb, eqb-true, num, free_of, number_bytes, sum_bytes, passed_on, refusal_as, gives_as, front_end, front_same}
-use Rattle.expand_forms.proofs.{AddedTrees.{can_adopt, adopts, node_free}, Expansions.{zero_value}, PlacedTerms.{all_count, next_lacks, sum_more, sum_none, sum_one}, TermReadings.{if_ok_map}}
+use Rattle.expand_forms.proofs.{Shared.{if_ok_map, node_free, zero_value}, AddedTrees.{can_adopt, adopts}, PlacedTerms.{all_count, next_lacks, sum_more, sum_none, sum_one}}
 use Rattle.expansions.specs.Named.{names_of}
 use Rattle.expand_forms.proofs.placing.place_sum.Goals as goal
 

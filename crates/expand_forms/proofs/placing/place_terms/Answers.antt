@@ -1,5 +1,5 @@
 use Rattle.expand_forms.proofs.Shared.{◌∙◌, ap, refl, sym, subst, length, arith, HasFewTerms, Polynomial, gives_as, refusal_as, sum_tree, term_trees, each_named, few_normal, AreFine, are_fine}
-use Rattle.expand_forms.proofs.{Shared.{ordered_monomials, ordered_normal, terms_rise}, PlacedTerms.{named_length}, TermReadings.{if_ok_map}}
+use Rattle.expand_forms.proofs.{Shared.{ordered_monomials, ordered_normal, terms_rise, if_ok_map}, PlacedTerms.{named_length}}
 use Rattle.expansions.specs.Named.{names_of}
 use Rattle.expand_forms.proofs.placing.place_terms.Goals as goal
 

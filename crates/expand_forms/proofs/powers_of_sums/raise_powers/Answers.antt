@@ -1,7 +1,8 @@
 use Rattle.expand_forms.proofs.Shared.{◌∙◌, ◌≡◌, ◌<◌, ◌-◌, ◌+◌, ℕ, suc, false, ap, subst, sym, arith, IsExpression, OfFull, OfOverflow, Tree, Trees, expanded, plain, tree_at, children_number}
 use Rattle.expand_forms.proofs.Shared.{children_of, count, expression, forest, free_of, kept_same, most_bits, nth, passed_on, polynomial_of, seen, size, tree_of, full_as, IsOverReady}
 use Rattle.expand_forms.proofs.Shared.{has_power_of_sum, is_power_of_sum, MayLack, changes_after, changes_as, changes_free, changes_front, changes_last, changes_last_front, changes_none}
-use Rattle.expand_forms.proofs.{Shared.{children_told, front_again, keeps_after, live}, Nodes.{from}, PowersOfSums.{count_set, none_behind, one_more_behind, over_expanded, over_set, raised_behind}}
+use Rattle.expand_forms.proofs.{Shared.{children_told, front_again, keeps_after, live}, Nodes.{from}, PowersOfSums.{none_behind, one_more_behind, over_expanded, over_set, raised_behind}}
+use Rattle.tree_handles.proofs.SmallLaws.{replaced_count as count_set}
 use Rattle.expand_forms.proofs.{PowersOfSums.{set_children}, powers_of_sums.raise_powers.Goals.{After-child_id}}
 use Rattle.expand_forms.proofs.powers_of_sums.raise_powers.Goals as goal
 

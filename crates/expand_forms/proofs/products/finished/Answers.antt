@@ -1,6 +1,6 @@
 use Rattle.expand_forms.proofs.Shared.{rules, ◌≡◌, ◌≤◌, inl, sym, ap, ◌∙◌, refl, arith, Tree, count, num, only_child, only_owned, gives_itself, tree_of, children_of, behind_first, front_same}
 use Rattle.expand_forms.proofs.Shared.{front_at, front_end, front_put, front_without, front_after, given_root, given_handed, given_told, gives_as, owned, refusal_as, released_free, expression, seen}
-use Rattle.expand_forms.proofs.{Shared.{two_from, if_given}, Expansions.{more_sum, none_sum, one_sum, zero_value}, Sums.{sum_is}, Lacks.{number_refused}}
+use Rattle.expand_forms.proofs.{Shared.{two_from, if_given, zero_value, number_refused}, Expansions.{more_sum, none_sum, one_sum}, Sums.{sum_is}}
 use Rattle.expand_forms.proofs.products.finished.Goals as goal
 
 pub children-terms-requires-clause-live : goal.children-terms-requires-clause-live

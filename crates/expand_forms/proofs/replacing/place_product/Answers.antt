@@ -1,5 +1,5 @@
-use Rattle.expand_forms.proofs.Shared.{rules, ◌<◌, ◌+◌, ◌∙◌, length, refl, sym, arith, value_of, Monomial, term_bytes, free_of, passed_on, forest, front_end, front_same, AreRead}
-use Rattle.expand_forms.proofs.{AddedTrees.{adds_free, adopts, can_adopt, node_free}, Lacks.{number_refused}, PlacedFactors.{IsLed, IsPlaced, led_all, led_none, led_number}}
+use Rattle.expand_forms.proofs.Shared.{rules, ◌<◌, ◌+◌, ◌∙◌, length, refl, sym, arith, value_of, Monomial, term_bytes, free_of, passed_on, forest, front_end, front_same, AreRead, node_free}
+use Rattle.expand_forms.proofs.{Shared.{number_refused}, AddedTrees.{adds_free, adopts, can_adopt}, PlacedFactors.{IsLed, IsPlaced, led_all, led_none, led_number}}
 use Rattle.expand_forms.proofs.replacing.place_product.Goals.{In_ok-placed, Joined-not-is_one, then-not-is_one+in_ok-_number, else-not-is_one}
 use Rattle.expand_forms.proofs.replacing.place_product.Goals as goal
 

@@ -1,5 +1,4 @@
-use Rattle.line_text.proofs.{Shared.{◌≡◌, ◌+◌, ◌*◌, ◌≤◌, ◌++◌, length, nodes_in, tree_at, forest, WholeText, written}, Walks.IsWalk}
-use Rattle.std.proofs.Common.{vec_capacity}
+use Rattle.line_text.proofs.{Shared.{◌≡◌, ◌+◌, ◌*◌, ◌≤◌, ◌++◌, length, nodes_in, tree_at, forest, WholeText, written, vec_capacity}, Walks.{IsWalk}}
 use Rattle.line_text.proofs.writing.write_nodes.Given as goal
 
 abbrev pub invariant-loop-rest : goal.invariant-loop-rest

@@ -1,5 +1,4 @@
-use Rattle.std.proofs.Common.{◌≡◌, ◌+◌, ◌-◌, Ok, length, map, take}
-use Rattle.linear_solve.proofs.Shared.{cleared, others, each, entries_of}
+use Rattle.linear_solve.proofs.Shared.{◌≡◌, ◌+◌, ◌-◌, Ok, length, map, take, cleared, others, each, entries_of}
 use Rattle.linear_solve.proofs.elimination.cleared_others.Given as goal
 
 abbrev pub invariant-loop-place : goal.invariant-loop-place

@@ -1,5 +1,4 @@
-use Rattle.std.proofs.Common.{◌≡◌, Ok, length, map, take}
-use Rattle.linear_solve.proofs.Shared.{cleared_pivot, each, entries_of, pivot_of}
+use Rattle.linear_solve.proofs.Shared.{◌≡◌, Ok, length, map, take, cleared_pivot, each, entries_of, pivot_of}
 use Rattle.linear_solve.proofs.elimination.cleared_pivots.Given as goal
 
 abbrev pub invariant-loop-other : goal.invariant-loop-other

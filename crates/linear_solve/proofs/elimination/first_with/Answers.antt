@@ -1,6 +1,4 @@
-use Rattle.std.proofs.Common.{◌∙◌, sym}
-use Rattle.std.specs.Prelude.{not}
-use Rattle.linear_solve.proofs.{Shared.{is_zero_fraction, entry, entries_of}, RowLists.{position-map}}
+use Rattle.linear_solve.proofs.{Shared.{◌∙◌, sym, not, is_zero_fraction, entry, entries_of}, RowLists.{position-map}}
 use Rattle.linear_solve.proofs.elimination.first_with.Goals as goal
 
 pub returns : goal.returns

@@ -1,5 +1,4 @@
-use Rattle.std.proofs.Common.{map, subst, arith}
-use Rattle.linear_solve.proofs.Shared.{CalmChecks-append, CalmChecks, states, name_of, equation_at, misfit_of, row_checks, side_checks, side_of, plain, tree_at, forest}
+use Rattle.linear_solve.proofs.Shared.{map, subst, arith, CalmChecks-append, CalmChecks, states, name_of, equation_at, misfit_of, row_checks, side_checks, side_of, plain, tree_at, forest}
 use Rattle.linear_solve.proofs.{CheckCounts.{both_sides, left_side}, Walks.{handed_on, overflow_as, stops_after, stops_as}}
 use Rattle.linear_solve.specs.declared.fault.SolveFault.TheVariants as fault
 use Rattle.linear_solve.proofs.equations.difference_row.Goals as goal

@@ -1,8 +1,7 @@
-use Rattle.std.proofs.Common.{◌≡◌, ◌<◌, ◌+◌, length, map, get_or, sym, ap, subst, ◌∙◌, arith}
-use Rattle.linear_solve.proofs.Shared.{length-map, All-get_or, CalmChecks-append, CalmChecks, states, name_of, IsLinearIn, equation_at, equation_checks, equations_in, side_checks, entries_of}
-use Rattle.linear_solve.proofs.{Shared.{misfit_of, forest}, EquationRows.{all_equations, broken_equation, equation_here, equations_long, next_equation}, CheckCounts.{all_side_checks, first_checks}}
-use Rattle.linear_solve.proofs.{CheckCounts.{next_side_checks, side_checks_stop, side_checks_within}, RowLists.{mapped_push}, Theorem.{difference_long, no_equation}}
-use Rattle.linear_solve.proofs.Walks.{handed_on, overflow_as, stops_after}
+use Rattle.linear_solve.proofs.Shared.{◌≡◌, ◌<◌, ◌+◌, length, map, get_or, sym, ap, subst, ◌∙◌, arith, length-map, All-get_or, CalmChecks-append, CalmChecks, states, name_of, IsLinearIn, equation_at}
+use Rattle.linear_solve.proofs.{Shared.{equation_checks, equations_in, side_checks, entries_of, misfit_of, forest}, EquationRows.{all_equations, broken_equation, equation_here, equations_long}}
+use Rattle.linear_solve.proofs.{EquationRows.{next_equation}, CheckCounts.{all_side_checks, first_checks, next_side_checks, side_checks_stop, side_checks_within}, RowLists.{mapped_push}}
+use Rattle.linear_solve.proofs.{Theorem.{difference_long, no_equation}, Walks.{handed_on, overflow_as, stops_after}}
 use Rattle.linear_solve.proofs.equations.equation_rows.Goals as goal
 
 pub difference_row-requires-clause-left_linear : goal.difference_row-requires-clause-left_linear

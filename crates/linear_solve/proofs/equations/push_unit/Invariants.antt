@@ -1,5 +1,4 @@
-use Rattle.std.proofs.Common.{◌≡◌, ◌++◌, take}
-use Rattle.linear_solve.proofs.Shared.{unit, entries_of}
+use Rattle.linear_solve.proofs.Shared.{◌≡◌, ◌++◌, take, unit, entries_of}
 use Rattle.linear_solve.proofs.equations.push_unit.Given as goal
 
 abbrev pub invariant-loop-at : goal.invariant-loop-at

@@ -1,5 +1,4 @@
-use Rattle.std.proofs.Common.{◌≡◌, length, take}
-use Rattle.linear_solve.proofs.Shared.{entries_of}
+use Rattle.linear_solve.proofs.Shared.{◌≡◌, length, take, entries_of}
 use Rattle.linear_solve.proofs.equations.widened.Given as goal
 
 abbrev pub invariant-loop-at : goal.invariant-loop-at

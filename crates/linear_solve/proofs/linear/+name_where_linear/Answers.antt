@@ -1,6 +1,5 @@
-use Rattle.std.proofs.Common.{◌≡◌, ◌<◌, ◌≤◌, sym, ap, ◌∙◌, arith, None, Some}
-use Rattle.linear_solve.proofs.{Shared.{count, nodes, name_where_linear, children_of, nth, plain, tree_at, forest}, LinearNodes.{asked, asked_all, asked_clash, asked_end, asked_next, asked_none}}
-use Rattle.linear_solve.proofs.TreeLists.{fewer_nodes, listed}
+use Rattle.linear_solve.proofs.{Shared.{◌≡◌, ◌<◌, ◌≤◌, sym, ap, ◌∙◌, arith, None, Some, count, nodes, name_where_linear, children_of, nth, plain, tree_at, forest}, LinearNodes.{asked, asked_all}}
+use Rattle.linear_solve.proofs.{LinearNodes.{asked_clash, asked_end, asked_next, asked_none}, TreeLists.{fewer_nodes, listed}}
 use Rattle.linear_solve.proofs.linear.+name_where_linear.Goals as goal
 
 pub loop-at-init : goal.loop-at-init

@@ -1,5 +1,4 @@
-use Rattle.std.proofs.Common.{◌≡◌, drop}
-use Rattle.linear_solve.proofs.{Shared.{nodes, name_where_linear, plain, children_of, tree_at, forest}, LinearNodes.{asked}, TreeLists.{listed}}
+use Rattle.linear_solve.proofs.{Shared.{◌≡◌, drop, nodes, name_where_linear, plain, children_of, tree_at, forest}, LinearNodes.{asked}, TreeLists.{listed}}
 use Rattle.linear_solve.proofs.linear.+name_where_linear.Given as goal
 
 abbrev pub decreases-name_where_linear : goal.decreases-name_where_linear

@@ -1,8 +1,5 @@
-use Rattle.std.proofs.Common.{◌≡◌, ◌<◌, ◌≤◌, ◌+◌, ℕ, suc, List, sym, ap, ◌∙◌, subst, arith}
-use Rattle.std.specs.Prelude.{Contains}
-use Rattle.calc_terms.specs.Trees.{count, names, nodes}
-use Rattle.tree_handles.specs.{Expressions.{children_of, plain}, Inside.{tree_at}, Standing.{forest}}
-use Rattle.linear_solve.proofs.{TreeLists.{fewer_nodes}, RisingLemmas.{first_names, first_names-all, first_names-in, first_names-next, includes_as, includes_both, includes_wider, names_below}}
+use Rattle.linear_solve.proofs.{Shared.{◌≡◌, ◌<◌, ◌≤◌, ◌+◌, ℕ, suc, List, sym, ap, ◌∙◌, subst, arith, Contains, count, names, nodes, children_of, plain, tree_at, forest}, TreeLists.{fewer_nodes}}
+use Rattle.linear_solve.proofs.RisingLemmas.{first_names, first_names-all, first_names-in, first_names-next, includes_as, includes_both, includes_wider, names_below}
 use Rattle.linear_solve.proofs.side_names.+include_names.Goals as goal
 
 pub returns-then-is_symbol-clause-included : goal.returns-then-is_symbol-clause-included

@@ -1,8 +1,4 @@
-use Rattle.std.proofs.Common.{true}
-use Rattle.calc_terms.specs.Trees.{nodes}
-use Rattle.linear_solve.specs.{Listed.{names_listed}, RisingNames.{Includes, Rises}}
-use Rattle.tree_handles.specs.{Expressions.{children_of, plain}, Inside.{tree_at}, Standing.{forest}}
-use Rattle.linear_solve.proofs.RisingLemmas.{first_names}
+use Rattle.linear_solve.proofs.{Shared.{true, nodes, names_listed, Includes, Rises, children_of, plain, tree_at, forest}, RisingLemmas.{first_names}}
 use Rattle.linear_solve.proofs.side_names.+include_names.Given as goal
 
 abbrev pub decreases-include_names : goal.decreases-include_names

@@ -1,6 +1,4 @@
-use Rattle.std.proofs.Common.{◌≡◌, length, map, take}
-use Rattle.calc_terms.specs.Leaf.{name_of}
-use Rattle.linear_solve.specs.Listed.{names_listed}
+use Rattle.linear_solve.proofs.Shared.{◌≡◌, length, map, take, name_of, names_listed}
 use Rattle.linear_solve.proofs.side_names.in_array.Given as goal
 
 abbrev pub invariant-loop-at : goal.invariant-loop-at

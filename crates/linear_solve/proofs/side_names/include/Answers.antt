@@ -1,9 +1,6 @@
-use Rattle.std.proofs.{Common.{◌≡◌, ◌<◌, ◌≤◌, ℕ, List, [], ◌∷◌, true, false, sym, ◌∙◌, subst, ap, arith, length}, lemmas.Bool.{eqb-true}, lemmas.List.{length-map}}
-use Rattle.std.proofs.{lemmas.List.Sums.{prefix_len-le-length}, Math.Dec.{eqb}}
-use Rattle.calc_terms.specs.Leaf.{name_of}
-use Rattle.linear_solve.specs.{Listed.{names_listed}, RisingNames.{Includes, Rises, is_before}, declared.side_names.Listed.{Listed}}
-use Rattle.std.specs.{List.{list_any, prefix_len}, Str.{bytes_eq}}
-use Rattle.linear_solve.proofs.RisingLemmas.{includes_new, includes_none, includes_there, listed_any, listed_none, listed_with, rises_with}
+use Rattle.linear_solve.proofs.Shared.{◌≡◌, ◌<◌, ◌≤◌, ℕ, List, [], ◌∷◌, true, false, sym, ◌∙◌, subst, ap, arith, length, eqb-true, length-map, prefix_len-le-length, eqb, name_of, names_listed}
+use Rattle.linear_solve.proofs.{Shared.{Includes, Rises, is_before, Listed, list_any, prefix_len, bytes_eq}, RisingLemmas.{includes_new, includes_none, includes_there, listed_any, listed_none}}
+use Rattle.linear_solve.proofs.RisingLemmas.{listed_with, rises_with}
 use Rattle.linear_solve.proofs.side_names.include.Goals as goal
 
 less : (n : ℕ) → n ≤ 6 → eqb n 6 ≡ false → n < 6

@@ -1,8 +1,5 @@
-use Rattle.std.proofs.{Common.{◌≡◌, ◌+◌, ◌++◌, [], ◌∷◌, ℕ, suc, List, take, sym, ap, ◌∙◌, subst, arith}, Math.Seq.{take-suc}}
-use Rattle.std.specs.Prelude.{Contains}
-use Rattle.linear_solve.specs.RisingNames.{names_at}
-use Rattle.tree_handles.specs.Standing.{forest}
-use Rattle.linear_solve.proofs.RisingLemmas.{includes_as, includes_both, includes_wider, names_at-in, names_at-push}
+use Rattle.linear_solve.proofs.{Shared.{◌≡◌, ◌+◌, ◌++◌, [], ◌∷◌, ℕ, suc, List, take, sym, ap, ◌∙◌, subst, arith, take-suc, Contains, names_at, forest}, RisingLemmas.{includes_as, includes_both}}
+use Rattle.linear_solve.proofs.RisingLemmas.{includes_wider, names_at-in, names_at-push}
 use Rattle.linear_solve.proofs.side_names.include_all.Goals as goal
 
 pub returns-then-not-include_names-clause-included : goal.returns-then-not-include_names-clause-included

@@ -1,6 +1,4 @@
-use Rattle.std.proofs.Common.{take, true}
-use Rattle.linear_solve.specs.{Listed.{names_listed}, RisingNames.{Includes, Rises, names_at}}
-use Rattle.tree_handles.specs.Standing.{forest}
+use Rattle.linear_solve.proofs.Shared.{take, true, names_listed, Includes, Rises, names_at, forest}
 use Rattle.linear_solve.proofs.side_names.include_all.Given as goal
 
 abbrev pub invariant-loop-at : goal.invariant-loop-at

@@ -1,6 +1,4 @@
-use Rattle.std.proofs.Common.{sym, ◌∙◌}
-use Rattle.tree_handles.specs.{Expressions.{plain}, Inside.{tree_at}, Standing.{forest}}
-use Rattle.linear_solve.proofs.RisingLemmas.{no_symbol}
+use Rattle.linear_solve.proofs.{Shared.{sym, ◌∙◌, plain, tree_at, forest}, RisingLemmas.{no_symbol}}
 use Rattle.linear_solve.proofs.side_names.is_symbol.Goals as goal
 
 pub returns-in-Sym : goal.returns-in-Sym

@@ -1,6 +1,4 @@
-use Rattle.std.proofs.{Common.{List, subst, true, false}, lemmas.List.Elements.{Contains-append_left}}
-use Rattle.linear_solve.specs.{Listed.{names_listed}, RisingNames.{Includes, names_at}, declared.side_names.Listed.{Listed}}
-use Rattle.tree_handles.specs.Standing.{forest}
+use Rattle.linear_solve.proofs.Shared.{List, subst, true, false, Contains-append_left, names_listed, Includes, names_at, Listed, forest}
 use Rattle.linear_solve.proofs.RisingLemmas.{includes_both, includes_wider, names_are, names_over}
 use Rattle.linear_solve.proofs.side_names.names_in.Goals as goal
 

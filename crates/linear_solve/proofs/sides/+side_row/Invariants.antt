@@ -1,5 +1,4 @@
-use Rattle.std.proofs.Common.{map}
-use Rattle.linear_solve.proofs.{Shared.{CalmChecks, states, name_of, nodes, side_told, plain, tree_at, forest}, CheckCounts.{child_checks}, Walks.{AreMade}}
+use Rattle.linear_solve.proofs.{Shared.{map, CalmChecks, states, name_of, nodes, side_told, plain, tree_at, forest}, CheckCounts.{child_checks}, Walks.{AreMade}}
 use Rattle.linear_solve.proofs.sides.+side_row.Given as goal
 
 abbrev pub decreases-side_row : goal.decreases-side_row

@@ -1,6 +1,5 @@
-use Rattle.std.proofs.Common.{◌≡◌, map, refl, sym, ap, ◌∙◌}
-use Rattle.linear_solve.proofs.Shared.{name_of, Tree, num, symbol, mult, root_kind, one_fraction, zero_fraction, Names, bare_row, constant_row, plain, tree_at, forest}
-use Rattle.linear_solve.proofs.Entries.{one_value, zero_value}
+use Rattle.linear_solve.proofs.Shared.{◌≡◌, map, refl, sym, ap, ◌∙◌, name_of, Tree, num, symbol, mult, root_kind, one_fraction, zero_fraction, Names, bare_row, constant_row, plain, tree_at, forest}
+use Rattle.linear_solve.proofs.Shared.{one_value, zero_value}
 use Rattle.calc_terms.specs.declared.kind.Kind.TheVariants as kind
 use Rattle.linear_solve.proofs.sides.bare_row.Goals as goal
 

@@ -1,5 +1,4 @@
-use Rattle.std.proofs.Common.{◌≡◌, length, map, take}
-use Rattle.linear_solve.proofs.Shared.{forms_of, form_told, pivot_of}
+use Rattle.linear_solve.proofs.Shared.{◌≡◌, length, map, take, forms_of, form_told, pivot_of}
 use Rattle.linear_solve.proofs.solution.lines.Given as goal
 
 abbrev pub invariant-loop-at : goal.invariant-loop-at

@@ -1,6 +1,5 @@
-use Rattle.std.proofs.Common.{◌++◌, ◌∷◌, [], if◌then◌else◌, sym, ◌∙◌, zero-add}
-use Rattle.std.specs.Prelude.{◌==◌}
-use Rattle.linear_solve.proofs.{Shared.{map-range_with_len_more, negative, zero_fraction, entry, entries_of}, Entries.{longer}}
+use Rattle.linear_solve.proofs.{Shared.{◌++◌, ◌∷◌, [], sym, ◌∙◌, zero-add, ◌==◌, map-range_with_len_more, negative, zero_fraction, entry, entries_of}, Entries.{longer}}
+use Rattle.std.proofs.Common.{if◌then◌else◌}
 use Rattle.linear_solve.proofs.solution.multiples.Goals as goal
 
 pub loop-at-preserved : goal.loop-at-preserved

@@ -1,6 +1,5 @@
-use Rattle.std.proofs.Common.{◌≡◌, length, map, if◌then◌else◌}
-use Rattle.std.specs.Prelude.{◌==◌}
-use Rattle.linear_solve.proofs.Shared.{range_with_len, negative, zero_fraction, entry, entries_of}
+use Rattle.linear_solve.proofs.Shared.{◌≡◌, length, map, ◌==◌, range_with_len, negative, zero_fraction, entry, entries_of}
+use Rattle.std.proofs.Common.{if◌then◌else◌}
 use Rattle.linear_solve.proofs.solution.multiples.Given as goal
 
 abbrev pub invariant-loop-at : goal.invariant-loop-at

@@ -1,5 +1,4 @@
-use Rattle.std.proofs.Common.{◌<◌, [], sym, ap, ◌∙◌, map, length, arith}
-use Rattle.linear_solve.proofs.{Shared.{length-map, zero_test, is_zero_fraction, entry, entries_of}, RowLists.{read_row}, Steps.{first_has}}
+use Rattle.linear_solve.proofs.{Shared.{◌<◌, [], sym, ap, ◌∙◌, map, length, arith, length-map, zero_test, is_zero_fraction, entry, entries_of}, RowLists.{read_row}, Steps.{first_has}}
 use Rattle.linear_solve.proofs.solution.solution_by.Goals as goal
 
 pub multipliers-requires-clause-constant : goal.multipliers-requires-clause-constant

@@ -1,5 +1,4 @@
-use Rattle.std.proofs.Common.{sym, ap, ◌∙◌, subst}
-use Rattle.linear_solve.proofs.{Shared.{CalmChecks, StopsAfter, states, name_checks, rows_told}, Walks.{handed_on}, CheckCounts.{name_checks_all}}
+use Rattle.linear_solve.proofs.{Shared.{sym, ap, ◌∙◌, subst, CalmChecks, StopsAfter, states, name_checks, rows_told}, Walks.{handed_on}, CheckCounts.{name_checks_all}}
 use Rattle.linear_solve.specs.declared.fault.SolveFault.TheVariants as fault
 use Rattle.linear_solve.proofs.solving.solve_rows.Goals as goal
 

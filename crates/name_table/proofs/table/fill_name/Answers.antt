@@ -1,7 +1,6 @@
 -- The tree of the table is put in, and then its depth is asked.
-use Rattle.name_table.proofs.Shared.{arith, ◌≡◌, sym, subst, ◌<◌, Bool, true, false, State, Tree, err_from_is_err_and, depth, tree_at, name_of, free_of, IsExpression, plain, tree_of}
-use Rattle.name_table.proofs.{Shared.{forest}, Fillings.{beside_expression, filled_one, new_expression, put_in, new_tree, refused_deep, refused_lacks}}
-use Rattle.name_table.proofs.table.fill_name.Goals.{Else-is_deeper}
+use Rattle.name_table.proofs.Shared.{arith, ◌≡◌, sym, subst, ◌<◌, Bool, true, false, State, Tree, err_from_is_err_and, depth, tree_at, name_of, free_of, IsExpression, plain, tree_of, forest}
+use Rattle.name_table.proofs.{Fillings.{beside_expression, filled_one, new_expression, put_in, new_tree, refused_deep, refused_lacks}, table.fill_name.Goals.{Else-is_deeper}}
 use Rattle.name_table.proofs.table.fill_name.Goals as goal
 
 pub replace_name-requires-clause-expression : goal.replace_name-requires-clause-expression

@@ -1,8 +1,6 @@
 -- Where the name does not occur the tree stays.
-use Rattle.name_table.proofs.Shared.{◌≡◌, Bool, true, false, arith, tree_at, name_of, free_of, plain, tree_of, forest, given_handed}
-use Rattle.name_table.proofs.{Fillings.{filled_one, put_in}, table.fill_next.Goals.Then-not-holds_name}
-use Rattle.tree_handles.proofs.Seen.{expression}
-use Rattle.tree_walks.proofs.{Absent.absent, Filling.IsDone}
+use Rattle.name_table.proofs.{Shared.{◌≡◌, Bool, true, false, arith, tree_at, name_of, free_of, plain, tree_of, forest, given_handed, expression, absent, IsDone}, Fillings.{filled_one, put_in}}
+use Rattle.name_table.proofs.table.fill_next.Goals.{Then-not-holds_name}
 use Rattle.name_table.proofs.table.fill_next.Goals as goal
 
 pub holds_name-requires-clause-expression : goal.holds_name-requires-clause-expression

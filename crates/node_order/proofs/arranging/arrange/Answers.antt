@@ -1,7 +1,6 @@
 use Rattle.node_order.proofs.Shared.{◌≡◌, ℕ, ◌+◌, ◌<◌, List, take, length, get_or, refl, sym, ap, ◌∙◌, subst, arith, IsPermutation, swap, range_with_len, IsPermutation-sym, IsPermutation-trans}
 use Rattle.node_order.proofs.{Shared.{picked_behind, root_ids, Forest, arity, kids, rest_trees, root_tree, put, forest, keeps_none, keeps_after}, Arranged.{arranged, arranged_root, arranged_siblings}}
-use Rattle.node_order.proofs.{Arranged.{arranged_swap, arranged_start, all_placed}, Inverses.{AreInverse, IsSought, inverse_start, inverse_swap, sought}, Places.{placed_swap}}
-use Rattle.node_order.proofs.SortLaws.{handle_kids}
+use Rattle.node_order.proofs.{Arranged.{arranged_swap, arranged_start, all_placed}, Inverses.{AreInverse, IsSought, inverse_start, inverse_swap, sought}, Places.{placed_swap}, SortLaws.{handle_kids}}
 use Rattle.node_order.proofs.arranging.arrange.Goals as goal
 
 pub loop-at-init : goal.loop-at-init

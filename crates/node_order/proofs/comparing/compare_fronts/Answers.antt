@@ -1,6 +1,5 @@
-use Rattle.node_order.proofs.Shared.{rules, length, arith, sym, ap, ◌∙◌, kind_of_payload, Tree, Shows, forest, tree_cmp}
-use Rattle.node_order.proofs.Pairs.{IsPending, equal_roots, unequal_roots, open_start, open_decided, open_few, open_behind, pending_done, run_left, pending_next}
-use Rattle.node_order.proofs.comparing.compare_fronts.Goals.{After-behind-pairs}
+use Rattle.node_order.proofs.{Shared.{rules, length, arith, sym, ap, ◌∙◌, kind_of_payload, Tree, Shows, forest, tree_cmp}, Pairs.{IsPending, equal_roots, unequal_roots, open_start, open_decided}}
+use Rattle.node_order.proofs.{Pairs.{open_few, open_behind, pending_done, run_left, pending_next}, comparing.compare_fronts.Goals.{After-behind-pairs}}
 use Rattle.node_order.proofs.comparing.compare_fronts.Goals as goal
 
 pub loop-left-init : goal.loop-left-init

@@ -1,5 +1,4 @@
-use Rattle.node_pool.proofs.{Shared.{arith, refl}, Fields.kind_is}
-use Rattle.std.specs.Prelude.{None, Some}
+use Rattle.node_pool.proofs.{Shared.{arith, refl, None, Some}, Fields.{kind_is}}
 use Rattle.node_pool.proofs.node.kind_in.Goals as goal
 
 pub returns-in-Some : goal.returns-in-Some

@@ -1,5 +1,5 @@
-use Rattle.node_pool.proofs.{Shared.{◌+◌, ◌∙◌, ap, sym, arith, payload_of, payload_bytes, put, put-nil}, Sizes.size_leaf, Puts.node_put}
-use Rattle.calc_terms.specs.declared.leaf.Leaf.{Leaf}
+use Rattle.node_pool.proofs.{Shared.{◌+◌, ◌∙◌, ap, sym, arith, payload_of, payload_bytes, put, put-nil, Leaf}, Puts.{node_put}}
+use Rattle.calc_terms.proofs.Sizes.{payload_least as size_leaf}
 use Rattle.node_pool.proofs.node.write_node.Goals as goal
 
 pub returns-in-Num-clause-put : goal.returns-in-Num-clause-put

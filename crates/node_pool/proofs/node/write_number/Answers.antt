@@ -1,6 +1,5 @@
 use Rattle.node_pool.proofs.Shared.{Bool, false, ap, arith, length, refl, sym, true, ℕ, ℤ, ◌+◌, ◌∙◌, ◌≡◌, ◌≤◌, ◌<◌, ◌^◌, FitsSigned, unsigned_abs, w64, w128, cast_signed, cast_unsigned, ints}
-use Rattle.node_pool.proofs.Shared.{to_z-of_z, size_by_form, low_bytes, number_bytes, rational, has_short_form, ratio_of, Ratio, length-low_bytes, short_parts, put, length-put}
-use Rattle.calc_terms.specs.declared.kind.Kind.TheVariants.{Num}
+use Rattle.node_pool.proofs.Shared.{to_z-of_z, size_by_form, low_bytes, number_bytes, rational, has_short_form, ratio_of, Ratio, length-low_bytes, short_parts, put, length-put, Num}
 use Rattle.node_pool.proofs.node.write_number.Goals as goal
 
 wide : (z : ℤ) → unsigned_abs z < 2 ^ 127 → FitsSigned w128 z

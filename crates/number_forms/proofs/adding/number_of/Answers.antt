@@ -1,7 +1,8 @@
 use Rattle.number_forms.proofs.Shared.{◌≡◌, ◌≤◌, inl, sym, ap, ◌∙◌, refl, arith, subst, ◌<◌, pos, value, IsNumberOver, Tree, count, num, root_size, gives_itself, tree_of, children_of, behind_first}
 use Rattle.number_forms.proofs.Shared.{front_same, front_at, front_end, front_put, front_without, front_after, given_root, given_handed, given_told, gives_as, owned, num_most, value_of, free_of}
 use Rattle.number_forms.proofs.{Shared.{refused_below, released_free, expression, seen, only_child, only_owned}, LastSums.{sum_is}, Shaped.{zero_sum, one_sum, more_sum, zero_number_of, two_from}}
-use Rattle.number_forms.proofs.{TermTrees.{if_given, whole_is}, Rooms.{refusal_as}, adding.number_of.Goals.{After-children-terms}}
+use Rattle.number_forms.proofs.{TermTrees.{if_given}, Rooms.{refusal_as}, adding.number_of.Goals.{After-children-terms}}
+use Rattle.surd_terms.proofs.Rationals.{whole_value as whole_is}
 use Rattle.number_forms.proofs.adding.number_of.Goals as goal
 
 pub returns-then-terms-eq0-clause-room : goal.returns-then-terms-eq0-clause-room

@@ -1,9 +1,6 @@
-use Rattle.number_forms.proofs.Shared.{◌≡◌, ◌≢◌, ℕ, ◌≤◌, [], ◌∷◌, sym, ap, ◌∙◌, Result, arith, value, tree_of, term_of, first_misfit, inverting_calculations, Surd, Overflow}
-use Rattle.number_forms.proofs.{InverseSteps.{only_term, both_terms, apart_terms, one_inverse, two_inverse}, Placings.{rational_classes, rational_radicand}}
+use Rattle.number_forms.proofs.Shared.{◌≡◌, ◌≢◌, ℕ, ◌≤◌, [], ◌∷◌, sym, ap, ◌∙◌, Result, arith, value, tree_of, term_of, first_misfit, inverting_calculations, Surd, Overflow, Terms, misfit_of}
+use Rattle.number_forms.proofs.{Shared.{passed_result}, InverseSteps.{only_term, both_terms, apart_terms, one_inverse, two_inverse}, Placings.{rational_classes, rational_radicand}}
 use Rattle.number_forms.proofs.inverting.inverse_terms.Goals.{After-inverse, After-nth_term-second}
-use Rattle.number_forms.specs.declared.inverting.Terms.{Terms}
-use Rattle.surd_terms.specs.Calculations.{misfit_of}
-use Rattle.tree_handles.proofs.Outcomes.{passed_result}
 use Rattle.number_forms.proofs.inverting.inverse_terms.Goals as goal
 
 two : (n : ℕ) → 1 ≤ n → n ≤ 2 → n ≢ 1 → n ≡ 2

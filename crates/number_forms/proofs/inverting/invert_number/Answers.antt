@@ -1,7 +1,8 @@
 use Rattle.number_forms.proofs.Shared.{◌≡◌, ◌+◌, ℕ, refl, sym, ap, ◌∙◌, subst, arith, value, classes, size, num_least, tree_of, free_of, building, Gives, without_root, forest, behind_first}
 use Rattle.number_forms.proofs.Shared.{front_same, front_at, front_without, front_after, owned, gives_as, given_told, passed_on, released_free, LacksRoom, inverse_need, IsInverseOf, LacksInverse}
 use Rattle.number_forms.proofs.{Shared.{InverseOverflows, OfOverflow, OfFull, OnlyLacksLongForm}, InverseBits.{inverse_no_larger}, WithinBits.{inverse_within}}
-use Rattle.number_forms.proofs.{Placings.{free_before, number_alone, refused}, InverseSteps.{none_to_make, too_wide, has_inverse, no_inverse, lacks_inverse, rational_inverse}}
+use Rattle.number_forms.proofs.{Placings.{number_alone, refused}, InverseSteps.{none_to_make, too_wide, has_inverse, no_inverse, lacks_inverse, rational_inverse}}
+use Rattle.tree_handles.proofs.SmallLaws.{grown_free as free_before}
 use Rattle.number_forms.proofs.{Rooms.{inverse_lacks, inverse_spans}, inverting.invert_number.Goals.{After-release-2, In_err-placed, In_ok-placed}}
 use Rattle.tree_handles.specs.declared.fault.NumberFault.TheVariants as fault
 use Rattle.number_forms.proofs.inverting.invert_number.Goals as goal

@@ -1,5 +1,4 @@
-use Rattle.number_forms.proofs.{Shared.{ap, sym}, Placings.{if_tree}}
-use Rattle.number_forms.specs.Inverses.{tree_of_terms}
+use Rattle.number_forms.proofs.{Shared.{ap, sym, tree_of_terms}, Placings.{if_tree}}
 use Rattle.number_forms.proofs.inverting.place_inverse.Goals as goal
 
 pub returns-in-One-clause-ok : goal.returns-in-One-clause-ok

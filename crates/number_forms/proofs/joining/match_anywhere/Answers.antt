@@ -1,5 +1,5 @@
 use Rattle.number_forms.proofs.Shared.{◌≡◌, ℕ, false, refl, sym, ap, ◌∙◌, arith, below_more, length_push, are_alike, count, term_of, plain, children_of, nth, tree_at, forest, JoinOverflows, passed_on}
-use Rattle.number_forms.proofs.{Children.{IsNextChild, left_more, next_child, none_left, few_children}, ByKind.{children_number}, Joined.{apart_each}}
+use Rattle.number_forms.proofs.{Shared.{children_number}, Children.{IsNextChild, left_more, next_child, none_left, few_children}, Joined.{apart_each}}
 use Rattle.number_forms.proofs.{SquareFreeSums.{read_apart, read_joined, read_parts}, SumChanges.{term_of_sum}, Overflows.{join_overflow}, joining.match_anywhere.Goals.{In-Some}}
 use Rattle.calc_algebra.specs.Numbers.{term_of as term_of_tree}
 use Rattle.surd_terms.specs.declared.sums.Joined.TheVariants as joined

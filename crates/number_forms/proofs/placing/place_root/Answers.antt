@@ -1,5 +1,6 @@
 use Rattle.number_forms.proofs.Shared.{◌≡◌, ℕ, pos, Err, ◌+◌, [], ◌∷◌, ap, sym, ◌∙◌, front_after_one, Fraction, whole_fraction, num, root, root_size, behind_new, front_same, given_handed}
-use Rattle.number_forms.proofs.{Shared.{given_told, given_rest, free_of, Full, building, taking, passed_on}, Placings.{free_before, taken, lacking}, Rooms.{refusal_as}, TermTrees.{if_given}}
+use Rattle.number_forms.proofs.{Shared.{given_told, given_rest, free_of, Full, building, taking, passed_on}, Placings.{taken, lacking}, Rooms.{refusal_as}, TermTrees.{if_given}}
+use Rattle.tree_handles.proofs.SmallLaws.{grown_free as free_before}
 use Rattle.number_forms.proofs.placing.place_root.Goals.{In_ok-rational}
 use Rattle.number_forms.proofs.placing.place_root.Goals as goal
 

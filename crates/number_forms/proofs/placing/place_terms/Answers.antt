@@ -1,5 +1,6 @@
 use Rattle.number_forms.proofs.Shared.{◌≡◌, ◌<◌, ◌+◌, ◌*◌, ◌∙◌, length, refl, sym, ap, arith, pos, count, eq-eqb, eqb-true, num, free_of, front_end, front_same, gives_as, passed_on, trees_of}
-use Rattle.number_forms.proofs.{ListedTerms.{count_trees, no_tree_of, one_tree_of, sum_tree_of}, Placings.{if_tree}, Planted.{adopts, can_adopt, node_free}, TermTrees.{if_gives, whole_is}}
+use Rattle.number_forms.proofs.{ListedTerms.{count_trees, no_tree_of, one_tree_of, sum_tree_of}, Placings.{if_tree}, Planted.{adopts, can_adopt, node_free}, TermTrees.{if_gives}}
+use Rattle.surd_terms.proofs.Rationals.{whole_value as whole_is}
 use Rattle.number_forms.proofs.placing.place_terms.Goals.{In_ok-placed}
 use Rattle.number_forms.proofs.placing.place_terms.Goals as goal
 

@@ -1,5 +1,5 @@
 use Rattle.number_forms.proofs.Shared.{◌≡◌, ℕ, ◌+◌, ◌++◌, ◌∷◌, [], ◌&&◌, length, not, nat_lt, refl, sym, ap, ◌∙◌, arith, length_push, is_below_all, is_term, terms_of, are_alike, Term, trees_from}
-use Rattle.number_forms.proofs.{Shared.{term_of, plain, children_of, tree_at, forest}, ByKind.{children_number}, Children.{IsNextChild, left_more, next_child, none_left}}
+use Rattle.number_forms.proofs.{Shared.{term_of, plain, children_of, tree_at, forest, children_number}, Children.{IsNextChild, left_more, next_child, none_left}}
 use Rattle.number_forms.proofs.{Rising.{below_next, not_below, below_end, nth_term}, recognize.is_below_rest.Goals.{In-Some}}
 use Rattle.calc_algebra.specs.Numbers.{term_of as term_of_tree}
 use Rattle.number_forms.proofs.recognize.is_below_rest.Goals as goal

@@ -1,5 +1,5 @@
 use Rattle.number_forms.proofs.Shared.{◌≡◌, ◌<◌, Some, sym, ap, ◌∙◌, subst, arith, true, slice_get, is_number, is_term, value, classes, Tree, add, count, plain, children_of, tree_at, forest}
-use Rattle.number_forms.proofs.{Shared.{term_test}, ByKind.{add_by_kind, sum_classes, children_number}, Shaped.{added_number, nth_of_terms, nth_is_term}, TermTrees.{single_term}}
+use Rattle.number_forms.proofs.{Shared.{term_test, children_number}, ByKind.{add_by_kind, sum_classes}, Shaped.{added_number, nth_of_terms, nth_is_term}, TermTrees.{single_term}}
 use Rattle.calc_algebra.specs.Numbers.{term_of as term_of_tree}
 use Rattle.number_forms.proofs.term.nth_term.Goals as goal
 

@@ -1,41 +1,14 @@
 -- The slot is lent for the call of `Slot::open`, and comes back.
-use Rattle.std.proofs.{Common.{ℕ, [], ◌∷◌, ◌++◌, refl, w32}, raw_atomic.Walks.{proved}}
-use base.Fraction.{full_share}
-use base.Logic.{id⊢}
-use base.Fml.{ftrue, fsep, flft, flent, fex}
-use mir.Syntax.{named}
-use mir.Val.{vptr}
-use prog.Wp.{WpFn}
-use types.SemTy.{Body}
-use types.Kit.{‵, raw, ◌⊛◌, some, later, prop, ◌$◌, ◌∵◌, !, qed, done, move, keep, drop, use1, use2, use3, split, join, fsplit, fjoin, fpack, pick, await, regoal, suffices, group}
-use types.Run.{of_opd, addr, stop, no_more, and_then, returns, enter}
-use types.ByLocal.{alloc_all, pass_all, free_all, look_at, get, through, sets, lands_as}
-use types.Tokens.{lft_new, lft_end}
-use contract.Monad.{fact}
-use contract.Running.{tables}
-use denote.Builtin.{u32, RawPtr}
-use denote.Exit.{yes}
-use denote.Laws.{Is, shows}
-use denote.Lend.{lends_ref, ref_back}
-use denote.Memory.{mem, part_at}
-use denote.Plain.{uint_Lawful, uint_vals, uint_Tells}
-use denote.RattleType.{owns}
-use denote.RawPtr.{Ptr, block_ptr, rawptr_vals, rawptr_Tells, in_a_block}
-use denote.Ref.{MutRef}
-use denote.Signature.{plain}
-use denote.Steps.{nothing, heard, peeks}
-use denote.Triple.Call.{calls_at}
-use denote.Triple.Clauses.{lasts}
-use denote.Triple.Spec.{triple_of}
-use denote.Triple.Table.{framed}
-use denote.Triple.Walked.{Stays, walk_of, stay_dropped, Goes-dropped, ends_at}
-use Rattle.std_heap.specs.contracts.Global as HP
-use Rattle.std_heap.proofs.Handle.{heap_val, heap_Tells}
-use Rattle.poincare_c.specs.{Owned.{holds_session}, Slots.{Opens}, declared.slot.Slot.{Slot}, contracts.slot.Slot.{the_row}}
-use Rattle.poincare_c.specs.contracts.slot.Slot.open as g
-use Rattle.poincare_c.proofs.slot.Slot.open.Met.{met}
-use Rattle.poincare_c.specs.contracts.exports.poincare_open as f
+use Rattle.poincare_c.proofs.Shared.{ℕ, [], ◌∷◌, ◌++◌, refl, w32, proved, full_share, id⊢, ftrue, fsep, flft, flent, fex, named, vptr, WpFn, Body, ‵, raw, ◌⊛◌, some, later, prop, ◌$◌, ◌∵◌, !, qed}
+use Rattle.poincare_c.proofs.Shared.{done, move, keep, drop, use1, use2, use3, split, join, fsplit, fjoin, fpack, pick, await, regoal, suffices, group, of_opd, addr, stop, no_more, and_then, returns}
+use Rattle.poincare_c.proofs.Shared.{enter, alloc_all, pass_all, free_all, look_at, get, through, sets, lands_as, lft_new, lft_end, fact, tables, u32, RawPtr, yes, Is, shows, lends_ref, ref_back, mem}
+use Rattle.poincare_c.proofs.Shared.{part_at, uint_Lawful, uint_vals, uint_Tells, owns, Ptr, block_ptr, rawptr_vals, rawptr_Tells, in_a_block, MutRef, plain, nothing, heard, peeks, calls_at, lasts}
+use Rattle.poincare_c.proofs.{Shared.{triple_of, framed, Stays, walk_of, stay_dropped, Goes-dropped, ends_at, heap_val, heap_Tells, holds_session, Opens, Slot}, slot.Slot.open.Met.{met}}
 use Rattle.poincare_c.proofs.exports.poincare_open.Statement.{statement}
+use Rattle.poincare_c.specs.contracts.slot.Slot.{the_row}
+use Rattle.std_heap.specs.contracts.Global as HP
+use Rattle.poincare_c.specs.contracts.slot.Slot.open as g
+use Rattle.poincare_c.specs.contracts.exports.poincare_open as f
 use Rattle.poincare_c.proofs.exports.poincare_open.Code as code
 
 abbrev stayed : Stays f.ended.signature.params f.ended.kept

@@ -1,35 +1,15 @@
 -- A closed slot is written to the room.
-use Rattle.std.proofs.{Common.{List, [], ◌∷◌, ◌++◌, refl}, raw_atomic.Walks.{proved}}
-use base.Fraction.{full_share}
-use base.Logic.{id⊢}
-use base.Fml.{ftrue, fsep, fex}
-use mir.Val.{Val, vunit}
-use prog.Wp.{WpFn}
-use types.Kit.{‵, raw, ◌⊛◌, some, later, prop, ◌$◌, ◌∵◌, !, qed, done, move, keep, drop, use1, use2, split, join, fjoin, fpack, feq_i, pick, await, regoal, suffices, group}
-use types.Run.{init, assigns, of_opd, unit_lit, stop, no_more, returns, enter}
-use types.ByLocal.{alloc_all, pass_all, free_all, look_at, get, through, sets, lands_as}
-use contract.Monad.{fact}
-use contract.Running.{tables}
-use denote.Builtin.{RawPtr}
-use denote.Exit.{yes}
-use denote.Laws.{Is, shows}
-use denote.Memory.{part_at, part_of, cell_at}
-use denote.RawPtr.{Ptr, room_at, block_ptr, rawptr_vals, rawptr_Tells, in_a_block}
-use denote.Signature.{plain}
-use denote.Steps.{nothing, heard, peeks}
-use denote.Struct.Loose as loose
-use denote.Triple.Call.{calls_at}
-use denote.Triple.Clauses.{lasts}
-use denote.Triple.Entry.{on_entry}
-use denote.Triple.Spec.{triple_of}
-use denote.Triple.Table.{framed}
-use denote.Triple.Walked.{Stays, walk_of, stay_dropped, Goes-dropped, ends_at}
-use Rattle.poincare_c.specs.{Owned.{holds_stopper}, Slots.{IsNewStopper}, declared.stopper_slot.StopperSlot.{StopperSlot}, contracts.stopper_slot.StopperSlot.{the_row, the_type}}
-use Rattle.poincare_c.proofs.stopper_slot.StopperSlot.TheLaws.{mir as slot_mir, the_loose}
-use Rattle.poincare_c.specs.contracts.stopper_slot.StopperSlot.new as g
-use Rattle.poincare_c.proofs.stopper_slot.StopperSlot.new.Met.{met}
-use Rattle.poincare_c.specs.contracts.exports.poincare_stopper_init as f
+use Rattle.poincare_c.proofs.Shared.{List, [], ◌∷◌, ◌++◌, refl, proved, full_share, id⊢, ftrue, fsep, fex, Val, vunit, WpFn, ‵, raw, ◌⊛◌, some, later, prop, ◌$◌, ◌∵◌, !, qed, done, move, keep, drop}
+use Rattle.poincare_c.proofs.Shared.{use1, use2, split, join, fjoin, fpack, feq_i, pick, await, regoal, suffices, group, init, assigns, of_opd, unit_lit, stop, no_more, returns, enter, alloc_all}
+use Rattle.poincare_c.proofs.Shared.{pass_all, free_all, look_at, get, through, sets, lands_as, fact, tables, RawPtr, yes, Is, shows, part_at, cell_at, Ptr, room_at, block_ptr, rawptr_vals}
+use Rattle.poincare_c.proofs.Shared.{rawptr_Tells, in_a_block, plain, nothing, heard, peeks, calls_at, lasts, on_entry, triple_of, framed, Stays, walk_of, stay_dropped, Goes-dropped, ends_at}
+use Rattle.poincare_c.proofs.{Shared.{holds_stopper, IsNewStopper, StopperSlot}, stopper_slot.StopperSlot.TheLaws.{mir as slot_mir, the_loose}, stopper_slot.StopperSlot.new.Met.{met}}
 use Rattle.poincare_c.proofs.exports.poincare_stopper_init.Statement.{statement}
+use denote.Memory.{part_of}
+use Rattle.poincare_c.specs.contracts.stopper_slot.StopperSlot.{the_row, the_type}
+use denote.Struct.Loose as loose
+use Rattle.poincare_c.specs.contracts.stopper_slot.StopperSlot.new as g
+use Rattle.poincare_c.specs.contracts.exports.poincare_stopper_init as f
 use Rattle.poincare_c.proofs.exports.poincare_stopper_init.Code as code
 
 abbrev stayed : Stays f.ended.signature.params f.ended.kept

@@ -1,41 +1,14 @@
 -- The slot is lent for the call of `Slot::text`, and comes back.
-use Rattle.std.proofs.{Common.{ℕ, List, [], ◌∷◌, ◌++◌, refl, w32}, raw_atomic.Walks.{proved}}
-use base.Fraction.{full_share}
-use base.Logic.{id⊢}
-use base.Fml.{ftrue, fsep, flft, flent, fex}
-use mir.Syntax.{named}
-use mir.Val.{vptr}
-use prog.Wp.{WpFn}
-use types.SemTy.{Body}
-use types.Kit.{‵, raw, ◌⊛◌, some, later, prop, ◌$◌, ◌∵◌, !, qed, done, move, keep, drop, use1, use2, use3, split, join, fsplit, fjoin, fpack, feq_l, pick, await, regoal, suffices, group}
-use types.Run.{of_opd, addr, stop, from, fld, hop, no_more, and_then, returns, enter}
-use types.ByLocal.{alloc_all, pass_all, free_all, look_at, look_in_at, get, get_in, through, sets, lands_as}
-use types.Part.{agg, sub, whole}
-use types.Tokens.{lft_new, lft_end}
-use contract.Monad.{fact}
-use contract.Running.{tables}
-use denote.Builtin.{u8, u32, usize, RawPtr}
-use denote.Exit.{yes}
-use denote.Laws.{Is, shows}
-use denote.Lend.{lends_ref, ref_back}
-use denote.Memory.{mem, part_at}
-use denote.Plain.{uint_Lawful}
-use denote.RattleType.{owns}
-use denote.RawPtr.{Ptr, block_ptr, rawptr_vals, rawptr_Tells, in_a_block}
-use denote.Ref.{MutRef, mut_vals, mut_Tells}
-use denote.Signature.{plain}
-use denote.Slice.{MutSlice, mut_slice_vals, mut_slice_Tells}
-use denote.Steps.{nothing, heard, peeks}
-use denote.Triple.Call.{calls_at}
-use denote.Triple.Clauses.{lasts}
-use denote.Triple.Spec.{triple_of}
-use denote.Triple.Table.{framed}
-use denote.Triple.Walked.{Stays, walk_of, stay_dropped, gave_slice, Goes-gave_slice, gave_ref, Goes-dropped, Goes-gave_ref, ends_at}
-use Rattle.poincare_c.specs.{Owned.{holds_session}, Slots.{TextIn}, declared.slot.Slot.{Slot}, contracts.slot.Slot.{the_row}}
-use Rattle.poincare_c.specs.contracts.slot.Slot.text as g
-use Rattle.poincare_c.proofs.slot.Slot.text.Met.{met}
-use Rattle.poincare_c.specs.contracts.exports.poincare_text as f
+use Rattle.poincare_c.proofs.Shared.{ℕ, List, [], ◌∷◌, ◌++◌, refl, w32, proved, full_share, id⊢, ftrue, fsep, flft, flent, fex, named, vptr, WpFn, Body, ‵, raw, ◌⊛◌, some, later, prop, ◌$◌, ◌∵◌, ! }
+use Rattle.poincare_c.proofs.Shared.{qed, done, move, keep, drop, use1, use2, use3, split, join, fsplit, fjoin, fpack, feq_l, pick, await, regoal, suffices, group, of_opd, addr, stop, from, fld, hop}
+use Rattle.poincare_c.proofs.Shared.{no_more, and_then, returns, enter, alloc_all, pass_all, free_all, look_at, look_in_at, get, get_in, through, sets, lands_as, agg, sub, whole, lft_new, lft_end}
+use Rattle.poincare_c.proofs.Shared.{fact, tables, u8, u32, usize, RawPtr, yes, Is, shows, lends_ref, ref_back, mem, part_at, uint_Lawful, owns, Ptr, block_ptr, rawptr_vals, rawptr_Tells, in_a_block}
+use Rattle.poincare_c.proofs.Shared.{MutRef, mut_vals, mut_Tells, plain, MutSlice, mut_slice_vals, mut_slice_Tells, nothing, heard, peeks, calls_at, lasts, triple_of, framed, Stays, walk_of}
+use Rattle.poincare_c.proofs.{Shared.{stay_dropped, gave_slice, Goes-gave_slice, gave_ref, Goes-dropped, Goes-gave_ref, ends_at, holds_session, TextIn, Slot}, slot.Slot.text.Met.{met}}
 use Rattle.poincare_c.proofs.exports.poincare_text.Statement.{statement}
+use Rattle.poincare_c.specs.contracts.slot.Slot.{the_row}
+use Rattle.poincare_c.specs.contracts.slot.Slot.text as g
+use Rattle.poincare_c.specs.contracts.exports.poincare_text as f
 use Rattle.poincare_c.proofs.exports.poincare_text.Code as code
 
 abbrev stayed : Stays f.ended.signature.params f.ended.kept

@@ -1,5 +1,4 @@
-use Rattle.std.proofs.Common.{◌∷◌, []}
-use Rattle.poincare_run.proofs.Shared.{on_err_weaker, AppendsPart-after, stops_later}
+use Rattle.poincare_run.proofs.Shared.{◌∷◌, [], on_err_weaker, AppendsPart-after, stops_later}
 use Rattle.poincare_run.proofs.dialog.write_line.Goals as goal
 
 pub returns-clause-part : goal.returns-clause-part

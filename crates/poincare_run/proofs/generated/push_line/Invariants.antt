@@ -1,5 +1,4 @@
-use Rattle.std.proofs.Common.{◌≡◌, ◌++◌, take}
-use Rattle.poincare_run.proofs.Shared.{with_digits}
+use Rattle.poincare_run.proofs.Shared.{◌≡◌, ◌++◌, take, with_digits}
 use Rattle.poincare_run.proofs.generated.push_line.Given as goal
 
 -- the bytes so far stand behind the lines

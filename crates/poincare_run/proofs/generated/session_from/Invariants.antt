@@ -1,5 +1,4 @@
-use Rattle.std.proofs.Common.{◌≡◌, ◌<◌}
-use Rattle.poincare_run.proofs.Shared.{first_lines, seed}
+use Rattle.poincare_run.proofs.Shared.{◌≡◌, ◌<◌, first_lines, seed}
 use Rattle.poincare_run.proofs.generated.session_from.Given as goal
 
 -- the first lines are made, and this is the seed of the last one

@@ -1,5 +1,4 @@
-use Rattle.std.proofs.Common.{refl}
-use Rattle.poincare_run.proofs.StatusLemmas.{early_too, nothing_stops, summed_ends}
+use Rattle.poincare_run.proofs.{Shared.{refl}, StatusLemmas.{early_too, nothing_stops, summed_ends}}
 use Rattle.poincare_run.proofs.top.answer.Goals as goal
 
 pub returns-in-Some-clause-ends : goal.returns-in-Some-clause-ends

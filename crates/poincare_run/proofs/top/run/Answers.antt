@@ -1,8 +1,6 @@
-use Rattle.std.proofs.Common.{◌≡◌, ◌∙◌, ◌⊎◌, [], ◌∷◌, Contains, Some, map, sym, ap, subst}
-use Rattle.poincare_run.proofs.{Shared.{option_map, Seen, beginning_of, beginning_with, begun, place_of}, StatusLemmas.{nothing_read, not_there, begins_at, is_status, is_no_memory, no_usage, early}}
-use Rattle.poincare_run.proofs.StatusLemmas.{all_read_if, read_in_part_if, written_in_part_if, limit_reached_if, summed_up_if, summed_up_in_part_if, unread_if, within_limit_if, read_stops, reads_calm}
-use Rattle.poincare_run.proofs.StatusLemmas.{write_stops, writes_calm, stopped_rose}
-use Rattle.breakers.specs.Watch.{states}
+use Rattle.poincare_run.proofs.Shared.{◌≡◌, ◌∙◌, ◌⊎◌, [], ◌∷◌, Contains, Some, map, sym, ap, subst, option_map, Seen, beginning_of, beginning_with, begun, place_of, states}
+use Rattle.poincare_run.proofs.StatusLemmas.{nothing_read, not_there, begins_at, is_status, is_no_memory, no_usage, early, all_read_if, read_in_part_if, written_in_part_if, limit_reached_if}
+use Rattle.poincare_run.proofs.StatusLemmas.{summed_up_if, summed_up_in_part_if, unread_if, within_limit_if, read_stops, reads_calm, write_stops, writes_calm, stopped_rose}
 use Rattle.poincare_run.proofs.top.run.Goals as goal
 
 pub returns-in-Ok-None-clause-limit : goal.returns-in-Ok-None-clause-limit

@@ -1,10 +1,6 @@
-use Rattle.std.proofs.Common.{◌≡◌, ◌++◌, ap, sym, ◌∙◌, subst, arith}
-use Rattle.calc_terms.specs.Rat.{value_of}
-use Rattle.std.specs.Prelude.{OnOk}
-use Rattle.polynomials.specs.{Polynomials.{HasExponents, HaveExponents, Polynomial, Summand, row, scaled}, Terms.{AreTermsOf, polynomial_of, summand_of}}
-use Rattle.polynomials.proofs.{Exponents.{one_exponents}, Scaled.{have_packed, have_scaled, row_constant}}
+use Rattle.polynomials.proofs.Shared.{◌≡◌, ◌++◌, ap, sym, ◌∙◌, subst, arith, value_of, OnOk, HasExponents, HaveExponents, Polynomial, Summand, row, scaled, AreTermsOf, polynomial_of, summand_of}
+use Rattle.polynomials.proofs.{Exponents.{one_exponents}, Scaled.{have_packed, have_scaled, row_constant}, arithmetic.add_scaled.Goals.{After-constant}}
 use Rattle.polynomials.proofs.arithmetic.add_scaled.Goals as goal
-use Rattle.polynomials.proofs.arithmetic.add_scaled.Goals.{After-constant}
 
 times_constant : (c : After-constant) → row (summand_of c.constant.result) (polynomial_of c.args.terms.now) ≡ scaled (value_of c.args.factor) (polynomial_of c.args.terms.now)
 times_constant c = ap (λ (s : Summand). row s (polynomial_of c.args.terms.now)) c.constant.ensures ∙ row_constant (value_of c.args.factor) c.args.terms.now

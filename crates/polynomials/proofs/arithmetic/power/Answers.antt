@@ -1,6 +1,4 @@
-use Rattle.std.proofs.{Common.{◌≤◌, min, length, arith}, lemmas.Result.{IfErr-weaker, on_ok_weaker}}
-use Rattle.std.specs.Prelude.{vec_capacity}
-use Rattle.polynomials.proofs.{Causes.{caused_more}, PowerLists.{two_few}}
+use Rattle.polynomials.proofs.{Shared.{◌≤◌, min, length, arith, IfErr-weaker, on_ok_weaker, vec_capacity}, Causes.{caused_more}, PowerLists.{two_few}}
 use Rattle.polynomials.proofs.arithmetic.power.Goals as goal
 
 pub returns-then-exponent-le-GREATEST_EXPONENT-clause-few : goal.returns-then-exponent-le-GREATEST_EXPONENT-clause-few

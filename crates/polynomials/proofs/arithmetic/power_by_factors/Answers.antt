@@ -1,7 +1,5 @@
-use Rattle.std.proofs.Common.{◌≡◌, ℕ, List, [], ◌∷◌, ◌++◌, ◌*◌, ◌^◌, ◌<◌, ◌≤◌, min, ap, ◌∙◌, subst, arith, length}
-use Rattle.std.specs.Prelude.{vec_capacity}
-use Rattle.polynomials.specs.{declared.term.Term.{Term}, Polynomials.{HaveExponents, raised}, Terms.{AreTermsOf, polynomial_of}}
-use Rattle.polynomials.proofs.{Causes.{caused_more, one_few, passed_on, power_bound, power_few}, Products.{power_more, power_none, within}}
+use Rattle.polynomials.proofs.Shared.{◌≡◌, ℕ, List, [], ◌∷◌, ◌++◌, ◌*◌, ◌^◌, ◌<◌, ◌≤◌, min, ap, ◌∙◌, subst, arith, length, vec_capacity, Term, HaveExponents, raised, AreTermsOf, polynomial_of}
+use Rattle.polynomials.proofs.{Shared.{passed_on}, Causes.{caused_more, one_few, power_bound, power_few}, Products.{power_more, power_none, within}}
 use Rattle.polynomials.proofs.arithmetic.power_by_factors.Goals as goal
 
 pub loop-turn-init : goal.loop-turn-init

@@ -1,6 +1,4 @@
-use Rattle.std.proofs.Common.{min}
-use Rattle.std.specs.Prelude.{vec_capacity}
-use Rattle.polynomials.proofs.Causes.{IsPowerIn}
+use Rattle.polynomials.proofs.{Shared.{min, vec_capacity}, Causes.{IsPowerIn}}
 use Rattle.polynomials.proofs.arithmetic.power_by_factors.Given as goal
 
 abbrev pub invariant-loop-turn : goal.invariant-loop-turn

@@ -1,6 +1,5 @@
-use Rattle.std.proofs.{Common.{ℕ, ◌+◌, ◌*◌, ◌<◌, ◌≤◌, length, ap, arith}, Math.Nat.{mul-le-mul_right}}
-use Rattle.std.specs.Prelude.{vec_capacity}
-use Rattle.polynomials.proofs.{Causes.{caused_more, passed_on}, MergeLoops.{have_at}, Products.{product_more, product_none}}
+use Rattle.polynomials.proofs.{Shared.{ℕ, ◌+◌, ◌*◌, ◌<◌, ◌≤◌, length, ap, arith, mul-le-mul_right, vec_capacity, passed_on}, Causes.{caused_more}, MergeLoops.{have_at}}
+use Rattle.polynomials.proofs.Products.{product_more, product_none}
 use Rattle.polynomials.proofs.arithmetic.product.Goals as goal
 
 pub loop-term-init : goal.loop-term-init

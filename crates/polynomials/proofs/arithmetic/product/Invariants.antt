@@ -1,6 +1,4 @@
-use Rattle.std.proofs.Common.{min}
-use Rattle.std.specs.Prelude.{vec_capacity}
-use Rattle.polynomials.proofs.Causes.{IsProductIn}
+use Rattle.polynomials.proofs.{Shared.{min, vec_capacity}, Causes.{IsProductIn}}
 use Rattle.polynomials.proofs.arithmetic.product.Given as goal
 
 abbrev pub invariant-loop-term : goal.invariant-loop-term

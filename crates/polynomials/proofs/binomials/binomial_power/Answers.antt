@@ -1,6 +1,4 @@
-use Rattle.std.proofs.Common.{◌≡◌, ℕ, ◌+◌, ◌-◌, ◌*◌, ◌/◌, ◌≤◌, get_or, ap, ◌∙◌, sym, subst, arith}
-use Rattle.calc_terms.specs.Ratio.{whole}
-use Rattle.polynomials.specs.{Binomials.{choices, summand_power}, Polynomials.{HasExponents, Summand}, Terms.{summand_of}}
+use Rattle.polynomials.proofs.Shared.{◌≡◌, ℕ, ◌+◌, ◌-◌, ◌*◌, ◌/◌, ◌≤◌, get_or, ap, ◌∙◌, sym, subst, arith, whole, choices, summand_power, HasExponents, Summand, summand_of}
 use Rattle.polynomials.proofs.{BinomialTheorem.{choices_next, mixed}, Exponents.{exponents_times, one_exponents}, PowerLists.{all_mixed, count_fits, count_told, factors_within, listed_exponents}}
 use Rattle.polynomials.proofs.{PowerLists.{mixed_exponents, mixed_is, mixed_terms}, binomials.binomial_power.Goals.{After-index-in-loop-k}}
 use Rattle.polynomials.proofs.binomials.binomial_power.Goals as goal

@@ -1,5 +1,4 @@
-use Rattle.std.specs.Prelude.{vec_capacity}
-use Rattle.polynomials.proofs.PowerLists.{AreMixedIn}
+use Rattle.polynomials.proofs.{Shared.{vec_capacity}, PowerLists.{AreMixedIn}}
 use Rattle.polynomials.proofs.binomials.binomial_power.Given as goal
 
 abbrev pub invariant-loop-k : goal.invariant-loop-k

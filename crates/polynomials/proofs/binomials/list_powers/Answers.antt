@@ -1,6 +1,5 @@
-use Rattle.std.proofs.Common.{◌≡◌, [], ◌∷◌, ◌++◌, ◌*◌, List, get_or, le_refl, ap, ◌∙◌, subst, arith}
-use Rattle.polynomials.specs.{declared.term.Term.{Term}, Terms.{summand_of}}
-use Rattle.polynomials.proofs.{PowerLists.{listed_exponents, powers_more, powers_none}, Products.{within}}
+use Rattle.polynomials.proofs.{Shared.{◌≡◌, [], ◌∷◌, ◌++◌, ◌*◌, List, get_or, le_refl, ap, ◌∙◌, subst, arith, Term, summand_of}, PowerLists.{listed_exponents, powers_more, powers_none}}
+use Rattle.polynomials.proofs.Products.{within}
 use Rattle.polynomials.proofs.binomials.list_powers.Goals as goal
 
 pub loop-k-init : goal.loop-k-init

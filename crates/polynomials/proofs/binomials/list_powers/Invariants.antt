@@ -1,6 +1,4 @@
-use Rattle.std.specs.Prelude.{vec_capacity}
-use Rattle.polynomials.specs.Terms.{summand_of}
-use Rattle.polynomials.proofs.PowerLists.{ArePowersIn}
+use Rattle.polynomials.proofs.{Shared.{vec_capacity, summand_of}, PowerLists.{ArePowersIn}}
 use Rattle.polynomials.proofs.binomials.list_powers.Given as goal
 
 abbrev pub invariant-loop-k : goal.invariant-loop-k

@@ -1,5 +1,4 @@
-use Rattle.std.proofs.Common.{take}
-use Rattle.polynomials.specs.{Polynomials.{HaveExponents}, Terms.{polynomial_of}}
+use Rattle.polynomials.proofs.Shared.{take, HaveExponents, polynomial_of}
 use Rattle.polynomials.proofs.degrees.degree.Given as goal
 
 abbrev pub invariant-loop-term : goal.invariant-loop-term

@@ -1,6 +1,5 @@
-use Rattle.std.proofs.Common.{◌≡◌, arith, ℕ, subst}
+use Rattle.polynomials.proofs.{Shared.{◌≡◌, arith, ℕ, subst}, GreatestExponents.{PassedTo, passed_all, passed_more}}
 use Rattle.polynomials.specs.Packed.{monomial_of}
-use Rattle.polynomials.proofs.GreatestExponents.{PassedTo, passed_all, passed_more}
 use Rattle.polynomials.proofs.degrees.greatest_exponent.Goals as goal
 
 pub loop-place-init : goal.loop-place-init

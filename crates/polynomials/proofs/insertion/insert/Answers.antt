@@ -1,9 +1,7 @@
-use Rattle.std.proofs.{Common.{◌≡◌, ◌<◌, ◌≤◌, ℕ, List, length, take, drop, get_or, sym, ap, ◌∙◌, subst, arith, take-append-drop}, lemmas.List.{length-drop}, lemmas.Result.{on_ok_weaker}}
-use Rattle.polynomials.specs.{declared.term.Term.{Term}, Rows.{AreBelow, StartsFrom}, Terms.{IsBelowAll, IsNormal}}
-use Rattle.polynomials.proofs.{Causes.{like_anyway, pushed_length}, Insertions.{exchange_exponents, exchange_others, exchange_terms, first_dropped, insert_exponents, insert_others, insert_terms}}
-use Rattle.polynomials.proofs.{Insertions.{appended, inserted}, Normal.{behind_none, behind_other, normal_end, stands_at}}
+use Rattle.polynomials.proofs.Shared.{◌≡◌, ◌<◌, ◌≤◌, ℕ, List, length, take, drop, get_or, sym, ap, ◌∙◌, subst, arith, take-append-drop, length-drop, on_ok_weaker, Term, AreBelow, StartsFrom}
+use Rattle.polynomials.proofs.{Shared.{IsBelowAll, IsNormal}, Causes.{like_anyway, pushed_length}, Insertions.{exchange_exponents, exchange_others, exchange_terms, first_dropped, insert_exponents}}
+use Rattle.polynomials.proofs.{Insertions.{insert_others, insert_terms, appended, inserted}, Normal.{behind_none, behind_other, normal_end, stands_at}, insertion.insert.Goals.{After-len}}
 use Rattle.polynomials.proofs.insertion.insert.Goals as goal
-use Rattle.polynomials.proofs.insertion.insert.Goals.{After-len}
 
 -- what is known of the place
 module _ (c : After-len) where

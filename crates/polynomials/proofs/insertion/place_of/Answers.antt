@@ -1,6 +1,4 @@
-use Rattle.std.proofs.Common.{◌≡◌, ◌-◌, ap, get_or, arith}
-use Rattle.polynomials.specs.declared.term.Term.{Term}
-use Rattle.polynomials.proofs.Normal.{below_first}
+use Rattle.polynomials.proofs.{Shared.{◌≡◌, ◌-◌, ap, get_or, arith, Term}, Normal.{below_first}}
 use Rattle.polynomials.proofs.insertion.place_of.Goals as goal
 
 pub returns-then-terms-at-clause-below : goal.returns-then-terms-at-clause-below

@@ -1,5 +1,4 @@
-use Rattle.std.proofs.Common.{drop, length, ◌≤◌}
-use Rattle.polynomials.specs.Rows.{StartsFrom}
+use Rattle.polynomials.proofs.Shared.{drop, length, ◌≤◌, StartsFrom}
 use Rattle.polynomials.proofs.insertion.place_of.Given as goal
 
 abbrev pub invariant-loop-at : goal.invariant-loop-at

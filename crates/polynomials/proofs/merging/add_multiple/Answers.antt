@@ -1,7 +1,5 @@
-use Rattle.std.proofs.{Common.{◌≤◌, List, length, length-append, ap, sym, subst, arith}, lemmas.Result.{on_ok_weaker}}
-use Rattle.std.specs.Prelude.{vec_capacity}
-use Rattle.polynomials.specs.{declared.term.Term.{Term}, Polynomials.{HaveExponents}, Terms.{polynomial_of}}
-use Rattle.polynomials.proofs.{Causes.{caused_more, passed_on}, MergeLoops.{have_at, merged_more}}
+use Rattle.polynomials.proofs.{Shared.{◌≤◌, List, length, length-append, ap, sym, subst, arith, on_ok_weaker, vec_capacity, Term, HaveExponents, polynomial_of, passed_on}, Causes.{caused_more}}
+use Rattle.polynomials.proofs.MergeLoops.{have_at, merged_more}
 use Rattle.polynomials.proofs.merging.add_multiple.Goals as goal
 
 pub times-requires : goal.times-requires

@@ -1,5 +1,4 @@
-use Rattle.std.specs.Prelude.{vec_capacity}
-use Rattle.polynomials.proofs.Causes.{IsMergedIn}
+use Rattle.polynomials.proofs.{Shared.{vec_capacity}, Causes.{IsMergedIn}}
 use Rattle.polynomials.proofs.merging.add_multiple.Given as goal
 
 abbrev pub invariant-loop-term : goal.invariant-loop-term

@@ -1,6 +1,4 @@
-use Rattle.std.proofs.Common.{◌≡◌, List, [], ◌∷◌, ◌++◌, sym, ap, ◌∙◌, subst, arith, append_assoc, take}
-use Rattle.polynomials.specs.{declared.term.Term.{Term}, Rows.{AreBelow}}
-use Rattle.polynomials.proofs.{MergeLoops.{take_one_more}, Normal.{below_push}}
+use Rattle.polynomials.proofs.{Shared.{◌≡◌, List, [], ◌∷◌, ◌++◌, sym, ap, ◌∙◌, subst, arith, append_assoc, take, Term, AreBelow}, MergeLoops.{take_one_more}, Normal.{below_push}}
 use Rattle.polynomials.proofs.merging.copy_below.Goals as goal
 
 pub loop-at-preserved : goal.loop-at-preserved

@@ -1,5 +1,4 @@
-use Rattle.std.specs.Prelude.{vec_capacity}
-use Rattle.polynomials.proofs.Causes.{IsCopied}
+use Rattle.polynomials.proofs.{Shared.{vec_capacity}, Causes.{IsCopied}}
 use Rattle.polynomials.proofs.merging.copy_below.Given as goal
 
 abbrev pub invariant-loop-at : goal.invariant-loop-at

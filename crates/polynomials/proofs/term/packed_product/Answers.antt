@@ -1,6 +1,5 @@
-use Rattle.std.proofs.Common.{ℕ, ◌+◌, ◌^◌, ◌<◌}
-use Rattle.polynomials.specs.{Packed.{monomial_of}, Polynomials.{HasExponents}}
-use Rattle.polynomials.proofs.Exponents.{IsPackedSum, packed_sum}
+use Rattle.polynomials.proofs.{Shared.{ℕ, ◌+◌, ◌^◌, ◌<◌, HasExponents}, Exponents.{IsPackedSum, packed_sum}}
+use Rattle.polynomials.specs.Packed.{monomial_of}
 use Rattle.polynomials.proofs.term.packed_product.Goals as goal
 
 sum_of : (k l : ℕ) → k < 2 ^ 64 → l < 2 ^ 64 → (d : ℕ) × (e : ℕ) × (d + e < 256) × HasExponents d (monomial_of k) × HasExponents e (monomial_of l) → IsPackedSum 8 k l

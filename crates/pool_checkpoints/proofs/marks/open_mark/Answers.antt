@@ -1,5 +1,4 @@
-use Rattle.std.proofs.Common.{◌∙◌}
-use Rattle.tree_handles.proofs.Places.{used_forest}
+use Rattle.pool_checkpoints.proofs.Shared.{◌∙◌, used_forest}
 use Rattle.pool_checkpoints.proofs.marks.open_mark.Goals as goal
 
 pub returns-clause-trees : goal.returns-clause-trees

@@ -1,5 +1,5 @@
-use Rattle.pool_layouts.proofs.Shared.{◌≡◌, ◌∙◌, ◌∷◌, [], Ok, ap, refl, rules, size_of_payload, free_of, taking, before_last, payload_in, forest, IsStopped, around_sizes}
-use Rattle.pool_layouts.proofs.{Shared.{root_sizes, laid}, Sizes.takes_one, Placing.{free_after, room_after, stopped_after, stopped_one, starts_ends, starts_before, was_short}}
+use Rattle.pool_layouts.proofs.Shared.{◌≡◌, ◌∙◌, ◌∷◌, [], Ok, ap, refl, rules, size_of_payload, free_of, taking, before_last, payload_in, forest, IsStopped, around_sizes, root_sizes, laid, was_short}
+use Rattle.pool_layouts.proofs.{Sizes.{takes_one}, Placing.{free_after, room_after, stopped_after, stopped_one, starts_ends, starts_before}}
 use Rattle.pool_layouts.proofs.laying.close.Goals as goal
 
 refused : (c : goal.After-from_residual)

@@ -1,8 +1,7 @@
-use Rattle.pool_layouts.proofs.Shared.{◌≡◌, ◌<◌, empty, ◌==◌, ℕ, None, ◌∙◌, ◌++◌, ◌∷◌, [], List, length, ap, sym, arith, rules, length-append, tree_at, forest, keeps_after}
-use Rattle.pool_layouts.proofs.{Shared.{Visit, Frame, frame_of, frame_behind, visits_length, layout, plain}, UnderWay.{first_inside, started, next, next_inside, next_live, next_seen}}
-use Rattle.pool_layouts.proofs.UnderWay.{next_around, parts_are_few, entered, closing, close_live, close_few, close_begin, close_leaf, closed_all, closed_room, closed_one, close_stopped}
-use Rattle.pool_layouts.proofs.{UnderWay.{mark_stopped, front_kept, none_left, some_left, IsTop, IsNext}, laying.lay.Goals.In-Some}
-use Rattle.std.proofs.Common.{vec_len}
+use Rattle.pool_layouts.proofs.Shared.{◌≡◌, ◌<◌, empty, ◌==◌, ℕ, None, ◌∙◌, ◌++◌, ◌∷◌, [], List, length, ap, sym, arith, rules, length-append, tree_at, forest, keeps_after, Visit, Frame, frame_of}
+use Rattle.pool_layouts.proofs.{Shared.{frame_behind, visits_length, layout, plain, vec_len}, UnderWay.{first_inside, started, next, next_inside, next_live, next_seen, next_around, parts_are_few}}
+use Rattle.pool_layouts.proofs.UnderWay.{entered, closing, close_live, close_few, close_begin, close_leaf, closed_all, closed_room, closed_one, close_stopped, mark_stopped, front_kept, none_left}
+use Rattle.pool_layouts.proofs.{UnderWay.{some_left, IsTop, IsNext}, laying.lay.Goals.{In-Some}}
 use Rattle.pool_layouts.proofs.laying.lay.Goals as goal
 
 empty_as : (fs : List Frame) (n : ℕ) → length fs ≡ n → (length fs == 0) ≡ (n == 0)

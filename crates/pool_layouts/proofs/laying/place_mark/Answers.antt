@@ -1,5 +1,4 @@
-use Rattle.pool_layouts.proofs.Shared.{◌∙◌, Option, sym, subst, Kind, bare, size_of_payload, forest, IsStopped, around_sizes}
-use Rattle.pool_layouts.proofs.Placing.{refused_err}
+use Rattle.pool_layouts.proofs.{Shared.{◌∙◌, Option, sym, subst, Kind, bare, size_of_payload, forest, IsStopped, around_sizes}, Placing.{refused_err}}
 use Rattle.pool_layouts.proofs.laying.place_mark.Goals as goal
 
 pub returns-in-Err-clause-full : goal.returns-in-Err-clause-full

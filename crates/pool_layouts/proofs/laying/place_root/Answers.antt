@@ -1,6 +1,5 @@
-use Rattle.pool_layouts.proofs.Shared.{IfErr, IsOk, ◌↔◌, ◌≡◌, ◌≤◌, sym, ap, subst, arith, Payload, rational, named, bare, size_of_payload, free_of, one_tree, before_last}
-use Rattle.pool_layouts.proofs.{Shared.{last_trees, Ends, payload_in, forest, IsRefused, is_leaf, laid}, Placing.{few_trees, ok_as, leaf_node_ends, bare_is}}
-use Rattle.calc_terms.specs.{Leaf.name_of, Rat.ratio_of}
+use Rattle.pool_layouts.proofs.Shared.{IfErr, IsOk, ◌↔◌, ◌≡◌, ◌≤◌, sym, ap, subst, arith, Payload, rational, named, bare, size_of_payload, free_of, one_tree, before_last, last_trees, Ends, payload_in}
+use Rattle.pool_layouts.proofs.{Shared.{forest, IsRefused, is_leaf, laid, few_trees, name_of, ratio_of}, Placing.{ok_as, leaf_node_ends, bare_is}}
 use Rattle.pool_layouts.proofs.laying.place_root.Goals as goal
 
 pub overflow_cast-parts : goal.overflow_cast-parts

@@ -1,6 +1,5 @@
-use Rattle.pool_layouts.proofs.Shared.{rules, ◌∙◌, ◌++◌, ℕ, List, length, encode_utf8_all, ap, refl, sym, subst, arith, option_to_list, length-append, Content, extended, forest}
-use Rattle.pool_layouts.proofs.{Shared.{Step, cut}, Painted.{IsPainting, painting_start, due, due_room, stepped, lighter_steps, painted, option_short}}
-use Rattle.line_text.proofs.Walks.{content_is}
+use Rattle.pool_layouts.proofs.Shared.{rules, ◌∙◌, ◌++◌, ℕ, List, length, encode_utf8_all, ap, refl, sym, subst, arith, option_to_list, length-append, Content, extended, forest, Step, cut, content_is}
+use Rattle.pool_layouts.proofs.Painted.{IsPainting, painting_start, due, due_room, stepped, lighter_steps, painted, option_short}
 use Rattle.pool_layouts.proofs.picture.paint.Goals as goal
 
 pub loop-step-init : goal.loop-step-init

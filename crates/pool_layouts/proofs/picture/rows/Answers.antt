@@ -1,5 +1,4 @@
-use Rattle.pool_layouts.proofs.Shared.{◌∙◌, sym, subst, empty, tree_at, forest, HasExtents}
-use Rattle.pool_layouts.proofs.{Measuring.{IsMeasured, measured, measured_first, rows_are}, picture.rows.Goals.After-as_slice-extents}
+use Rattle.pool_layouts.proofs.{Shared.{◌∙◌, sym, subst, empty, tree_at, forest, HasExtents}, Measuring.{IsMeasured, measured, measured_first, rows_are}, picture.rows.Goals.{After-as_slice-extents}}
 use Rattle.pool_layouts.proofs.picture.rows.Goals as goal
 
 measured_here : (c : After-as_slice-extents) → IsMeasured c.args.pool.now c.args.layout c.as_slice-extents.result.now

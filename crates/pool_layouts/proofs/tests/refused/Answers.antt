@@ -1,5 +1,4 @@
-use Rattle.std.proofs.Common.{ℕ, sym, subst}
-use Rattle.pool_layouts.proofs.Shared.{IsExpression, forest, given_handed, expression_root}
+use Rattle.pool_layouts.proofs.Shared.{ℕ, sym, subst, IsExpression, forest, given_handed, expression_root}
 use Rattle.pool_layouts.proofs.tests.refused.Goals as goal
 
 pub layout_of-requires-clause-expression : goal.layout_of-requires-clause-expression

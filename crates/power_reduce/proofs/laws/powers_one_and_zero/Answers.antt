@@ -1,5 +1,4 @@
-use Rattle.std.proofs.Common.{[], ◌<◌, arith, inr, inl}
-use Rattle.power_reduce.proofs.Shared.{Contains-append_left, one_fraction, num, names, power_one_is_base, power_zero_is_one, reduced_test, keeps}
+use Rattle.power_reduce.proofs.Shared.{[], ◌<◌, arith, inr, inl, Contains-append_left, one_fraction, num, names, power_one_is_base, power_zero_is_one, reduced_test, keeps}
 use Rattle.power_reduce.proofs.laws.powers_one_and_zero.Goals as goal
 
 pub returns : goal.returns

@@ -1,9 +1,7 @@
-use Rattle.std.proofs.Common.{refl, sym, ap, ◌∙◌, subst, arith}
-use Rattle.std.specs.Prelude.{IfOk}
-use Rattle.power_reduce.proofs.Shared.{SpansTree, replaced_free, num, is_num, one_value, if_map, behind_first, behind_new, front_same, front_without, front_after_one, gives_as, given_rest, given_told}
-use Rattle.power_reduce.proofs.{Shared.{refused_as, IsNumberPower, base_in, tree_of, told, is_number, given_handed}, Rooms.{lacks_as}, Misfits.{positive_misfit}, NumberPowers.{irrational_power}}
-use Rattle.power_reduce.proofs.{NumberPowers.{zero_answer, one_answer, power_answer}, HeldPowers.{zero_power, one_power, positive_power}, Powers.{one_room}}
-use Rattle.power_reduce.proofs.{RationalPowers.{zero_bits, no_zero_bits, not_below}, Whole.{one_bits, no_one_bits}}
+use Rattle.power_reduce.proofs.Shared.{refl, sym, ap, ◌∙◌, subst, arith, IfOk, SpansTree, replaced_free, num, is_num, one_value, if_map, behind_first, behind_new, front_same, front_without}
+use Rattle.power_reduce.proofs.{Shared.{front_after_one, gives_as, given_rest, given_told, refused_as, IsNumberPower, base_in, tree_of, told, is_number, given_handed}, Rooms.{lacks_as}}
+use Rattle.power_reduce.proofs.{Misfits.{positive_misfit}, NumberPowers.{irrational_power, zero_answer, one_answer, power_answer}, HeldPowers.{zero_power, one_power, positive_power}}
+use Rattle.power_reduce.proofs.{Powers.{one_room}, RationalPowers.{zero_bits, no_zero_bits, not_below}, Whole.{one_bits, no_one_bits}}
 use Rattle.power_reduce.proofs.numbers.irrational_power.Goals as goal
 
 pub returns-then-n-eq0-clause-ok : goal.returns-then-n-eq0-clause-ok

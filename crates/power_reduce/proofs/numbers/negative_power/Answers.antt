@@ -1,9 +1,8 @@
-use Rattle.std.proofs.Common.{rules, ◌≡◌, ◌≤◌, refl, sym, ap, ◌∙◌, arith, subst, pos, ◌≤ℤ◌}
-use Rattle.power_reduce.proofs.Shared.{classes, value, IfValue, IsNoLargerThanInverse, plain, last_tree, SpansTree, SpansInverse, replaced_free, if_map, passed_on, tree_of, forest, behind_first}
-use Rattle.power_reduce.proofs.Shared.{behind_new, front_same, front_at, front_end, front_without, front_after_one, gives_as, given_handed, given_rest, given_told, base_in, overflow_as, refused_as}
-use Rattle.power_reduce.proofs.{Shared.{is_number}, HeldPowers.{negative_power, no_number_power}, Powers.{power_is}, Rooms.{lacks_as, inverse_lacks_power}}
-use Rattle.power_reduce.proofs.{Misfits.{inverse_misfit, negative_misfit, raised_misfit}, NumberPowers.{irrational_power, inverse_answer, inverse_given, has_inverse}}
-use Rattle.power_reduce.proofs.{RationalPowers.{opposite, opposite_above}, numbers.negative_power.Goals.{Else-classes-gt2}}
+use Rattle.power_reduce.proofs.Shared.{rules, ◌≡◌, ◌≤◌, refl, sym, ap, ◌∙◌, arith, subst, pos, ◌≤ℤ◌, classes, value, IfValue, IsNoLargerThanInverse, plain, last_tree, SpansTree, SpansInverse}
+use Rattle.power_reduce.proofs.Shared.{replaced_free, if_map, passed_on, tree_of, forest, behind_first, behind_new, front_same, front_at, front_end, front_without, front_after_one, gives_as}
+use Rattle.power_reduce.proofs.{Shared.{given_handed, given_rest, given_told, base_in, overflow_as, refused_as, is_number}, HeldPowers.{negative_power, no_number_power}, Powers.{power_is}}
+use Rattle.power_reduce.proofs.{Rooms.{lacks_as, inverse_lacks_power}, Misfits.{inverse_misfit, negative_misfit, raised_misfit}, NumberPowers.{irrational_power, inverse_answer, inverse_given}}
+use Rattle.power_reduce.proofs.{NumberPowers.{has_inverse}, RationalPowers.{opposite, opposite_above}, numbers.negative_power.Goals.{Else-classes-gt2}}
 use Rattle.power_reduce.proofs.numbers.negative_power.Goals as goal
 
 pub returns-then-classes-gt2-clause-front : goal.returns-then-classes-gt2-clause-front

@@ -1,6 +1,5 @@
-use Rattle.std.proofs.{Common.{pos, ◌<ℤ◌, refl, sym, ap, ◌∙◌, subst, false, arith}, lemmas.Bool.{false≢true}}
-use Rattle.power_reduce.proofs.{Shared.{PlainValue, value_of, IsPlainOverflow}, RationalPowers.{not_above, below, no_zero_bits, opposite, powered_below, not_zero, fitting_power_of, unfit_power_of}}
-use Rattle.power_reduce.proofs.{RationalPowers.{if_err, powered_above, fitting_power}, numbers.power_of.Goals.{Else-n-gt0}}
+use Rattle.power_reduce.proofs.{Shared.{pos, ◌<ℤ◌, refl, sym, ap, ◌∙◌, subst, false, arith, false≢true, PlainValue, value_of, IsPlainOverflow}, RationalPowers.{not_above, below, no_zero_bits}}
+use Rattle.power_reduce.proofs.{RationalPowers.{opposite, powered_below, not_zero, fitting_power_of, unfit_power_of, if_err, powered_above, fitting_power}, numbers.power_of.Goals.{Else-n-gt0}}
 use Rattle.power_reduce.proofs.numbers.power_of.Goals as goal
 
 pub returns-then-n-gt0-clause-value : goal.returns-then-n-gt0-clause-value

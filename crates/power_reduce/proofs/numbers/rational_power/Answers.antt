@@ -1,8 +1,7 @@
-use Rattle.std.proofs.Common.{arith, ◌≡◌, pos, ◌≤ℤ◌, true, refl, sym, ap, ◌∙◌, subst}
-use Rattle.power_reduce.proofs.{Shared.{is_zero_fraction, PlainValue, powered, value_of, IsPlainOverflow, gives_as, given_told, passed_on, tree_of, told}, Misfits.{rational_misfit}}
-use Rattle.power_reduce.proofs.{HeldPowers.{rational_power_held, no_number_undef}, Powers.{power_is, rational_room}, RationalPowers.{at_most, not_at_most, zero_rational, no_zero_rational}}
-use Rattle.power_reduce.proofs.{RationalPowers.{plain_power, powered_undefined, nothing_answer, value_answer, overflow_answer, plain_as, rationals_as}, numbers.rational_power.Goals.{Then-n-le0}}
-use Rattle.power_reduce.proofs.numbers.rational_power.Goals.{Joined-else-num-eq0, else-num-eq0-via-then-num-eq0+else-n-le0, else-num-eq0-via-else-num-eq0}
+use Rattle.power_reduce.proofs.Shared.{arith, ◌≡◌, pos, ◌≤ℤ◌, true, refl, sym, ap, ◌∙◌, subst, is_zero_fraction, PlainValue, powered, value_of, IsPlainOverflow, gives_as, given_told, passed_on}
+use Rattle.power_reduce.proofs.{Shared.{tree_of, told, zero_rational}, Misfits.{rational_misfit}, HeldPowers.{rational_power_held, no_number_undef}, Powers.{power_is, rational_room}}
+use Rattle.power_reduce.proofs.RationalPowers.{at_most, not_at_most, no_zero_rational, plain_power, powered_undefined, nothing_answer, value_answer, overflow_answer, plain_as, rationals_as}
+use Rattle.power_reduce.proofs.numbers.rational_power.Goals.{Then-n-le0, Joined-else-num-eq0, else-num-eq0-via-then-num-eq0+else-n-le0, else-num-eq0-via-else-num-eq0}
 use Rattle.tree_handles.specs.declared.fault.NumberFault.TheVariants as fault
 use Rattle.power_reduce.proofs.numbers.rational_power.Goals as goal
 

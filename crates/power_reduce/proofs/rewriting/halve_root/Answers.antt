@@ -1,9 +1,7 @@
-use Rattle.std.proofs.Common.{◌≤◌, inl, refl, ap, ◌∙◌, arith, rules}
-use Rattle.power_reduce.proofs.Shared.{Tree, power, value_of, num, none, more, count, size, IsAdded, over_handed, over_plain, children_in, free_of, base_in, exponent_in, nth, children_of, tree_of}
-use Rattle.power_reduce.proofs.Shared.{forest, gives_as, given_handed, given_root, given_told, owned, ChangesTree, changes_as, changes_last, changes_last_front, hole_stays, set_child}
-use Rattle.power_reduce.proofs.{InPlace.{first_alone, hole_at, root_merged, merged_front, number_bytes, without_added}, Powers.{over_power}, Halves.{half_rewritten, half_room, halved}}
-use Rattle.power_reduce.proofs.rewriting.halve_root.Goals.{After-merge_children, After-fill}
-use Rattle.tree_handles.proofs.Filling.{front_again}
+use Rattle.power_reduce.proofs.Shared.{◌≤◌, inl, refl, ap, ◌∙◌, arith, rules, Tree, power, value_of, num, none, more, count, size, IsAdded, over_handed, over_plain, children_in, free_of, base_in}
+use Rattle.power_reduce.proofs.Shared.{exponent_in, nth, children_of, tree_of, forest, gives_as, given_handed, given_root, given_told, owned, ChangesTree, changes_as, changes_last, changes_last_front}
+use Rattle.power_reduce.proofs.{Shared.{hole_stays, set_child, front_again}, InPlace.{first_alone, hole_at, root_merged, merged_front, number_bytes, without_added}, Powers.{over_power}}
+use Rattle.power_reduce.proofs.{Halves.{half_rewritten, half_room, halved}, rewriting.halve_root.Goals.{After-merge_children, After-fill}}
 use Rattle.calc_terms.specs.declared.kind.Kind.TheVariants as kind
 use Rattle.power_reduce.proofs.rewriting.halve_root.Goals as goal
 

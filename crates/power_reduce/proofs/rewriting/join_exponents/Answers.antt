@@ -1,10 +1,8 @@
-use Rattle.std.proofs.Common.{◌≡◌, ◌≤◌, true, false, Result, Ok, Err, refl, ◌∙◌, arith}
-use Rattle.std.specs.Prelude.{IsOk}
-use Rattle.power_reduce.proofs.Shared.{none, more, mult, IsOver, IsTaken, over_end, without_put, IsAdded, children_in, added_as, moved, represents_count, base_in, exponent_in, Gives, tree_of, put}
-use Rattle.power_reduce.proofs.Shared.{forest, behind_first, front_at, front_end, front_put, front_without, gives_as, given_rest, given_root, ends_as, last_apart, other_root, root_held, free_of}
-use Rattle.power_reduce.proofs.{Shared.{taken_free, merged_free}, InPlace.{first_alone, merged_front, apart_last, without_added}, Joining.{sides_merged, first_taken, then_taken, first_on}}
-use Rattle.power_reduce.proofs.{Joining.{product_given, alone_over, joined}, Powers.{over_power}, rewriting.join_exponents.Goals.{After-merge_children, After-take_child-first}}
-use Rattle.power_reduce.proofs.rewriting.join_exponents.Goals.{After-take_child-exponent, After-add_child-2}
+use Rattle.power_reduce.proofs.Shared.{◌≡◌, ◌≤◌, true, false, Result, Ok, Err, refl, ◌∙◌, arith, IsOk, none, more, mult, IsOver, IsTaken, over_end, without_put, IsAdded, children_in, added_as, moved}
+use Rattle.power_reduce.proofs.Shared.{represents_count, base_in, exponent_in, Gives, tree_of, put, forest, behind_first, front_at, front_end, front_put, front_without, gives_as, given_rest}
+use Rattle.power_reduce.proofs.{Shared.{given_root, ends_as, last_apart, other_root, root_held, free_of, taken_free, merged_free}, InPlace.{first_alone, merged_front, apart_last, without_added}}
+use Rattle.power_reduce.proofs.{Joining.{sides_merged, first_taken, then_taken, first_on, product_given, alone_over, joined}, Powers.{over_power}}
+use Rattle.power_reduce.proofs.rewriting.join_exponents.Goals.{After-merge_children, After-take_child-first, After-take_child-exponent, After-add_child-2}
 use Rattle.calc_terms.specs.declared.kind.Kind.TheVariants as kind
 use Rattle.power_reduce.proofs.rewriting.join_exponents.Goals as goal
 

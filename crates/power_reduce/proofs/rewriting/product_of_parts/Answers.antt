@@ -1,8 +1,7 @@
-use Rattle.std.proofs.Common.{refl, inl, sym, ap, ◌∙◌, arith}
-use Rattle.power_reduce.proofs.Shared.{gives_without, passed_on, is_num_one, is_mult, mult, more, over_gives, tree_of, children_of, behind_first, behind_new, front_same, front_at, front_end}
-use Rattle.power_reduce.proofs.Shared.{front_without, front_after_two, gives_as, given_apart, given_handed, given_rest, given_root, given_told, owned, ends_as, last_apart, last_tree, expression}
-use Rattle.power_reduce.proofs.{Rooms.{short_below, coefficient_most}, PartsOf.{led_by_one, led_by_other, first_handed, first_tree, first_seen, gives_at}}
-use Rattle.coefficients.proofs.FirstFactors.{first_factor, first_front}
+use Rattle.power_reduce.proofs.Shared.{refl, inl, sym, ap, ◌∙◌, arith, gives_without, passed_on, is_num_one, is_mult, mult, more, over_gives, tree_of, children_of, behind_first, behind_new}
+use Rattle.power_reduce.proofs.Shared.{front_same, front_at, front_end, front_without, front_after_two, gives_as, given_apart, given_handed, given_rest, given_root, given_told, owned, ends_as}
+use Rattle.power_reduce.proofs.{Shared.{last_apart, last_tree, expression, first_factor, first_front}, Rooms.{short_below, coefficient_most}, PartsOf.{led_by_one, led_by_other, first_handed}}
+use Rattle.power_reduce.proofs.PartsOf.{first_tree, first_seen, gives_at}
 use Rattle.power_reduce.proofs.rewriting.product_of_parts.Goals as goal
 
 pub is_one-requires-clause-expression : goal.is_one-requires-clause-expression

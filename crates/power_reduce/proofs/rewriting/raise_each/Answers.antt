@@ -1,10 +1,9 @@
-use Rattle.std.proofs.Common.{rules, ◌≡◌, ◌+◌, ◌<◌, refl, ap, ◌∙◌, arith}
-use Rattle.power_reduce.proofs.Shared.{Tree, count, is_mult, mult, raised, without_root, forest, Forest, ChangesTree, size, free_of, refused_below, passed_on, plain, eqb-sym, given_free, expression}
-use Rattle.power_reduce.proofs.Shared.{seen, tree_of, children_of, keeps_none, keeps_after, behind_first, behind_later, behind_new, front_at, front_end, front_without, front_after_two, given_apart}
-use Rattle.power_reduce.proofs.{Shared.{given_handed, given_other, given_told, changes_front, changes_last, changes_other, changes_same, live}, RaisedBytes.{read_bytes, next_lacks, last_lacks}}
-use Rattle.power_reduce.proofs.{Raising.{to_power, product_words, product_behind, next_raised, all_raised, raised_front}, rewriting.raise_each.Goals.{After-children-last, In_ok-raise_factor-2}}
-use Rattle.coefficients.proofs.Loops.{none_done, part_within, product_row}
-use Rattle.tree_handles.proofs.Filling.{children_told}
+use Rattle.power_reduce.proofs.Shared.{rules, ◌≡◌, ◌+◌, ◌<◌, refl, ap, ◌∙◌, arith, Tree, count, is_mult, mult, raised, without_root, forest, Forest, ChangesTree, size, free_of, refused_below}
+use Rattle.power_reduce.proofs.Shared.{passed_on, plain, eqb-sym, given_free, expression, seen, tree_of, children_of, keeps_none, keeps_after, behind_first, behind_later, behind_new, front_at}
+use Rattle.power_reduce.proofs.Shared.{front_end, front_without, front_after_two, given_apart, given_handed, given_other, given_told, changes_front, changes_last, changes_other, changes_same, live}
+use Rattle.power_reduce.proofs.{Shared.{none_done, part_within, product_row, children_told}, RaisedBytes.{read_bytes, next_lacks, last_lacks}, Raising.{to_power, product_behind, next_raised}}
+use Rattle.power_reduce.proofs.{Raising.{all_raised, raised_front}, rewriting.raise_each.Goals.{After-children-last, In_ok-raise_factor-2}}
+use Rattle.tree_handles.proofs.SmallLaws.{mult_is as product_words}
 use Rattle.power_reduce.proofs.rewriting.raise_each.Goals as goal
 
 -- how many factors there are

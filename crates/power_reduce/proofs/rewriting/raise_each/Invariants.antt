@@ -1,5 +1,4 @@
-use Rattle.power_reduce.proofs.{Shared.{KeepsRefusals, Stands, children_of, forest, mult, tree_of}, Raising.{to_power}}
-use Rattle.coefficients.proofs.Loops.{IsPart}
+use Rattle.power_reduce.proofs.{Shared.{KeepsRefusals, Stands, children_of, forest, mult, tree_of, IsPart}, Raising.{to_power}}
 use Rattle.power_reduce.proofs.rewriting.raise_each.Given as goal
 
 abbrev pub invariant-loop-at : goal.invariant-loop-at

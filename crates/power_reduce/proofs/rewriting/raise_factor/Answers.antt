@@ -1,6 +1,4 @@
-use Rattle.std.proofs.Common.{rules, refl, arith}
-use Rattle.power_reduce.proofs.{Shared.{forest, refused_below, passed_on, given_handed, given_told}, Raising.{power_told, hole_of_power, raised_one, raised_front}}
-use Rattle.tree_handles.proofs.Filling.{as_before}
+use Rattle.power_reduce.proofs.{Shared.{rules, refl, arith, forest, refused_below, passed_on, given_handed, given_told, as_before}, Raising.{power_told, hole_of_power, raised_one, raised_front}}
 use Rattle.power_reduce.proofs.rewriting.raise_factor.Goals as goal
 
 pub open_child-hole-requires : goal.open_child-hole-requires

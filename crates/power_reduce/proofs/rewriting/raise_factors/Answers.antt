@@ -1,8 +1,7 @@
-use Rattle.std.proofs.Common.{rules, ◌≤◌, sym, ap, ◌∙◌, subst, arith}
-use Rattle.power_reduce.proofs.Shared.{replaced_free, passed_on, if_map, eqb-sym, refusal_as, exponent_in, tree_of, is_number, is_reduced, Tree, count, is_mult, size, plain, children_of, behind_first}
-use Rattle.power_reduce.proofs.Shared.{behind_new, front_same, front_end, front_without, front_after_one, front_after_two, gives_as, given_apart, given_handed, given_other, given_rest, given_same}
-use Rattle.power_reduce.proofs.{Shared.{given_told, given_without, handed_beside, tree-without}, Exponents.{inside_whole}, Rooms.{sides_free, split_short, raised_short}}
-use Rattle.power_reduce.proofs.PartsOf.{first_handed, first_tree, some_parts, powers_as}
+use Rattle.power_reduce.proofs.Shared.{rules, ◌≤◌, sym, ap, ◌∙◌, subst, arith, replaced_free, passed_on, if_map, eqb-sym, refusal_as, exponent_in, tree_of, is_number, is_reduced, Tree, count, is_mult}
+use Rattle.power_reduce.proofs.Shared.{size, plain, children_of, behind_first, behind_new, front_same, front_end, front_without, front_after_one, front_after_two, gives_as, given_apart, given_handed}
+use Rattle.power_reduce.proofs.{Shared.{given_other, given_rest, given_same, given_told, given_without, handed_beside, tree-without}, Exponents.{inside_whole}}
+use Rattle.power_reduce.proofs.{Rooms.{sides_free, split_short, raised_short}, PartsOf.{first_handed, first_tree, some_parts, powers_as}}
 use Rattle.power_reduce.proofs.rewriting.raise_factors.Goals as goal
 
 pub product_of_parts-requires : goal.product_of_parts-requires

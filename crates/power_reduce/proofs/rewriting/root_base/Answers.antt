@@ -1,8 +1,7 @@
-use Rattle.std.proofs.Common.{◌+◌, inl, sym, ap, ◌∙◌, arith, to_z, of_z}
-use Rattle.power_reduce.proofs.Shared.{Ratio, num, size, free_of, refused_below, replaced_free, passed_on, if_map, eqb-sym, refusal_as, given_free, released_free, w128, lowest, whole_fraction}
-use Rattle.power_reduce.proofs.Shared.{base_in, exponent_in, tree_of, told, plain, behind_first, behind_new, front_same, front_at, front_end, front_without, front_after, front_after_one}
-use Rattle.power_reduce.proofs.Shared.{front_after_two, gives_as, given_apart, given_handed, given_rest, given_root, given_same, given_told, given_without, owned, given_other}
-use Rattle.power_reduce.proofs.{Rooms.{sides_free, no_root, no_exponent, no_power}, PartsOf.{gives_at}, Roots.{rooted_as}}
+use Rattle.power_reduce.proofs.Shared.{◌+◌, inl, sym, ap, ◌∙◌, arith, to_z, of_z, Ratio, num, size, free_of, refused_below, replaced_free, passed_on, if_map, eqb-sym, refusal_as, given_free}
+use Rattle.power_reduce.proofs.Shared.{released_free, w128, lowest, whole_fraction, base_in, exponent_in, tree_of, told, plain, behind_first, behind_new, front_same, front_at, front_end}
+use Rattle.power_reduce.proofs.Shared.{front_without, front_after, front_after_one, front_after_two, gives_as, given_apart, given_handed, given_rest, given_root, given_same, given_told, given_without}
+use Rattle.power_reduce.proofs.{Shared.{owned, given_other}, Rooms.{sides_free, no_root, no_exponent, no_power}, PartsOf.{gives_at}, Roots.{rooted_as}}
 use Rattle.calc_terms.specs.Trees.{root as root_tree}
 use Rattle.power_reduce.proofs.rewriting.root_base.Goals as goal
 

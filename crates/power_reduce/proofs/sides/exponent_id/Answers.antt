@@ -1,5 +1,4 @@
-use Rattle.std.proofs.Common.{arith}
-use Rattle.power_reduce.proofs.Powers.{two_sides, side_is}
+use Rattle.power_reduce.proofs.{Shared.{arith}, Powers.{two_sides, side_is}}
 use Rattle.power_reduce.proofs.sides.exponent_id.Goals as goal
 
 pub child_id-requires-clause-within : goal.child_id-requires-clause-within

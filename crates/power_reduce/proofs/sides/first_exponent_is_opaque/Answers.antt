@@ -1,5 +1,4 @@
-use Rattle.std.proofs.Common.{ap, ◌∙◌}
-use Rattle.power_reduce.proofs.{Shared.{is_reduced}, Whole.{first_is, first_reduced, whole_first, other_first}}
+use Rattle.power_reduce.proofs.{Shared.{ap, ◌∙◌, is_reduced}, Whole.{first_is, first_reduced, whole_first, other_first}}
 use Rattle.power_reduce.proofs.sides.first_exponent_is_opaque.Goals as goal
 
 pub is_reduced_number-requires-clause-reduced : goal.is_reduced_number-requires-clause-reduced

@@ -1,5 +1,4 @@
-use Rattle.std.proofs.Common.{inl, arith}
-use Rattle.power_reduce.proofs.{Shared.{children_in}, Powers.{over_power, over_owned, base_taken, taken_alone, alone_front}}
+use Rattle.power_reduce.proofs.{Shared.{inl, arith, children_in}, Powers.{over_power, over_owned, base_taken, taken_alone, alone_front}}
 use Rattle.power_reduce.proofs.sides.take_base.Goals as goal
 
 pub take_child-base-requires-clause-within : goal.take_child-base-requires-clause-within

@@ -1,5 +1,4 @@
-use Rattle.std.proofs.Common.{arith, ◌≤◌}
-use Rattle.power_reduce.proofs.Shared.{free_of, released_free, value_of, num, size, behind_first, front_same, front_at, front_without, front_after, owned}
+use Rattle.power_reduce.proofs.Shared.{arith, ◌≤◌, free_of, released_free, value_of, num, size, behind_first, front_same, front_at, front_without, front_after, owned}
 use Rattle.power_reduce.proofs.sides.with_number.Goals as goal
 
 pub unreachable-requires : goal.unreachable-requires

@@ -1,5 +1,4 @@
-use Rattle.std.proofs.Common.{sym, ap, ◌∙◌}
-use Rattle.power_reduce.proofs.{Shared.{root_kind, tree_of, base_in, exponent_in}, Rooms.{no_refusal}, Cases.{other_kept}}
+use Rattle.power_reduce.proofs.{Shared.{sym, ap, ◌∙◌, root_kind, tree_of, base_in, exponent_in}, Rooms.{no_refusal}, Cases.{other_kept}}
 use Rattle.power_reduce.proofs.step.power_inside.Goals as goal
 
 pub kept_power-requires-clause-kept : goal.kept_power-requires-clause-kept

@@ -1,5 +1,4 @@
-use Rattle.std.proofs.Common.{arith, sym, ap, ◌∙◌}
-use Rattle.power_reduce.proofs.{Shared.{passed_on, is_number, is_reduced, tree_of, base_in, exponent_in}, Cases.{inside_other, number_kept, again}, Exponents.{inside_whole}}
+use Rattle.power_reduce.proofs.{Shared.{arith, sym, ap, ◌∙◌, passed_on, is_number, is_reduced, tree_of, base_in, exponent_in}, Cases.{inside_other, number_kept, again}, Exponents.{inside_whole}}
 use Rattle.power_reduce.proofs.step.power_of_product.Goals as goal
 
 pub is_reduced_number-requires-clause-reduced : goal.is_reduced_number-requires-clause-reduced

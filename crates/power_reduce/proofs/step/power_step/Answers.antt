@@ -1,8 +1,7 @@
-use Rattle.std.proofs.Common.{◌≡◌, ℤ, Bool, true, false, sym, ap, ◌∙◌, subst, ◌<◌, ◌^◌, arith}
-use Rattle.std.specs.Prelude.{nat_abs, IfOk}
-use Rattle.power_reduce.proofs.Shared.{SpansTree, is_number, IsNumberPower, IfDone, whole_fraction, is_whole_num, Tree, num, told, tree_of, gives_as, given_told, base_in, exponent_in, refused_as}
-use Rattle.power_reduce.proofs.{Shared.{counted, counts_one}, Exponents.{whole_no_half}, HeldPowers.{if_step_held, no_undef}, Written.{whole_numbers}, Whole.{whole_is}, Cases.{HasUndef, undef_base}}
-use Rattle.power_reduce.proofs.{Cases.{undef_exponent, undef_kept, undef_answer, defined_rationals}, step.power_step.Goals.{Joined-then-is_undefined, then-is_undefined-via-then-is_undefined}}
+use Rattle.power_reduce.proofs.Shared.{◌≡◌, ℤ, Bool, true, false, sym, ap, ◌∙◌, subst, ◌<◌, ◌^◌, arith, nat_abs, IfOk, SpansTree, is_number, IsNumberPower, IfDone, whole_fraction, is_whole_num, Tree}
+use Rattle.power_reduce.proofs.{Shared.{num, told, tree_of, gives_as, given_told, base_in, exponent_in, refused_as, counted, counts_one}, Exponents.{whole_no_half}}
+use Rattle.power_reduce.proofs.{HeldPowers.{if_step_held, no_undef}, Written.{whole_numbers}, Whole.{whole_is}, Cases.{HasUndef, undef_base, undef_exponent, undef_kept, undef_answer}}
+use Rattle.power_reduce.proofs.{Cases.{defined_rationals}, step.power_step.Goals.{Joined-then-is_undefined, then-is_undefined-via-then-is_undefined}}
 use Rattle.power_reduce.proofs.{step.power_step.Goals.{then-is_undefined-via-else-is_undefined+then-is_undefined-2}, Counted.{if_step_counts}, WithinBits.{within_bits}, Spanned.{if_step_spans}}
 use Rattle.power_reduce.proofs.step.power_step.Goals as goal
 

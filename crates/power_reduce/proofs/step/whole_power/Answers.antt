@@ -1,7 +1,5 @@
-use Rattle.std.proofs.Common.{arith, sym, ap, ◌∙◌, subst}
-use Rattle.std.specs.Prelude.{IfOk}
-use Rattle.power_reduce.proofs.{Shared.{IsNumberPower, told, IfDone, root_kind, tree_of, base_in, passed_on, full_as, exponent_in, is_whole_num}, Cases.{no_num_kind, no_rational, number_kept}}
-use Rattle.power_reduce.proofs.{Cases.{rational_number, step_fault}, Whole.{whole_is}}
+use Rattle.power_reduce.proofs.{Shared.{arith, sym, ap, ◌∙◌, subst, IfOk, IsNumberPower, told, IfDone, root_kind, tree_of, base_in, passed_on, full_as, exponent_in, is_whole_num}, Cases.{no_num_kind}}
+use Rattle.power_reduce.proofs.{Cases.{no_rational, number_kept, rational_number, step_fault}, Whole.{whole_is}}
 use Rattle.power_reduce.proofs.step.whole_power.Goals as goal
 
 pub kind-requires-clause-live : goal.kind-requires-clause-live

@@ -1,6 +1,5 @@
-use Rattle.std.proofs.Common.{arith, inl}
-use Rattle.product_reduce.proofs.Shared.{behind_first, behind_later, front_same, front_at, front_end, front_without, owned, handed_beside, represents_handed, ends_as, eqb-sym, tree-without}
-use Rattle.product_reduce.proofs.Shared.{without-swap}
+use Rattle.product_reduce.proofs.Shared.{arith, inl, behind_first, behind_later, front_same, front_at, front_end, front_without, owned, handed_beside, represents_handed, ends_as, eqb-sym}
+use Rattle.product_reduce.proofs.Shared.{tree-without, without-swap}
 use Rattle.product_reduce.proofs.endings.alone.Goals as goal
 
 pub release-requires-clause-releasable : goal.release-requires-clause-releasable

@@ -1,9 +1,7 @@
-use Rattle.std.proofs.Common.{ℕ, ◌≡◌, ◌≤◌, ◌^◌, length, ◌∙◌, ap, sym, subst, arith, rules, refl}
-use Rattle.product_reduce.proofs.Shared.{is_number, is_reduced, product_tree, counted, SpansTree, Tree, mult, count, size, put_room, result_lacks, refused_as, replaced_free, tree_of, product_counts}
-use Rattle.product_reduce.proofs.Shared.{if_map, eqb-sym, behind_first, behind_later, behind_new, front_same, front_after_one, front_after_two, front_without, forest, given_apart, given_handed}
-use Rattle.product_reduce.proofs.{Shared.{given_other, given_told, factors_in, gives_as, factors_monic, handed_beside}, Misfits.{put_alone}, Readied.{put_given, no_factors, alone_ends, part_factors}}
-use Rattle.product_reduce.proofs.Readied.{beside_part}
-use Rattle.coefficients.proofs.{Rooms.{spans_product}, Named.{put_as}}
+use Rattle.product_reduce.proofs.Shared.{ℕ, ◌≡◌, ◌≤◌, ◌^◌, length, ◌∙◌, ap, sym, subst, arith, rules, refl, is_number, is_reduced, product_tree, counted, SpansTree, Tree, mult, count, size, put_room}
+use Rattle.product_reduce.proofs.Shared.{result_lacks, refused_as, replaced_free, tree_of, product_counts, if_map, eqb-sym, behind_first, behind_later, behind_new, front_same, front_after_one}
+use Rattle.product_reduce.proofs.Shared.{front_after_two, front_without, forest, given_apart, given_handed, given_other, given_told, factors_in, gives_as, factors_monic, handed_beside, no_factors}
+use Rattle.product_reduce.proofs.{Shared.{spans_product, put_as}, Misfits.{put_alone}, Readied.{put_given, alone_ends, part_factors, beside_part}}
 use Rattle.product_reduce.proofs.endings.finished.Goals as goal
 
 pub returns-then-factor_count-eq0-clause-ok : goal.returns-then-factor_count-eq0-clause-ok

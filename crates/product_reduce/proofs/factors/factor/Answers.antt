@@ -1,5 +1,4 @@
-use Rattle.std.proofs.Common.{ap, ◌∙◌}
-use Rattle.product_reduce.proofs.{Shared.{nth}, Products.{product_within, product_expression, product_children}}
+use Rattle.product_reduce.proofs.{Shared.{ap, ◌∙◌, nth}, Products.{product_within, product_expression, product_children}}
 use Rattle.product_reduce.proofs.factors.factor.Goals as goal
 
 pub child_id-requires-clause-within : goal.child_id-requires-clause-within

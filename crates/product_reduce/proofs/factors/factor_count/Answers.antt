@@ -1,5 +1,4 @@
-use Rattle.std.proofs.Common.{ap, ◌∙◌}
-use Rattle.product_reduce.proofs.{Shared.{count}, Products.{product_live, product_expression, product_children}}
+use Rattle.product_reduce.proofs.{Shared.{ap, ◌∙◌, count}, Products.{product_live, product_expression, product_children}}
 use Rattle.product_reduce.proofs.factors.factor_count.Goals as goal
 
 pub children-requires-clause-live : goal.children-requires-clause-live

@@ -1,5 +1,4 @@
-use Rattle.std.proofs.Common.{ap, ◌∙◌}
-use Rattle.product_reduce.proofs.{Shared.{has_undef}, Products.{product_expression, product_children}}
+use Rattle.product_reduce.proofs.{Shared.{ap, ◌∙◌, has_undef}, Products.{product_expression, product_children}}
 use Rattle.product_reduce.proofs.factors.has_undef_factor.Goals as goal
 
 pub has_undefined_child-requires-clause-expression : goal.has_undefined_child-requires-clause-expression

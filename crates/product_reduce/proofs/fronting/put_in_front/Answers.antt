@@ -1,5 +1,4 @@
-use Rattle.std.proofs.Common.{◌∙◌, ap, sym, arith}
-use Rattle.product_reduce.proofs.{Shared.{is_num_one, is_mult, tree_of, owned, apart, expression_root, plain_root, eqb-sym}, Beside.{beside_handed}}
+use Rattle.product_reduce.proofs.{Shared.{◌∙◌, ap, sym, arith, is_num_one, is_mult, tree_of, owned, apart, expression_root, plain_root, eqb-sym}, Beside.{beside_handed}}
 use Rattle.product_reduce.proofs.{Fronts.{one_in_front, first_put, first_merged, first_kept}, Products.{becomes_as, becomes_at, product_beside, product_once}}
 use Rattle.product_reduce.proofs.fronting.put_in_front.Goals as goal
 

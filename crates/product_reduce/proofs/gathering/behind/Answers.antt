@@ -1,6 +1,5 @@
-use Rattle.std.proofs.Common.{sym, refl, arith}
-use Rattle.product_reduce.proofs.Shared.{behind_first, behind_later, front_same, front_end, front_without, front_after_one, represents_handed, ends_as, last_tree, eqb-sym, without-swap}
-use Rattle.product_reduce.proofs.{JointPlaces.{count_before}, Neighbours.{pair_before}, Products.{factors_are, product_at}}
+use Rattle.product_reduce.proofs.Shared.{sym, refl, arith, behind_first, behind_later, front_same, front_end, front_without, front_after_one, represents_handed, ends_as, last_tree, eqb-sym}
+use Rattle.product_reduce.proofs.{Shared.{without-swap}, JointPlaces.{count_before}, Neighbours.{pair_before}, Products.{factors_are, product_at}}
 use Rattle.product_reduce.proofs.gathering.behind.Goals as goal
 
 pub factor_count-requires-clause-product : goal.factor_count-requires-clause-product

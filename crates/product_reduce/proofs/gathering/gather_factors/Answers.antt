@@ -1,10 +1,8 @@
-use Rattle.std.proofs.Common.{◌≡◌, ◌∙◌, Ok, Err, ap, sym, refl, subst, arith, true, false}
-use Rattle.product_reduce.proofs.Shared.{PlainValue, IsPlainAnswer, AnswersRationals, result_lacks, tree_of, forest, gives_as, given_told, IsFinished, IsCoefficient, others_in, factors_in}
-use Rattle.product_reduce.proofs.{Finished.{stopped, undef_finished, rationals_defined}, Forms.{opened_flat}, Gathered.{gathered}, Leads.{opened_some}, Parted.{AreOpened, AreParted, opens, parted}}
-use Rattle.product_reduce.proofs.Parted.{reduced_now, rationals_opened, numbers_overflow, numbers_fit, numbers_room, stop_given, gathered_given, spreading_given, spreading_fits, parted_room, answered}
-use Rattle.product_reduce.proofs.{Parted.{refused, finished_bounds, gathered_bounds}, Stepped.{others_are, finished_map, joined_map, none_beside}, gathering.gather_factors.Goals.{After-open_products}}
-use Rattle.product_reduce.proofs.gathering.gather_factors.Goals.{In_ok-coefficient}
-use Rattle.like_children.proofs.Parts.{reduced_formed}
+use Rattle.product_reduce.proofs.Shared.{◌≡◌, ◌∙◌, Ok, Err, ap, sym, refl, subst, arith, true, false, PlainValue, IsPlainAnswer, AnswersRationals, result_lacks, tree_of, forest, gives_as, given_told}
+use Rattle.product_reduce.proofs.{Shared.{IsFinished, IsCoefficient, others_in, factors_in, reduced_formed}, Finished.{stopped, undef_finished, rationals_defined}, Forms.{opened_flat}}
+use Rattle.product_reduce.proofs.{Gathered.{gathered}, Leads.{opened_some}, Parted.{AreOpened, AreParted, opens, parted, reduced_now, rationals_opened, numbers_overflow, numbers_fit, numbers_room}}
+use Rattle.product_reduce.proofs.Parted.{stop_given, gathered_given, spreading_given, spreading_fits, parted_room, answered, refused, finished_bounds, gathered_bounds}
+use Rattle.product_reduce.proofs.{Stepped.{others_are, finished_map, joined_map, none_beside}, gathering.gather_factors.Goals.{After-open_products, In_ok-coefficient}}
 use Rattle.product_reduce.proofs.gathering.gather_factors.Goals as goal
 
 opened_now : (c : After-open_products) → AreOpened c.args.product c.args.pool.now c.open_products.new.pool

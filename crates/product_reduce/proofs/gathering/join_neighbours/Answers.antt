@@ -1,5 +1,4 @@
-use Rattle.std.proofs.Common.{arith}
-use Rattle.product_reduce.proofs.Shared.{behind_first, front_end, front_without, represents_handed, ends_as}
+use Rattle.product_reduce.proofs.Shared.{arith, behind_first, front_end, front_without, represents_handed, ends_as}
 use Rattle.product_reduce.proofs.gathering.join_neighbours.Goals as goal
 
 pub returns-clause-ok : goal.returns-clause-ok

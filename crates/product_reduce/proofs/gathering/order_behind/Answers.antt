@@ -1,6 +1,5 @@
-use Rattle.std.proofs.Common.{◌∙◌, ap, refl, subst, arith, rules}
-use Rattle.product_reduce.proofs.Shared.{product_tree, are_reduced, Trees, count, forest, behind_first, front_same, front_end, front_without, front_after_one, gives, gives_as, represents_handed}
-use Rattle.product_reduce.proofs.{Shared.{ends_as, others_in, IsOrdered, IsNextPair, NoPairBetween, factors_in}, Finished.{reduced_nth}}
+use Rattle.product_reduce.proofs.Shared.{◌∙◌, ap, refl, subst, arith, rules, product_tree, are_reduced, Trees, count, forest, behind_first, front_same, front_end, front_without, front_after_one}
+use Rattle.product_reduce.proofs.{Shared.{gives, gives_as, represents_handed, ends_as, others_in, IsOrdered, IsNextPair, NoPairBetween, factors_in}, Finished.{reduced_nth}}
 use Rattle.product_reduce.proofs.{Leads.{lead_within, put_within, put_reduced, put_done, put_ordered}, Products.{factors_are}}
 use Rattle.product_reduce.proofs.gathering.order_behind.Goals as goal
 

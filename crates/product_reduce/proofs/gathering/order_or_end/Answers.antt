@@ -1,8 +1,6 @@
-use Rattle.std.proofs.Common.{◌≡◌, ◌∙◌, ap, sym, refl, rules}
-use Rattle.product_reduce.proofs.Shared.{passed_lacks, is_number, mult, coefficient_before, tree_of, is_zero, factors_in, forest, gives_as, expression_root, plain_root, passed_on, at_zero, at_end}
-use Rattle.product_reduce.proofs.{Finished.{reduced_nth}, Neighbours.{pair_partners, sorted_apart, apart_before}, SortedBeside.{AreSorted, sorts, none_sorted, ending_sorted, spreading_sorted}}
-use Rattle.product_reduce.proofs.{SortedBeside.{room_sorted}, gathering.order_or_end.Goals.{After-is_zero, After-sort_factors}}
-use Rattle.like_children.proofs.Permutations.{of_lists}
+use Rattle.product_reduce.proofs.Shared.{◌≡◌, ◌∙◌, ap, sym, refl, rules, passed_lacks, is_number, mult, coefficient_before, tree_of, is_zero, factors_in, forest, gives_as, expression_root, plain_root}
+use Rattle.product_reduce.proofs.{Shared.{passed_on, at_zero, at_end, of_lists}, Finished.{reduced_nth}, Neighbours.{pair_partners, sorted_apart, apart_before}, SortedBeside.{AreSorted, sorts}}
+use Rattle.product_reduce.proofs.{SortedBeside.{none_sorted, ending_sorted, spreading_sorted, room_sorted}, gathering.order_or_end.Goals.{After-is_zero, After-sort_factors}}
 use Rattle.product_reduce.proofs.gathering.order_or_end.Goals as goal
 
 pub is_zero-requires-clause-expression : goal.is_zero-requires-clause-expression

@@ -1,10 +1,7 @@
-use Rattle.std.proofs.Common.{◌≡◌, ◌∙◌, ap, subst, refl, arith, rules}
-use Rattle.product_reduce.proofs.Shared.{Becomes, Forest, Tree, Trees, count_removed, is_reduced, count, nth, plain, children_of, root_tree, without_root, forest, given_handed, given_told}
-use Rattle.product_reduce.proofs.{Shared.{behind_first, front_after_two, joint, joined_pair, factors_in}, Beside.{beside_product, behind_beside}, Finished.{reduced_nth}, FreeBytes.{refusal_told}}
-use Rattle.product_reduce.proofs.{Joins.{becomes_filled, pair_out}, joining.join_pair.Goals.{After-fill}}
-use Rattle.like_children.proofs.Places.{nth_removed}
-use Rattle.tree_handles.proofs.Filling.{hole_beside, hole_stays}
-use Rattle.tree_handles.specs.Holes.{ChangesTree, set_child}
+use Rattle.product_reduce.proofs.Shared.{◌≡◌, ◌∙◌, ap, subst, refl, arith, rules, Becomes, Forest, Tree, Trees, count_removed, is_reduced, count, nth, plain, children_of, root_tree, without_root}
+use Rattle.product_reduce.proofs.Shared.{forest, given_handed, given_told, behind_first, front_after_two, joint, joined_pair, factors_in, hole_beside, hole_stays, ChangesTree, set_child}
+use Rattle.product_reduce.proofs.{Beside.{beside_product, behind_beside}, Finished.{reduced_nth}, FreeBytes.{refusal_told}, Joins.{becomes_filled, pair_out}, joining.join_pair.Goals.{After-fill}}
+use Rattle.number_forms.proofs.Exchanged.{nth_before as nth_removed}
 use Rattle.product_reduce.proofs.joining.join_pair.Goals as goal
 
 pub open_child-hole-requires : goal.open_child-hole-requires

@@ -1,6 +1,5 @@
-use Rattle.std.proofs.Common.{◌∙◌, ap, refl, arith}
-use Rattle.product_reduce.proofs.Shared.{size, both_replaced_free, refused_below, plain, gives_as, given_other, given_apart, given_told, given_same, given_without, handed_beside, behind_first}
-use Rattle.product_reduce.proofs.{Shared.{behind_later, behind_new, front_same, front_without, front_after_one, front_after_two, eqb-sym, tree-without}, FreeBytes.{refusal_told}}
+use Rattle.product_reduce.proofs.Shared.{◌∙◌, ap, refl, arith, size, both_replaced_free, refused_below, plain, gives_as, given_other, given_apart, given_told, given_same, given_without, handed_beside}
+use Rattle.product_reduce.proofs.{Shared.{behind_first, behind_later, behind_new, front_same, front_without, front_after_one, front_after_two, eqb-sym, tree-without}, FreeBytes.{refusal_told}}
 use Rattle.product_reduce.proofs.Beside.{beside_other, beside_apart, beside_below, beside_gone, beside_without, beside_tree, beside_tree_below, behind_clear}
 use Rattle.product_reduce.proofs.joining.raise.Goals as goal
 

@@ -1,6 +1,5 @@
-use Rattle.std.proofs.Common.{◌≡◌, ◌∙◌, ap, sym, inl, arith}
-use Rattle.product_reduce.proofs.{Shared.{kids_of, is_reduced, is_transparent_power, arity, forest, keeps_after, front_at, expression_root, plain_root, kids_of_root}, FreeBytes.{split_free}}
-use Rattle.product_reduce.proofs.{Beside.{beside_gives, beside_handed, beside_other}, Splits.{two_children, halved, emptied, split_at, unsplit}}
+use Rattle.product_reduce.proofs.Shared.{◌≡◌, ◌∙◌, ap, sym, inl, arith, kids_of, is_reduced, is_transparent_power, arity, forest, keeps_after, front_at, expression_root, plain_root, kids_of_root}
+use Rattle.product_reduce.proofs.{FreeBytes.{split_free}, Beside.{beside_gives, beside_handed, beside_other}, Splits.{two_children, halved, emptied, split_at, unsplit}}
 use Rattle.product_reduce.proofs.joining.split_factor.Goals as goal
 
 pub is_transparent_power-requires-clause-expression : goal.is_transparent_power-requires-clause-expression

@@ -1,5 +1,4 @@
-use Rattle.std.proofs.Common.{◌∙◌, ap, refl, arith}
-use Rattle.product_reduce.proofs.Shared.{keeps_after, is_reduced, exponent_of, forest, owned, front_at, front_end, front_without, front_after_one, factors_in}
+use Rattle.product_reduce.proofs.Shared.{◌∙◌, ap, refl, arith, keeps_after, is_reduced, exponent_of, forest, owned, front_at, front_end, front_without, front_after_one, factors_in}
 use Rattle.product_reduce.proofs.{FreeBytes.{child_free, exponent_free, refusal_told}, Beside.{beside_as, beside_below, behind_beside, behind_clear, taken_factor, without_factor}}
 use Rattle.product_reduce.proofs.{Finished.{reduced_nth}, Products.{product_within}}
 use Rattle.product_reduce.proofs.joining.take_exponent.Goals as goal

@@ -1,5 +1,4 @@
-use Rattle.std.proofs.Common.{◌∙◌, ap, refl}
-use Rattle.product_reduce.proofs.Shared.{lowest, one_fraction, Ratio, num, gives_as}
+use Rattle.product_reduce.proofs.Shared.{◌∙◌, ap, refl, lowest, one_fraction, Ratio, num, gives_as}
 use Rattle.product_reduce.proofs.nodes.one.Goals as goal
 
 pub returns-clause-ok : goal.returns-clause-ok

@@ -1,8 +1,7 @@
-use Rattle.std.proofs.Common.{◌∙◌, inr, ap, sym, subst, arith, rules}
-use Rattle.product_reduce.proofs.Shared.{value, are_reduced, surd_times, HasFewBits, fold_values, mul_op, Trees, is_mult, are_rationals, SpansTrees, result_lacks, LeavesChildren, rational_of}
-use Rattle.product_reduce.proofs.Shared.{rationals_of, AreJoined, IsNextOf, some_number, many, refused_as, tree_of, without_root, forest, behind_first, behind_new, front_same, front_put}
-use Rattle.product_reduce.proofs.{Shared.{front_after_two, factors_in, NamesProduct}, Finished.{reduced_nth}, Begun.{seen, taken_out, begun_free}}
-use Rattle.product_reduce.proofs.{Progress.{multiplied, next_misfit, next_fits, total_answer}, Products.{factors_are}, Results.{if_ok_map, if_ok_both}}
+use Rattle.product_reduce.proofs.Shared.{◌∙◌, inr, ap, sym, subst, arith, rules, value, are_reduced, surd_times, HasFewBits, fold_values, mul_op, Trees, is_mult, are_rationals, SpansTrees}
+use Rattle.product_reduce.proofs.Shared.{result_lacks, LeavesChildren, rational_of, rationals_of, AreJoined, IsNextOf, some_number, many, refused_as, tree_of, without_root, forest, behind_first}
+use Rattle.product_reduce.proofs.{Shared.{behind_new, front_same, front_put, front_after_two, factors_in, NamesProduct, if_ok_map, if_ok_both}, Finished.{reduced_nth}}
+use Rattle.product_reduce.proofs.{Begun.{seen, taken_out, begun_free}, Progress.{multiplied, next_misfit, next_fits, total_answer}, Products.{factors_are}}
 use Rattle.like_children.specs.Numbers.{numbers_in, others_in}
 use Rattle.product_reduce.proofs.numbers.take_coefficient.Goals as goal
 

@@ -1,5 +1,4 @@
-use Rattle.std.proofs.Common.{arith, inr, ap}
-use Rattle.product_reduce.proofs.{Shared.{is_mult, behind_first, front_same, front_end, front_put, many, child_within, out}, Begun.{underway_first, underway_one}, Results.{if_ok_map}}
+use Rattle.product_reduce.proofs.{Shared.{arith, inr, ap, is_mult, behind_first, front_same, front_end, front_put, many, child_within, out, if_ok_map}, Begun.{underway_first, underway_one}}
 use Rattle.product_reduce.proofs.numbers.take_first_number.Goals as goal
 
 pub take_child-requires-clause-within : goal.take_child-requires-clause-within

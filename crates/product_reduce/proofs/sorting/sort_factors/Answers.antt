@@ -1,5 +1,4 @@
-use Rattle.std.proofs.Common.{subst, refl, arith}
-use Rattle.product_reduce.proofs.{Shared.{base_of, Trees, IsSorting, plains}, Products.{becomes_put, product_arity, product_kids}}
+use Rattle.product_reduce.proofs.{Shared.{subst, refl, arith, base_of, Trees, IsSorting, plains}, Products.{becomes_put, product_arity, product_kids}}
 use Rattle.product_reduce.proofs.sorting.sort_factors.Goals as goal
 
 pub returns-clause-sorts : goal.returns-clause-sorts

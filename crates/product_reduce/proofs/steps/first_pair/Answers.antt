@@ -1,5 +1,4 @@
-use Rattle.std.proofs.Common.{arith}
-use Rattle.product_reduce.proofs.{Shared.{forest, factors_in}, Pairs.{no_pair_more, no_partners}}
+use Rattle.product_reduce.proofs.{Shared.{arith, forest, factors_in}, Pairs.{no_pair_more, no_partners}}
 use Rattle.product_reduce.proofs.steps.first_pair.Goals as goal
 
 pub loop-first-preserved : goal.loop-first-preserved

@@ -1,5 +1,4 @@
-use Rattle.std.proofs.Common.{ℕ, ◌<◌}
-use Rattle.product_reduce.proofs.Shared.{count, forest, HasNoPartner, factors_in}
+use Rattle.product_reduce.proofs.Shared.{ℕ, ◌<◌, count, forest, HasNoPartner, factors_in}
 use Rattle.product_reduce.proofs.steps.first_pair.Given as goal
 
 abbrev pub invariant-loop-first : goal.invariant-loop-first

@@ -1,6 +1,5 @@
-use Rattle.std.proofs.Common.{◌≡◌, ◌∙◌, ap, sym, refl, arith}
-use Rattle.product_reduce.proofs.{Shared.{passed_lacks, refusal_lacks, tree_of, is_zero, gives_as, expression_root, plain_root, at_zero}, Rejoined.{pair_lacks}, Pairs.{some_partners}}
-use Rattle.product_reduce.proofs.steps.join_or_end.Goals.{After-is_zero}
+use Rattle.product_reduce.proofs.{Shared.{◌≡◌, ◌∙◌, ap, sym, refl, arith, passed_lacks, refusal_lacks, tree_of, is_zero, gives_as, expression_root, plain_root, at_zero}, Rejoined.{pair_lacks}}
+use Rattle.product_reduce.proofs.{Pairs.{some_partners}, steps.join_or_end.Goals.{After-is_zero}}
 use Rattle.product_reduce.proofs.steps.join_or_end.Goals as goal
 
 pub is_zero-requires-clause-expression : goal.is_zero-requires-clause-expression

@@ -1,6 +1,5 @@
-use Rattle.std.proofs.Common.{arith, ◌∙◌, ap, sym, refl}
-use Rattle.product_reduce.proofs.Shared.{mult, plain, without_root, forest, behind_first, behind_later, front_same, front_end, front_without, front_after_one, gives, represents_handed, ends_as}
-use Rattle.product_reduce.proofs.{Shared.{without-swap, eqb-sym, coefficient_before, joined, Becomes, factors_in}, Beside.{beside_becomes, tree_becomes}}
+use Rattle.product_reduce.proofs.Shared.{arith, ◌∙◌, ap, sym, refl, mult, plain, without_root, forest, behind_first, behind_later, front_same, front_end, front_without, front_after_one, gives}
+use Rattle.product_reduce.proofs.{Shared.{represents_handed, ends_as, without-swap, eqb-sym, coefficient_before, joined, Becomes, factors_in}, Beside.{beside_becomes, tree_becomes}}
 use Rattle.product_reduce.proofs.{Products.{becomes_as, factors_are, product_at}, Pairs.{joined_at}, steps.joined.Goals.{In_ok-join_pair}}
 use Rattle.product_reduce.proofs.steps.joined.Goals as goal
 

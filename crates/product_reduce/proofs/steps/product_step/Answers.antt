@@ -2,7 +2,8 @@ use Rattle.std.proofs.Common.{arith, ◌≡◌, ◌∙◌, Err, sym, refl, subst
 use Rattle.product_reduce.proofs.{Shared.{PlainValue, IsPlainAnswer, AnswersRationals, tree_of, forest, gives_as, given_told, IsFinished, factors_in}, Finished.{undef_finished, rationals_defined}}
 use Rattle.product_reduce.proofs.{JoinedCounts.{product_counted}, GatheredParts.{spans_factors}, Parted.{AreOpened, AreParted, opens, parted, reduced_now, rationals_opened, numbers_overflow}}
 use Rattle.product_reduce.proofs.{Parted.{numbers_fit, numbers_room, stop_given, spreading_given, spreading_fits, parted_room, finished_bounds}, Rejoined.{again_map, done_map, rejoin_given}}
-use Rattle.product_reduce.proofs.{Rejoined.{spans_joined, step_answered, step_refused}, Stepped.{mult_words}, steps.product_step.Goals.{After-open_products, In_ok-coefficient}}
+use Rattle.product_reduce.proofs.{Rejoined.{spans_joined, step_answered, step_refused}, steps.product_step.Goals.{After-open_products, In_ok-coefficient}}
+use Rattle.tree_handles.proofs.SmallLaws.{mult_is as mult_words}
 use Rattle.product_reduce.proofs.steps.product_step.Goals as goal
 
 opened_now : (c : After-open_products) → AreOpened c.args.product c.args.pool.now c.open_products.new.pool

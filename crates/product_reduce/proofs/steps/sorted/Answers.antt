@@ -1,7 +1,5 @@
-use Rattle.std.proofs.Common.{◌∙◌, ap, rules}
-use Rattle.product_reduce.proofs.{Shared.{Permuted-sym, is_number, if_map, is_zero, gives_as}, Neighbours.{apart_before}, SortedBeside.{AreSorted, sorts, none_sorted, ending_sorted, spreading_sorted}}
-use Rattle.product_reduce.proofs.{SortedBeside.{room_sorted}, steps.sorted.Goals.{After-sort_factors}}
-use Rattle.like_children.proofs.Permutations.{of_lists}
+use Rattle.product_reduce.proofs.{Shared.{◌∙◌, ap, rules, Permuted-sym, is_number, if_map, is_zero, gives_as, of_lists}, Neighbours.{apart_before}, SortedBeside.{AreSorted, sorts, none_sorted}}
+use Rattle.product_reduce.proofs.{SortedBeside.{ending_sorted, spreading_sorted, room_sorted}, steps.sorted.Goals.{After-sort_factors}}
 use Rattle.product_reduce.proofs.steps.sorted.Goals as goal
 
 behind : (c : After-sort_factors) → AreSorted c.args.product c.args.coefficient c.args.pool.now c.sort_factors.new.pool

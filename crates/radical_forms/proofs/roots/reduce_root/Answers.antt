@@ -1,13 +1,8 @@
-use Rattle.std.proofs.Common.{rules, ◌≡◌, ◌*◌, [], ◌∷◌, false, refl, sym, ap, ◌∙◌, subst, arith}
-use Rattle.calc_algebra.specs.Numbers.{natural_of}
-use Rattle.calc_room.specs.Spans.{SpansTree}
-use Rattle.calc_terms.specs.{Rat.{value_of}, Trees.{Tree, num, root, is_num, is_undef, root_kind, size}}
-use Rattle.tree_handles.proofs.{Lasts.{expression_root, last_tree}, Room.{least_size}, Fronts.{behind_first, front_same, front_end, front_without}}
-use Rattle.tree_handles.proofs.Given.{gives, gives_as, given_told, represents_handed}
-use Rattle.tree_handles.specs.{Expressions.{plain}, Forest.{Forest}, Handed.{tree_of}}
-use Rattle.radical_forms.specs.RootAnswers.{argument_of}
-use Rattle.radical_forms.proofs.{Handed.{root_is, has_child, argument_at, undef_by_kind, no_num_by_kind, no_undef_by_kind}, RootLaws.{no_argument_answer, other_answer, no_other_wide, answer_as}}
-use Rattle.radical_forms.proofs.{Spanned.{spans_answer, spans_root_of}, RootBits.{no_wide, not_refused, other_rational}, roots.reduce_root.Goals.{After-rational-q, After-kind}}
+use Rattle.radical_forms.proofs.Shared.{rules, ◌≡◌, ◌*◌, [], ◌∷◌, false, refl, sym, ap, ◌∙◌, subst, arith, natural_of, SpansTree, value_of, Tree, num, root, is_num, is_undef, root_kind, size}
+use Rattle.radical_forms.proofs.Shared.{expression_root, last_tree, least_size, behind_first, front_same, front_end, front_without, gives, gives_as, given_told, represents_handed, plain, Forest}
+use Rattle.radical_forms.proofs.{Shared.{tree_of, argument_of}, Handed.{root_is, has_child, argument_at, undef_by_kind, no_num_by_kind, no_undef_by_kind}, RootLaws.{no_argument_answer, other_answer}}
+use Rattle.radical_forms.proofs.{RootLaws.{no_other_wide, answer_as}, Spanned.{spans_answer, spans_root_of}, RootBits.{no_wide, not_refused, other_rational}}
+use Rattle.radical_forms.proofs.roots.reduce_root.Goals.{After-rational-q, After-kind}
 use Rattle.radical_forms.proofs.roots.reduce_root.Goals as goal
 
 pub child_id-argument-requires-clause-within : goal.child_id-argument-requires-clause-within

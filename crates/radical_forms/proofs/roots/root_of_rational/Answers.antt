@@ -1,19 +1,9 @@
-use Rattle.std.proofs.Common.{rules, ◌≡◌, pos, ◌<ℤ◌, ◌≤◌, ◌+◌, true, refl, sym, ap, ◌∙◌, arith, to_z, of_z}
-use Rattle.std.specs.Int.{w128}
-use Rattle.calc_terms.specs.{Fractions.{whole_fraction}, Integers.{int_is_negative}, Rat.{value_of}, Trees.{num, root_size, size}}
-use Rattle.calc_terms.proofs.Sizes.{num_most}
-use Rattle.node_pool.specs.State.{free_of}
-use Rattle.rational128.proofs.{LowestTerms.{ratio_parts}, Signed.{told}}
+use Rattle.radical_forms.proofs.Shared.{rules, ◌≡◌, pos, ◌<ℤ◌, ◌≤◌, ◌+◌, true, refl, sym, ap, ◌∙◌, arith, to_z, of_z, w128, whole_fraction, int_is_negative, value_of, num, root_size, size, num_most}
+use Rattle.radical_forms.proofs.Shared.{free_of, ratio_parts, told, whole_value, behind_first, front_same, front_at, front_without, front_after, gives_as, given_told, owned, released_free, least_size}
+use Rattle.radical_forms.proofs.{Shared.{passed_on, tree_of, OfFull, term_tree, Overflow, LacksRoot, NamesProduct}, RootLaws.{zero_answer, positive_answer, negative_answer, not_above_zero}}
+use Rattle.radical_forms.proofs.RootLaws.{not_above_negative, answer_as, root_as, wide_as, positive_num, negative_num, not_negative_num, not_overflow, is_overflow, named_overflow, term_tree_is}
+use Rattle.radical_forms.proofs.{RootLaws.{term_lacks}, RootBits.{term_measured, zero_measured}, roots.root_of_rational.Goals.{Then-num-lt0, Then-num-eq0, Else-num-eq0}}
 use Rattle.surd_terms.specs.Terms.{term_of}
-use Rattle.surd_terms.proofs.Rationals.{whole_value}
-use Rattle.tree_handles.proofs.{Fronts.{behind_first, front_same, front_at, front_without, front_after}, Given.{gives_as, given_told, owned}, Outcomes.{passed_on}, Room.{released_free, least_size}}
-use Rattle.tree_handles.specs.{Handed.{tree_of}, Lacking.{OfFull}}
-use Rattle.number_forms.specs.Shapes.{term_tree}
-use Rattle.rational128.specs.declared.overflow.Overflow.{Overflow}
-use Rattle.radical_forms.specs.Refusals.{LacksRoot, NamesProduct}
-use Rattle.radical_forms.proofs.RootLaws.{zero_answer, positive_answer, negative_answer, not_above_zero, not_above_negative, answer_as, root_as, wide_as, positive_num, negative_num, not_negative_num}
-use Rattle.radical_forms.proofs.{RootLaws.{not_overflow, is_overflow, named_overflow, term_tree_is, term_lacks}, RootBits.{term_measured, zero_measured}, roots.root_of_rational.Goals.{Then-num-lt0}}
-use Rattle.radical_forms.proofs.roots.root_of_rational.Goals.{Then-num-eq0, Else-num-eq0}
 use Rattle.tree_handles.specs.declared.fault.NumberFault.TheVariants as fault
 use Rattle.radical_forms.proofs.roots.root_of_rational.Goals as goal
 

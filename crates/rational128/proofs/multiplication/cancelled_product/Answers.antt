@@ -1,8 +1,7 @@
 use Rattle.rational128.proofs.{Shared.{◌≡◌, ◌<◌, ◌^◌, ◌*◌, ◌/◌, ◌*ℤ◌, subst, sym, ap, ◌∙◌, to_z, of_z, nat_abs, w128, IsGcd, unsigned_abs-mul, over, value_of}, LowestTerms.{HasParts, same_parts}}
 use Rattle.rational128.proofs.{Signed.{told, quotient_told, product_told}, Products.{Factors, first_positive, second_positive, product_lowest, product_den_positive, product_parts, unfit_num}}
-use Rattle.rational128.proofs.Products.{unfit_den, parts_fit}
+use Rattle.rational128.proofs.{Products.{unfit_den, parts_fit}, multiplication.cancelled_product.Goals.{After-gcd-second, After-quotient-2, In_ok-num, In_ok-den}}
 use Rattle.rational128.proofs.multiplication.cancelled_product.Goals as goal
-use Rattle.rational128.proofs.multiplication.cancelled_product.Goals.{After-gcd-second, After-quotient-2, In_ok-num, In_ok-den}
 
 factors : (c : After-gcd-second) → Factors (value_of c.args.a) (value_of c.args.b) (c.parts-a_num.result.0) (c.parts-a_num.result.1) (c.parts-b_num.result.0) (c.parts-b_num.result.1) c.gcd-first.result c.gcd-second.result
 factors c = record {

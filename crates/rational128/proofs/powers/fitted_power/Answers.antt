@@ -1,7 +1,6 @@
 use Rattle.rational128.proofs.{Shared.{◌≡◌, ◌<◌, ◌^◌, refl, ap, sym, ◌∙◌, subst, to_z, of_z, nat_abs, w128, int_pow, value_of}, LowestTerms.{same_parts}, Signed.{told}}
-use Rattle.rational128.proofs.{Products.{unfit_num, unfit_den, parts_fit}, FractionPowers.{IsPower, power_parts, int_pow-abs}}
+use Rattle.rational128.proofs.{Products.{unfit_num, unfit_den, parts_fit}, FractionPowers.{IsPower, power_parts, int_pow-abs}, powers.fitted_power.Goals.{In_ok-num, In_ok-den}}
 use Rattle.rational128.proofs.powers.fitted_power.Goals as goal
-use Rattle.rational128.proofs.powers.fitted_power.Goals.{In_ok-num, In_ok-den}
 
 -- the numerator of the power, as it is handed on
 num_told : (c : In_ok-num) → (to_z w128 (of_z w128 c.in_ok-num.num) ≡ int_pow (c.parts-a_num.result.0) c.args.exponent) × (nat_abs (int_pow (c.parts-a_num.result.0) c.args.exponent) < 2 ^ 127)

@@ -1,6 +1,5 @@
-use Rattle.rational128.proofs.Shorts.{IsShortOne, short_one, short_sum, sum_value, short_fits}
+use Rattle.rational128.proofs.{Shorts.{IsShortOne, short_one, short_sum, sum_value, short_fits}, short.short_sum.Goals.{After-num-2}}
 use Rattle.rational128.proofs.short.short_sum.Goals as goal
-use Rattle.rational128.proofs.short.short_sum.Goals.{After-num-2}
 
 left : (c : After-num-2) → IsShortOne c.args.a c.num.result
 left c = short_one c.args.a c.num.result c.requires.first c.num.ensures.value c.num.ensures.rat

@@ -1,5 +1,4 @@
-use Rattle.raw_region.proofs.{Shared.{refl, arith}, Runs.{stored_all, stored_more}}
-use Rattle.std.proofs.Common.{slice_index_or}
+use Rattle.raw_region.proofs.{Shared.{refl, arith, slice_index_or}, Runs.{stored_all, stored_more}}
 use Rattle.raw_region.proofs.moves.store.Goals as goal
 
 pub loop-i-preserved : goal.loop-i-preserved

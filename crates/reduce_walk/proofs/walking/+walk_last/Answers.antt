@@ -1,10 +1,8 @@
-use Rattle.std.proofs.Common.{◌<◌, sym, ap, ◌∙◌, arith, subst}
-use Rattle.reduce_walk.proofs.Shared.{states, Tree, nodes, live, expression, seen, TripsWithin, fault_of, is_leaf, BeginWithLeaves, children_of, tree_of, keeps_none, keeps_after, behind_first}
-use Rattle.reduce_walk.proofs.{Shared.{front_same, front_after_one, gives, gives_as, given_handed, given_told, represents_handed}, Bytes.{child_free, last_free}, Ready.{walked_ready}}
-use Rattle.reduce_walk.proofs.{Stopping.{StopsParent, all_checks, child_stops, last_trips, leaf_calm, leaf_trips, step_stops}, Walks.{all_walked, child_front, fewer_nodes, leaves_walked}}
-use Rattle.reduce_walk.proofs.Walks.{leaves_within, many_children, next_child, next_taken, next_taken_too, next_there, next_walked, next_within, stands_last, to_adopt}
+use Rattle.reduce_walk.proofs.Shared.{◌<◌, sym, ap, ◌∙◌, arith, subst, states, Tree, nodes, live, expression, seen, TripsWithin, fault_of, is_leaf, BeginWithLeaves, children_of, tree_of, keeps_none}
+use Rattle.reduce_walk.proofs.{Shared.{keeps_after, behind_first, front_same, front_after_one, gives, gives_as, given_handed, given_told, represents_handed, passed_on}, Bytes.{child_free, last_free}}
+use Rattle.reduce_walk.proofs.{Ready.{walked_ready}, Stopping.{StopsParent, all_checks, child_stops, last_trips, leaf_calm, leaf_trips, step_stops}, Walks.{all_walked, child_front, fewer_nodes}}
+use Rattle.reduce_walk.proofs.Walks.{leaves_walked, leaves_within, many_children, next_child, next_taken, next_taken_too, next_there, next_walked, next_within, stands_last, to_adopt}
 use Rattle.reduce_port.specs.declared.fault.ReduceFault.TheVariants as fault
-use Rattle.tree_handles.proofs.Outcomes.{passed_on}
 use Rattle.reduce_walk.proofs.walking.+walk_last.Goals as goal
 
 pub is_leaf-requires-clause-expression : goal.is_leaf-requires-clause-expression

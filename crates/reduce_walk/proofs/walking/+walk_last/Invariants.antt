@@ -1,5 +1,4 @@
-use Rattle.std.proofs.Common.{◌≡◌}
-use Rattle.reduce_walk.proofs.{Shared.{states, count, nodes, children_of, tree_of, Stands, forest, KeepsRefusals}, Walks.{IsWalked}}
+use Rattle.reduce_walk.proofs.{Shared.{◌≡◌, states, count, nodes, children_of, tree_of, Stands, forest, KeepsRefusals}, Walks.{IsWalked}}
 use Rattle.reduce_walk.proofs.walking.+walk_last.Given as goal
 
 abbrev pub decreases-walk_last : goal.decreases-walk_last

@@ -1,8 +1,6 @@
-use Rattle.std.proofs.Common.{ℕ, suc, ◌+◌, ◌≡◌, [], ◌∷◌, ◌++◌, length, ap, ◌∙◌, sym, subst, arith}
-use Rattle.reduce_walk.proofs.Shared.{length-append, CalmChecks, states, CalmChecks-append, BeginWithLeaves, one_calm, trips_at_once, trips_within_after, plain, children_of, rest_trees, tree_at}
-use Rattle.reduce_walk.proofs.{Shared.{kids_of, forest, trips_more}, Stopping.{leaf_counts}, Walks.{leaves_more, few_children}, LeafVisits.{next_visit}}
-use Rattle.tree_handles.specs.Visits.{visits_of}
-use Rattle.tree_handles.proofs.{Readings.{expression_children}, Outcomes.{passed_on}}
+use Rattle.reduce_walk.proofs.Shared.{ℕ, suc, ◌+◌, ◌≡◌, [], ◌∷◌, ◌++◌, length, ap, ◌∙◌, sym, subst, arith, length-append, CalmChecks, states, CalmChecks-append, BeginWithLeaves, one_calm}
+use Rattle.reduce_walk.proofs.Shared.{trips_at_once, trips_within_after, plain, children_of, rest_trees, tree_at, kids_of, forest, trips_more, visits_of, expression_children, passed_on}
+use Rattle.reduce_walk.proofs.{Stopping.{leaf_counts}, Walks.{leaves_more, few_children}, LeafVisits.{next_visit}}
 use Rattle.reduce_walk.proofs.walking.check_leaves.Goals as goal
 
 pub returns-then-not-is_leaf_kind-clause-leaves : goal.returns-then-not-is_leaf_kind-clause-leaves

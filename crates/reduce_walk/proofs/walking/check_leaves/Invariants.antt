@@ -1,6 +1,4 @@
-use Rattle.std.proofs.Common.{◌≡◌, length}
-use Rattle.reduce_walk.proofs.Shared.{CalmChecks, states, BeginWithLeaves, plain, children_of, rest_trees, tree_at, kids_of, forest}
-use Rattle.tree_handles.specs.Visits.{visits_of}
+use Rattle.reduce_walk.proofs.Shared.{◌≡◌, length, CalmChecks, states, BeginWithLeaves, plain, children_of, rest_trees, tree_at, kids_of, forest, visits_of}
 use Rattle.reduce_walk.proofs.walking.check_leaves.Given as goal
 
 abbrev pub invariant-loop-node : goal.invariant-loop-node

@@ -1,8 +1,5 @@
-use Rattle.std.proofs.Common.{rules, sym, ap, subst}
-use Rattle.std.specs.Prelude.{OnOk}
-use Rattle.reduce_walk.proofs.{Shared.{CalmChecks, states, Tree, nodes, plain, tree_of, behind_first, front_after_one, gives_as}, Bytes.{last_free}}
+use Rattle.reduce_walk.proofs.{Shared.{rules, sym, ap, subst, OnOk, CalmChecks, states, Tree, nodes, plain, tree_of, behind_first, front_after_one, gives_as, if_map}, Bytes.{last_free}}
 use Rattle.reduce_walk.proofs.{Port.{if_full, if_overflow, if_interrupted, counts, rose}, Stopping.{stopped, kept_from}, Walks.{moved}}
-use Rattle.tree_handles.proofs.Outcomes.{if_map}
 use Rattle.reduce_walk.proofs.walking.walk.Goals as goal
 
 pub walk_last-requires-clause-handed : goal.walk_last-requires-clause-handed

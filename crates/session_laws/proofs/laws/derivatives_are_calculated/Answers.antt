@@ -1,5 +1,4 @@
-use Rattle.std.proofs.Common.{refl}
-use Rattle.session_laws.proofs.{Shared.{diff}, AskedLines.{commanded_reply}}
+use Rattle.session_laws.proofs.{Shared.{refl, diff}, AskedLines.{commanded_reply}}
 use Rattle.session_laws.proofs.laws.derivatives_are_calculated.Goals as goal
 
 pub returns : goal.returns

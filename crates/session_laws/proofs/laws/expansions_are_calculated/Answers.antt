@@ -1,5 +1,4 @@
-use Rattle.std.proofs.Common.{refl}
-use Rattle.session_laws.proofs.{Shared.{expand}, AskedLines.{commanded_reply}}
+use Rattle.session_laws.proofs.{Shared.{refl, expand}, AskedLines.{commanded_reply}}
 use Rattle.session_laws.proofs.laws.expansions_are_calculated.Goals as goal
 
 pub returns : goal.returns

@@ -1,5 +1,4 @@
-use Rattle.std.proofs.Common.{refl}
-use Rattle.session_laws.proofs.{Shared.{solve}, AskedLines.{commanded_reply}, EquationLines.{is_solved}}
+use Rattle.session_laws.proofs.{Shared.{refl, solve}, AskedLines.{commanded_reply}, EquationLines.{is_solved}}
 use Rattle.session_laws.proofs.laws.linear_equations_are_solved.Goals as goal
 
 pub returns : goal.returns

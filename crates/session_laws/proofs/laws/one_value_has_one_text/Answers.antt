@@ -1,5 +1,4 @@
-use Rattle.std.proofs.Common.{ap}
-use Rattle.session_laws.proofs.{Shared.{text}, MeaningLemmas.{shown_alike}}
+use Rattle.session_laws.proofs.{Shared.{ap, text}, MeaningLemmas.{shown_alike}}
 use Rattle.session_laws.proofs.laws.one_value_has_one_text.Goals as goal
 
 pub returns : goal.returns

@@ -1,5 +1,4 @@
-use Rattle.std.proofs.Common.{◌∙◌, sym}
-use Rattle.session_laws.proofs.ExpandedLines.{one_expansion_text, told_of}
+use Rattle.session_laws.proofs.{Shared.{◌∙◌, sym}, ExpandedLines.{one_expansion_text, told_of}}
 use Rattle.session_laws.proofs.laws.same_coefficients_same_text.Goals as goal
 
 pub returns : goal.returns

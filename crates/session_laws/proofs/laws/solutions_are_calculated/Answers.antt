@@ -1,5 +1,4 @@
-use Rattle.std.proofs.Common.{refl}
-use Rattle.session_laws.proofs.{Shared.{solve}, AskedLines.{commanded_reply}}
+use Rattle.session_laws.proofs.{Shared.{refl, solve}, AskedLines.{commanded_reply}}
 use Rattle.session_laws.proofs.laws.solutions_are_calculated.Goals as goal
 
 pub returns : goal.returns

@@ -1,7 +1,6 @@
-use Rattle.std.proofs.Common.{◌<◌, ◌+◌, ◌≡◌, false, arith}
-use Rattle.sum_reduce.proofs.Shared.{count, IsPairAt, IsNextPair, NoPairBetween, widths, terms_in, is_loose, is_partner, nth, forest, keeps_after, behind_first, front_after_one, passed_lacks}
-use Rattle.sum_reduce.proofs.{Shared.{sum_count}, Results.{match_option_given}, Stages.{stage_after}, Sums.{changes_after}, CollectedSpans.{spans_collected}, Rooms.{fewer_lack}}
-use Rattle.sum_reduce.proofs.SumBytes.{changes_free}
+use Rattle.sum_reduce.proofs.Shared.{◌<◌, ◌+◌, ◌≡◌, false, arith, count, IsPairAt, IsNextPair, NoPairBetween, widths, terms_in, is_loose, is_partner, nth, forest, keeps_after, behind_first}
+use Rattle.sum_reduce.proofs.{Shared.{front_after_one, passed_lacks, sum_count}, Results.{match_option_given}, Stages.{stage_after}, Sums.{changes_after}, CollectedSpans.{spans_collected}}
+use Rattle.sum_reduce.proofs.{Rooms.{fewer_lack}, SumBytes.{changes_free}}
 use Rattle.sum_reduce.proofs.arranging.join_pairs.Goals as goal
 
 pub loop-next-preserved : goal.loop-next-preserved

@@ -1,6 +1,5 @@
-use Rattle.std.proofs.Common.{◌+◌, arith}
-use Rattle.sum_reduce.proofs.{Shared.{keeps_after, behind_first, front_after_one, forest, collects_then, terms_in, passed_lacks, free_of, sum_count}, Orders.{folded_alone}, Stages.{stage_after}}
-use Rattle.sum_reduce.proofs.{Sums.{changes_after}, CollectedSpans.{spans_collected}, Rooms.{fewer_lack, terms_lack, arranged_counts}, SumBytes.{changes_free}}
+use Rattle.sum_reduce.proofs.{Shared.{◌+◌, arith, keeps_after, behind_first, front_after_one, forest, collects_then, terms_in, passed_lacks, free_of, sum_count}, Orders.{folded_alone}}
+use Rattle.sum_reduce.proofs.{Stages.{stage_after}, Sums.{changes_after}, CollectedSpans.{spans_collected}, Rooms.{fewer_lack, terms_lack, arranged_counts}, SumBytes.{changes_free}}
 use Rattle.sum_reduce.proofs.arranging.settle.Goals as goal
 
 pub loop-at-preserved : goal.loop-at-preserved

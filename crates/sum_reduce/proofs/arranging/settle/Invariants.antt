@@ -1,5 +1,4 @@
-use Rattle.std.proofs.Common.{◌≡◌, true, [], ◌∷◌}
-use Rattle.sum_reduce.proofs.Shared.{plain_value, add, are_rationals, KeepsFront, Stands, forest, KeepsRefusals, IsArranged, IsFolded, IsStage, widths, Changes, terms_in}
+use Rattle.sum_reduce.proofs.Shared.{◌≡◌, true, [], ◌∷◌, plain_value, add, are_rationals, KeepsFront, Stands, forest, KeepsRefusals, IsArranged, IsFolded, IsStage, widths, Changes, terms_in}
 use Rattle.sum_reduce.proofs.arranging.settle.Given as goal
 
 abbrev pub invariant-loop-at : goal.invariant-loop-at

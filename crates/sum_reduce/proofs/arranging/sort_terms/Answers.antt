@@ -1,6 +1,5 @@
-use Rattle.std.proofs.Common.{◌<◌, ◌∙◌, ap, sym, subst, arith}
-use Rattle.sum_reduce.proofs.{Shared.{is_number, is_reduced, Trees, count, nth, forest, IsArranged, IsStage, terms_in}, Sorted.{formed_nth, led_behind, lead_few, children_sorted}}
-use Rattle.sum_reduce.proofs.{Rearranged.{few_same}, Stages.{stage_permuted}, Sums.{sum_over, root_arity}}
+use Rattle.sum_reduce.proofs.Shared.{◌<◌, ◌∙◌, ap, sym, subst, arith, is_number, is_reduced, Trees, count, nth, forest, IsArranged, IsStage, terms_in}
+use Rattle.sum_reduce.proofs.{Sorted.{formed_nth, led_behind, lead_few, children_sorted}, Rearranged.{few_same}, Stages.{stage_permuted}, Sums.{sum_over, root_arity}}
 use Rattle.sum_reduce.proofs.arranging.sort_terms.Goals as goal
 
 pub sort_children-requires-clause-within : goal.sort_children-requires-clause-within

@@ -1,6 +1,5 @@
-use Rattle.std.proofs.Common.{◌∙◌, ap, sym, inl, arith}
-use Rattle.sum_reduce.proofs.{Shared.{Trees, append, is_add, is_zero, nth, forest, owned, terms_in, removed}, Sums.{sum_within, sum_once, merged, released, takes_handed, term_out}}
-use Rattle.sum_reduce.proofs.Written.{spread_zero, spread_sum}
+use Rattle.sum_reduce.proofs.Shared.{◌∙◌, ap, sym, inl, arith, Trees, append, is_add, is_zero, nth, forest, owned, terms_in, removed}
+use Rattle.sum_reduce.proofs.{Sums.{sum_within, sum_once, merged, released, takes_handed, term_out}, Written.{spread_zero, spread_sum}}
 use Rattle.sum_reduce.proofs.endings.spread_number.Goals as goal
 
 pub take_child-zero-requires-clause-within : goal.take_child-zero-requires-clause-within

@@ -1,5 +1,4 @@
-use Rattle.std.proofs.Common.{◌∙◌, inl, arith}
-use Rattle.sum_reduce.proofs.{Shared.{forest, owned, terms_in}, Sums.{sum_within, term_out, only_left}, Written.{only_term}}
+use Rattle.sum_reduce.proofs.{Shared.{◌∙◌, inl, arith, forest, owned, terms_in}, Sums.{sum_within, term_out, only_left}, Written.{only_term}}
 use Rattle.sum_reduce.proofs.endings.unwrapped.Goals as goal
 
 pub take_child-only-requires-clause-within : goal.take_child-only-requires-clause-within

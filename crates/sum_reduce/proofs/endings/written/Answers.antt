@@ -1,5 +1,4 @@
-use Rattle.std.proofs.Common.{◌∙◌}
-use Rattle.sum_reduce.proofs.{Shared.{gives_as}, Sums.{changes_rest}}
+use Rattle.sum_reduce.proofs.{Shared.{◌∙◌, gives_as}, Sums.{changes_rest}}
 use Rattle.sum_reduce.proofs.endings.written.Goals as goal
 
 pub returns-clause-tree : goal.returns-clause-tree

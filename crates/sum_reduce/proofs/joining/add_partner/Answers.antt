@@ -1,8 +1,8 @@
-use Rattle.std.proofs.Common.{◌∙◌, ap, ℕ, ◌<◌, sym, subst, arith, ◌++◌, rules}
-use Rattle.sum_reduce.proofs.Shared.{sizes_taken, is_number, value, is_reduced, is_undef, size, sizes, number_test, coefficient_of, taken, nth, forest, behind_first, behind_later, front_after_one}
-use Rattle.sum_reduce.proofs.Shared.{front_after_two, given_told, eqb-sym, if_map, terms_in, result_named, free_of, SpansRoot, SpansTree, refusal_lacks, result_lacks, tree_of, keeps_after, HasFewBits}
-use Rattle.sum_reduce.proofs.{Results.{if_ok_both}, Sums.{sum_within, term_out, takes_handed, takes_behind, takes_front, rewritten, other_handed, other_same, other_clear, both_rewritten}}
-use Rattle.sum_reduce.proofs.{Hindered.{numbers_named, names_as}, CollectedParts.{coefficient_parts}, Rooms.{number_lacks}, SumBytes.{out_free, takes_free}}
+use Rattle.sum_reduce.proofs.Shared.{◌∙◌, ap, ℕ, ◌<◌, sym, subst, arith, ◌++◌, rules, sizes_taken, is_number, value, is_reduced, is_undef, size, sizes, number_test, coefficient_of, taken, nth, forest}
+use Rattle.sum_reduce.proofs.Shared.{behind_first, behind_later, front_after_one, front_after_two, given_told, eqb-sym, if_map, terms_in, result_named, free_of, SpansRoot, SpansTree, refusal_lacks}
+use Rattle.sum_reduce.proofs.{Shared.{result_lacks, tree_of, keeps_after, HasFewBits, if_ok_both}, Sums.{sum_within, term_out, takes_handed, takes_behind, takes_front, rewritten, other_handed}}
+use Rattle.sum_reduce.proofs.{Sums.{other_same, other_clear, both_rewritten}, Hindered.{numbers_named, names_as}, CollectedParts.{coefficient_parts}, Rooms.{number_lacks}}
+use Rattle.sum_reduce.proofs.SumBytes.{out_free, takes_free}
 use Rattle.sum_reduce.proofs.joining.add_partner.Goals as goal
 
 pub take_child-term-requires-clause-within : goal.take_child-term-requires-clause-within

@@ -1,6 +1,5 @@
-use Rattle.std.proofs.Common.{suc, add-one, arith, rules}
-use Rattle.sum_reduce.proofs.Shared.{forest, keeps_after, behind_first, front_after_two, terms_in, coefficient_of, fault_named, nth, tree_of, NamesSum, Overflows, free_of, full_as, removed}
-use Rattle.sum_reduce.proofs.{Joins.{joining_formed, joining_less, next_partner, partner_step, partner_within}, Numbered.{beside_behind}, Sorted.{formed_nth}}
+use Rattle.sum_reduce.proofs.Shared.{suc, add-one, arith, rules, forest, keeps_after, behind_first, front_after_two, terms_in, coefficient_of, fault_named, nth, tree_of, NamesSum, Overflows, free_of}
+use Rattle.sum_reduce.proofs.{Shared.{full_as, removed}, Joins.{joining_formed, joining_less, next_partner, partner_step, partner_within}, Numbered.{beside_behind}, Sorted.{formed_nth}}
 use Rattle.sum_reduce.proofs.{Sums.{takes_handed, takes_apart, takes_after}, Hindered.{partner_hinders}, Rooms.{joining_spans, spans_next, partner_lacks}, SumBytes.{taken_free}}
 use Rattle.sum_reduce.proofs.FewBits.{next_partner_few}
 use Rattle.sum_reduce.proofs.joining.add_partners.Goals as goal

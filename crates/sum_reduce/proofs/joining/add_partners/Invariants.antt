@@ -1,5 +1,4 @@
-use Rattle.std.proofs.Common.{ℕ, ◌<◌, [], ◌∷◌}
-use Rattle.sum_reduce.proofs.Shared.{Trees, count, tree_of, KeepsFront, nth, Forest, Stands, forest, KeepsRefusals, IsJoining, Takes, terms_in, removed}
+use Rattle.sum_reduce.proofs.Shared.{ℕ, ◌<◌, [], ◌∷◌, Trees, count, tree_of, KeepsFront, nth, Forest, Stands, forest, KeepsRefusals, IsJoining, Takes, terms_in, removed}
 use Rattle.sum_reduce.proofs.joining.add_partners.Given as goal
 
 abbrev pub invariant-loop-pool : goal.invariant-loop-pool

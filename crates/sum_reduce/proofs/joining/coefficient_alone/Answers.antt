@@ -1,5 +1,4 @@
-use Rattle.std.proofs.Common.{inl}
-use Rattle.sum_reduce.proofs.{Shared.{behind_first, front_same, front_end, front_without, owned, given_handed, given_root}, Sums.{part_gone}}
+use Rattle.sum_reduce.proofs.{Shared.{inl, behind_first, front_same, front_end, front_without, owned, given_handed, given_root}, Sums.{part_gone}}
 use Rattle.sum_reduce.proofs.joining.coefficient_alone.Goals as goal
 
 pub release-requires-clause-releasable : goal.release-requires-clause-releasable

@@ -1,9 +1,8 @@
-use Rattle.std.proofs.Common.{◌<◌, ◌≤◌, ◌+◌, sym, subst, add-one, arith, rules, ℕ}
-use Rattle.sum_reduce.proofs.Shared.{Trees, nth, Forest, forest, State, tree_of, behind_first, front_after_two, IsStage, IsJoining, Takes, widths, nodes, terms_in, passed_named, result_named}
-use Rattle.sum_reduce.proofs.{Shared.{Overflows, free_of, removed, passed_lacks, refusal_lacks, result_lacks, keeps_after, sum_count, addends_of_each}, Joins.{IsBegun, begins, next_partner}}
-use Rattle.sum_reduce.proofs.{Joins.{partner_within, joining_formed, two_joined, joining_done, joined_others, pair_here, joined_within}, Results.{on_ok_map}, Sums.{takes_handed, takes_apart}}
-use Rattle.sum_reduce.proofs.{Sums.{takes_after, takes_behind, takes_front, takes_changes}, Widths.{some_node}, Hindered.{partner_hinders, part_hinders}, Rooms.{joined_counts, joining_spans}}
-use Rattle.sum_reduce.proofs.{Rooms.{spans_next, terms_lack, few_lack, partner_lacks, part_lacks}, SumBytes.{takes_free}, FewBits.{next_partner_few}, Held.{few_after}}
+use Rattle.sum_reduce.proofs.Shared.{◌<◌, ◌≤◌, ◌+◌, sym, subst, add-one, arith, rules, ℕ, Trees, nth, Forest, forest, State, tree_of, behind_first, front_after_two, IsStage, IsJoining, Takes, widths}
+use Rattle.sum_reduce.proofs.Shared.{nodes, terms_in, passed_named, result_named, Overflows, free_of, removed, passed_lacks, refusal_lacks, result_lacks, keeps_after, sum_count, addends_of_each}
+use Rattle.sum_reduce.proofs.{Joins.{IsBegun, begins, next_partner, partner_within, joining_formed, two_joined, joining_done, joined_others, pair_here, joined_within}, Results.{on_ok_map}}
+use Rattle.sum_reduce.proofs.{Sums.{takes_handed, takes_apart, takes_after, takes_behind, takes_front, takes_changes}, Widths.{some_node}, Hindered.{partner_hinders, part_hinders}}
+use Rattle.sum_reduce.proofs.{Rooms.{joined_counts, joining_spans, spans_next, terms_lack, few_lack, partner_lacks, part_lacks}, SumBytes.{takes_free}, FewBits.{next_partner_few}, Held.{few_after}}
 use Rattle.sum_reduce.proofs.joining.join_terms.Goals.{In_ok-coefficient, In_ok-both, In_ok-total}
 use Rattle.sum_reduce.proofs.joining.join_terms.Goals as goal
 

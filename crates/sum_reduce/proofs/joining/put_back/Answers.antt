@@ -1,8 +1,7 @@
-use Rattle.std.proofs.Common.{◌≡◌, ◌∙◌, ap, arith, ◌^◌, length, sym, subst, ◌∷◌, rules}
-use Rattle.sum_reduce.proofs.Shared.{is_reduced, more, none, Tree, size, nth, with_coefficient, factors_of, IsMonic, inserted, removed, forest, Forest, tree_of, without_root, children_of}
-use Rattle.sum_reduce.proofs.Shared.{given_handed, given_told, eqb-sym, terms_in, passed_named, put_as, is_number, value, counted, SpansTree, put_room, passed_lacks, HaveFewBits, addend, plain, count}
-use Rattle.sum_reduce.proofs.{Shared.{tree-without}, Sums.{IsChanged, filled, sum_beside, beside_front}, PutsFit.{put_fits}, joining.put_back.Goals.{After-fill}}
-use Rattle.tree_handles.proofs.Filling.{as_before, hole_beside, hole_stays}
+use Rattle.sum_reduce.proofs.Shared.{◌≡◌, ◌∙◌, ap, arith, ◌^◌, length, sym, subst, ◌∷◌, rules, is_reduced, more, none, Tree, size, nth, with_coefficient, factors_of, IsMonic, inserted, removed}
+use Rattle.sum_reduce.proofs.Shared.{forest, Forest, tree_of, without_root, children_of, given_handed, given_told, eqb-sym, terms_in, passed_named, put_as, is_number, value, counted, SpansTree}
+use Rattle.sum_reduce.proofs.{Shared.{put_room, passed_lacks, HaveFewBits, addend, plain, count, tree-without, as_before, hole_beside, hole_stays}, Sums.{IsChanged, filled, sum_beside, beside_front}}
+use Rattle.sum_reduce.proofs.{PutsFit.{put_fits}, joining.put_back.Goals.{After-fill}}
 use Rattle.sum_reduce.proofs.joining.put_back.Goals as goal
 
 pub open_child-hole-requires : goal.open_child-hole-requires

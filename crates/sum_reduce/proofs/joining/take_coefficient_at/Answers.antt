@@ -1,8 +1,6 @@
-use Rattle.std.proofs.Common.{◌≡◌, ◌∙◌, ap, ◌<◌, subst, rules, ℕ}
-use Rattle.std.specs.Prelude.{IfErr}
-use Rattle.sum_reduce.proofs.Shared.{Tree, passed_result, is_number, is_reduced, part_of, more, none, is_undef, coefficient_of, given_handed, given_told, inserted, removed, forest, terms_in, free_of}
-use Rattle.sum_reduce.proofs.{Shared.{tree_of}, Sums.{IsSplit, part_back, takes_front}, Rooms.{taking_lacks}, joining.take_coefficient_at.Goals.{After-fill}}
-use Rattle.tree_handles.proofs.Filling.{hole_behind, hole_stays}
+use Rattle.sum_reduce.proofs.Shared.{◌≡◌, ◌∙◌, ap, ◌<◌, subst, rules, ℕ, IfErr, Tree, passed_result, is_number, is_reduced, part_of, more, none, is_undef, coefficient_of, given_handed, given_told}
+use Rattle.sum_reduce.proofs.{Shared.{inserted, removed, forest, terms_in, free_of, tree_of, hole_behind, hole_stays}, Sums.{IsSplit, part_back, takes_front}, Rooms.{taking_lacks}}
+use Rattle.sum_reduce.proofs.joining.take_coefficient_at.Goals.{After-fill}
 use Rattle.sum_reduce.proofs.joining.take_coefficient_at.Goals as goal
 
 pub open_child-hole-requires : goal.open_child-hole-requires

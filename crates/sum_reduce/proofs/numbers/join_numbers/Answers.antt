@@ -1,10 +1,8 @@
-use Rattle.std.proofs.Common.{◌∙◌, inl, ap, sym, subst, arith, rules}
-use Rattle.sum_reduce.proofs.Shared.{passed_result, permuted_parts, is_number, plain_value, add, more, AnswersFold, forest, keeps_none, behind_first, front_same, front_after_two, given_root}
-use Rattle.sum_reduce.proofs.Shared.{rational_others, tree_of, root_held, terms_in, passed_named, Overflows, SpansRoot, SpansTree, SpansTrees, passed_lacks, HaveFewBits, addends_of_each}
-use Rattle.sum_reduce.proofs.{Sorted.{formed_nth}, Numbered.{gathered, next_hinders, next_fits, numbered, unnumbered, formed_behind, led_folded, rationals_taken, total_folded, total_faulted}}
-use Rattle.sum_reduce.proofs.Sums.{taken_given, taken_on, sum_beside, takes_apart, changes_same, changes_front, sum_within, term_out, takes_front, takes_behind, put_in, roots_apart}
-use Rattle.sum_reduce.proofs.{Hindered.{overflows_after, overflows_as, taken_first}, SumBytes.{out_free}, Held.{few_after, held_permuted}}
-use Rattle.like_children.proofs.Places.{taken_permuted}
+use Rattle.sum_reduce.proofs.Shared.{◌∙◌, inl, ap, sym, subst, arith, rules, passed_result, permuted_parts, is_number, plain_value, add, more, AnswersFold, forest, keeps_none, behind_first}
+use Rattle.sum_reduce.proofs.Shared.{front_same, front_after_two, given_root, rational_others, tree_of, root_held, terms_in, passed_named, Overflows, SpansRoot, SpansTree, SpansTrees, passed_lacks}
+use Rattle.sum_reduce.proofs.{Shared.{HaveFewBits, addends_of_each, taken_permuted}, Sorted.{formed_nth}, Numbered.{gathered, next_hinders, next_fits, numbered, unnumbered, formed_behind, led_folded}}
+use Rattle.sum_reduce.proofs.{Numbered.{rationals_taken, total_folded, total_faulted}, Sums.{taken_given, taken_on, sum_beside, takes_apart, changes_same, changes_front, sum_within, term_out}}
+use Rattle.sum_reduce.proofs.{Sums.{takes_front, takes_behind, put_in, roots_apart}, Hindered.{overflows_after, overflows_as, taken_first}, SumBytes.{out_free}, Held.{few_after, held_permuted}}
 use Rattle.sum_reduce.proofs.numbers.join_numbers.Goals as goal
 
 pub take_child-number-requires-clause-within : goal.take_child-number-requires-clause-within

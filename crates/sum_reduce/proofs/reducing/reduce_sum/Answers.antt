@@ -1,11 +1,9 @@
-use Rattle.std.proofs.Common.{◌∙◌, sym, subst, refl, ap, arith, ◌^◌, length}
-use Rattle.sum_reduce.proofs.Shared.{tree_of, forest, gives_as, given_told, IsWrittenSum, IsSumAnswer, IsCollected, terms_in, size, passed_lacks, sum_whole, counts_of_all, KeepsSumBounds}
-use Rattle.sum_reduce.proofs.{Collected.{settled_collected, settled_written}, Rationals.{rationals_answer}, Settled.{undef_answer, settled_answer}, Sums.{changes_rest}}
-use Rattle.sum_reduce.proofs.{CollectedCounts.{collected_counts, written_counted}, CollectedSpans.{collected_powers, spans_collected, spans_written, spans_terms}, Rooms.{sum_lacks}, Held.{holds}}
-use Rattle.sum_reduce.proofs.{HeldTerms.{tree_held}, CollectedExponents.{exponents_collected, written_counts, undef_bounds}}
-use Rattle.like_children.proofs.Parts.{reduced_formed}
+use Rattle.sum_reduce.proofs.Shared.{◌∙◌, sym, subst, refl, ap, arith, ◌^◌, length, tree_of, forest, gives_as, given_told, IsWrittenSum, IsSumAnswer, IsCollected, terms_in, size, passed_lacks}
+use Rattle.sum_reduce.proofs.{Shared.{sum_whole, counts_of_all, KeepsSumBounds, reduced_formed, false≢true}, Collected.{settled_collected, settled_written}, Rationals.{rationals_answer}}
+use Rattle.sum_reduce.proofs.{Settled.{undef_answer, settled_answer}, Sums.{changes_rest}, CollectedCounts.{collected_counts, written_counted}, CollectedSpans.{collected_powers, spans_collected}}
+use Rattle.sum_reduce.proofs.{CollectedSpans.{spans_written, spans_terms}, Rooms.{sum_lacks}, Held.{holds}, HeldTerms.{tree_held}}
+use Rattle.sum_reduce.proofs.CollectedExponents.{exponents_collected, written_counts, undef_bounds}
 use Rattle.sum_reduce.proofs.reducing.reduce_sum.Goals as goal
-use Rattle.std.proofs.lemmas.Bool.{false≢true}
 
 pub returns-then-has_undef_term-clause-ok : goal.returns-then-has_undef_term-clause-ok
 returns-then-has_undef_term-clause-ok c =

@@ -1,11 +1,9 @@
 use Rattle.surd_bits.proofs.ProductsFit.{coefficients_fit, radicands_fit, extracted_fits}
 use Rattle.surd_bits.proofs.laws.products_fit.Goals as goal
 
-pub returns-clause-coefficients : goal.returns-clause-coefficients
-returns-clause-coefficients c = λ a b h l p q k bits. coefficients_fit a b h l p.coefficient q.coefficient p.radicand q.radicand k bits
-
-pub returns-clause-radicands : goal.returns-clause-radicands
-returns-clause-radicands c = λ a b h l g p q k bits. radicands_fit a b h l p.coefficient q.coefficient p.radicand q.radicand k bits g
-
-pub returns-clause-extracted : goal.returns-clause-extracted
-returns-clause-extracted c = λ a b h l root rest p q k bits. extracted_fits a b h l p.coefficient q.coefficient p.radicand q.radicand k bits root rest
+pub returns : goal.returns
+returns c = record {
+  coefficients = λ a b h l p q k bits. coefficients_fit a b h l p.coefficient q.coefficient p.radicand q.radicand k bits;
+  radicands = λ a b h l g p q k bits. radicands_fit a b h l p.coefficient q.coefficient p.radicand q.radicand k bits g;
+  extracted = λ a b h l root rest p q k bits. extracted_fits a b h l p.coefficient q.coefficient p.radicand q.radicand k bits root rest;
+}

@@ -1,7 +1,7 @@
 use Rattle.surd_terms.proofs.Shared.{◌≡◌, ◌≢◌, List, [], ◌∷◌, ◌++◌, ◌∙◌, refl, ap, sym, Fraction, plus, times, negative, zero_fraction, value_of, Term, term, Add, Mul, Calculation, calculation}
-use Rattle.surd_terms.proofs.{Shared.{square_calculations, square_of, conjugate_product, term_of}, Misfits.{step_fits, step_misfit, passed_list, refused_for}, Rationals.{num_not_zero}}
-use Rattle.surd_terms.proofs.{Values.{times_not_zero, inverse_not_zero, negative_not_zero, conjugates_not_zero, conjugate_inverts}, inverses.inverse_of_sum.Goals.{In_ok-difference, In_ok-second}}
-use Rattle.surd_terms.proofs.inverses.inverse_of_sum.Goals.{After-new-2}
+use Rattle.surd_terms.proofs.{Shared.{square_calculations, square_of, conjugate_product, term_of, negative_not_zero}, Misfits.{step_fits, step_misfit, passed_list, refused_for}}
+use Rattle.surd_terms.proofs.{Rationals.{num_not_zero}, Values.{times_not_zero, inverse_not_zero, conjugates_not_zero, conjugate_inverts}, inverses.inverse_of_sum.Goals.{In_ok-difference}}
+use Rattle.surd_terms.proofs.inverses.inverse_of_sum.Goals.{In_ok-second, After-new-2}
 use Rattle.calc_terms.specs.Fractions.{inverse as inverse_of_fraction}
 use Rattle.surd_terms.proofs.inverses.inverse_of_sum.Goals as goal
 

@@ -1,5 +1,6 @@
 use Rattle.surd_terms.proofs.Shared.{◌≡◌, ◌*◌, ◌<◌, ◌^◌, [], ◌∷◌, true, false, pos, ap, sym, ◌∙◌, subst, rules, to_z, of_z, nat_abs, w128, to_z_pos, times, lowest, quotient, whole_fraction, mul_pos}
-use Rattle.surd_terms.proofs.{Shared.{fraction_fits, IsRootOf, value_of, Term, term, told, term_of, Mul, calculation, first_misfit}, Extraction.{positive_abs, IsSplit, split_root, root_of}}
+use Rattle.surd_terms.proofs.{Shared.{fraction_fits, IsRootOf, value_of, Term, term, told, term_of, Mul, calculation, first_misfit}, Extraction.{IsSplit, split_root, root_of}}
+use Rattle.calc_terms.proofs.Leaves.{at_least_one as positive_abs}
 use Rattle.surd_terms.proofs.{Extraction.{positive_is, quotient_not_zero}, roots.square_root.Goals.{In_ok-product, After-split-root, After-ratio, After-new}}
 use Rattle.surd_terms.proofs.roots.square_root.Goals as goal
 

@@ -1,7 +1,6 @@
-use Rattle.std.proofs.Common.{◌∙◌, inl}
-use Rattle.tree_handles.proofs.{Given.{given_root, given_rest, given_handed, owned, handed_at}, Lasts.{expression_root}, Roots.{root_held}}
-use Rattle.tree_bench.proofs.handles.copies.Goals as goal
+use Rattle.tree_bench.proofs.Shared.{◌∙◌, inl, given_root, given_rest, given_handed, owned, handed_at, expression_root, root_held}
 use Rattle.tree_bench.proofs.handles.copies.Goals.{in-Ok+in_ok-elapsed+in_ok-elapsed-2, in_default}
+use Rattle.tree_bench.proofs.handles.copies.Goals as goal
 
 pub copy_tree-requires-clause-live : goal.copy_tree-requires-clause-live
 copy_tree-requires-clause-live g c = rw (c.id.ensures, c.loop.invariant.1) (root_held c.args.sum.now _ c.requires.handed.root)

@@ -1,5 +1,4 @@
-use Rattle.std.proofs.Common.{◌≡◌}
-use Rattle.tree_handles.specs.Standing.{Stands, forest}
+use Rattle.tree_bench.proofs.Shared.{◌≡◌, Stands, forest}
 use Rattle.tree_bench.proofs.handles.copies.Given as goal
 
 abbrev pub invariant-loop : goal.invariant-loop

@@ -1,8 +1,5 @@
-use Rattle.std.proofs.Common.{◌∙◌, ap}
-use Rattle.tree_handles.specs.Roots.{has_root}
-use Rattle.tree_handles.proofs.Roots.{root_held, root-put}
+use Rattle.tree_bench.proofs.{Shared.{◌∙◌, ap, has_root, root_held, root-put}, handles.swaps.Goals.{then-children-gt1, else-children-gt1}}
 use Rattle.tree_bench.proofs.handles.swaps.Goals as goal
-use Rattle.tree_bench.proofs.handles.swaps.Goals.{then-children-gt1, else-children-gt1}
 
 pub children-children-requires-clause-live : goal.children-children-requires-clause-live
 children-children-requires-clause-live g c = rw c.id.ensures (root_held c.args.sum.now _ c.loop.invariant.1)

@@ -1,5 +1,4 @@
-use Rattle.std.proofs.Common.{◌≡◌, true}
-use Rattle.tree_handles.specs.{Roots.{has_root}, Standing.{Stands, forest}}
+use Rattle.tree_bench.proofs.Shared.{◌≡◌, true, has_root, Stands, forest}
 use Rattle.tree_bench.proofs.handles.swaps.Given as goal
 
 abbrev pub invariant-loop : goal.invariant-loop

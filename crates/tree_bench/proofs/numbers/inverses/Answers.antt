@@ -1,5 +1,4 @@
-use Rattle.std.proofs.Common.{inl}
-use Rattle.tree_handles.proofs.Given.{given_handed, given_root, given_told}
+use Rattle.tree_bench.proofs.Shared.{inl, given_handed, given_root, given_told}
 use Rattle.tree_bench.proofs.numbers.inverses.Goals as goal
 
 pub invert_number-requires-clause-handed : goal.invert_number-requires-clause-handed

@@ -1,6 +1,4 @@
-use Rattle.std.proofs.Common.{refl}
-use Rattle.number_forms.proofs.Pairs.{term_is_number}
-use Rattle.tree_handles.proofs.Given.{gives_as}
+use Rattle.tree_bench.proofs.Shared.{refl, term_is_number, gives_as}
 use Rattle.tree_bench.proofs.numbers.root.Goals as goal
 
 pub returns-clause-ok : goal.returns-clause-ok

@@ -1,6 +1,4 @@
-use Rattle.std.proofs.Common.{◌∙◌, refl}
-use Rattle.number_forms.proofs.Pairs.{first_handed, pair_apart, first_told, pair_rest, rational_test}
-use Rattle.tree_handles.proofs.Given.{given_handed, given_told, gives_as}
+use Rattle.tree_bench.proofs.Shared.{◌∙◌, refl, first_handed, pair_apart, first_told, pair_rest, rational_test, given_handed, given_told, gives_as}
 use Rattle.tree_bench.proofs.numbers.roots.Goals as goal
 
 pub loop-prime-init : goal.loop-prime-init

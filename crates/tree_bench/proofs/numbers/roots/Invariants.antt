@@ -1,6 +1,4 @@
-use Rattle.std.proofs.Common.{◌≡◌, true}
-use Rattle.calc_algebra.specs.Numbers.{is_number}
-use Rattle.tree_handles.specs.{Handed.{Gives}, Standing.{Stands, forest}}
+use Rattle.tree_bench.proofs.Shared.{◌≡◌, true, is_number, Gives, Stands, forest}
 use Rattle.tree_bench.proofs.numbers.roots.Given as goal
 
 abbrev pub invariant-loop-prime : goal.invariant-loop-prime

@@ -1,6 +1,4 @@
-use Rattle.std.proofs.Common.{◌∙◌, inl}
-use Rattle.number_forms.proofs.Pairs.{first_handed, pair_apart, first_told}
-use Rattle.tree_handles.proofs.Given.{given_handed, given_root, given_told}
+use Rattle.tree_bench.proofs.Shared.{◌∙◌, inl, first_handed, pair_apart, first_told, given_handed, given_root, given_told}
 use Rattle.tree_bench.proofs.numbers.sums.Goals as goal
 
 pub add_numbers-requires-clause-first : goal.add_numbers-requires-clause-first

@@ -1,7 +1,4 @@
-use Rattle.std.proofs.Common.{arith, subst, sym, ap, ◌∙◌, ◌+◌, ℕ}
-use Rattle.calc_terms.specs.Node.{size_of_header}
-use Rattle.node_pool.specs.Places.{IsBoundary}
-use Rattle.node_pool.proofs.{Walk.{starts}, Cuts.{step}}
+use Rattle.tree_bench.proofs.Shared.{arith, subst, sym, ap, ◌∙◌, ◌+◌, ℕ, size_of_header, IsBoundary, starts, step}
 use Rattle.tree_bench.proofs.pool.remove_from_the_front.Goals as goal
 
 pub header-requires-clause-boundary : goal.header-requires-clause-boundary

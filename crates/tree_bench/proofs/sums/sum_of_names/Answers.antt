@@ -1,11 +1,5 @@
-use Rattle.std.proofs.Common.{◌≡◌, ◌≤◌, ◌∙◌, ap, refl, arith}
-use Rattle.calc_algebra.specs.Reduced.{is_reduced, are_reduced}
-use Rattle.calc_terms.specs.Trees.{count}
-use Rattle.tree_handles.specs.{Handed.{tree_of}, Standing.{forest}}
-use Rattle.tree_handles.proofs.{Given.{given_root, given_told}, Roots.{root_held}}
-use Rattle.sum_reduce.specs.Sums.{terms_in}
-use Rattle.like_children.proofs.Places.{count_inserted, reduced_inserted}
-use Rattle.sum_reduce.proofs.{Sums.{put_in, roots_apart}, Tested.{empty_sum, empty_terms, placed, symbol_monic}}
+use Rattle.tree_bench.proofs.Shared.{◌≡◌, ◌≤◌, ◌∙◌, ap, refl, arith, is_reduced, are_reduced, count, tree_of, forest, given_root, given_told, root_held, terms_in, count_inserted, reduced_inserted}
+use Rattle.tree_bench.proofs.Shared.{put_in, roots_apart, empty_sum, empty_terms, placed, symbol_monic}
 use Rattle.tree_bench.proofs.sums.sum_of_names.Goals as goal
 
 pub loop-number-init : goal.loop-number-init

@@ -1,8 +1,4 @@
-use Rattle.std.proofs.Common.{◌≡◌, ◌≤◌, true}
-use Rattle.calc_terms.specs.Trees.{count}
-use Rattle.calc_algebra.specs.Reduced.{are_reduced}
-use Rattle.tree_handles.specs.Standing.{Stands, forest}
-use Rattle.sum_reduce.specs.Sums.{IsSum, terms_in}
+use Rattle.tree_bench.proofs.Shared.{◌≡◌, ◌≤◌, true, count, are_reduced, Stands, forest, IsSum, terms_in}
 use Rattle.tree_bench.proofs.sums.sum_of_names.Given as goal
 
 abbrev pub invariant-loop-number : goal.invariant-loop-number

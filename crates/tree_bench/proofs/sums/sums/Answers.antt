@@ -1,5 +1,4 @@
-use Rattle.std.proofs.Common.{inl}
-use Rattle.tree_handles.proofs.Given.{given_root}
+use Rattle.tree_bench.proofs.Shared.{inl, given_root}
 use Rattle.tree_bench.proofs.sums.sums.Goals as goal
 
 pub release-requires-clause-releasable : goal.release-requires-clause-releasable

@@ -1,6 +1,7 @@
 use Rattle.tree_handles.proofs.{Shared.{ap, refl, Ends, bare, forest, join, one_tree, root_tree, without_root}, Fronts.{behind_first, behind_later, front_same, front_end, front_without}}
 use Rattle.tree_handles.proofs.Given.{represents_none, represents_handed, represents_join, represents_with, represents_node, gives, gives_as, handed_beside}
-use Rattle.tree_handles.proofs.{Lasts.{ends_as, last_held, last_apart, other_root}, Outcomes.eqb-sym, Roots.{tree-without, without-swap}, building.node_over_two.Goals.In_ok-over}
+use Rattle.tree_handles.proofs.{Lasts.{ends_as, last_held, last_apart, other_root}, Roots.{tree-without, without-swap}, building.node_over_two.Goals.{In_ok-over}}
+use Rattle.node_pool.proofs.Ids.{eqb_sym as eqb-sym}
 use Rattle.tree_handles.proofs.building.node_over_two.Goals as goal
 
 pub add_child-requires-clause-live : goal.add_child-requires-clause-live

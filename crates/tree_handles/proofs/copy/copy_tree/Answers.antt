@@ -1,6 +1,5 @@
 use Rattle.tree_handles.proofs.{Shared.{rules, ◌≡◌, ℕ, ap, sym, ◌∙◌, true, false, Bool, Header, free_of}, Copying.{IsTree, tree_here, IsCopyTree, copy_done, copy_given, fits_iff}}
-use Rattle.tree_handles.proofs.{Forests.{is_refused, not_within, stands_refused}, Parts.live_node}
-use Rattle.tree_handles.proofs.copy.copy_tree.Goals.{After-behind-end, After-copy_nodes}
+use Rattle.tree_handles.proofs.{Forests.{is_refused, not_within, stands_refused}, Parts.{live_node}, copy.copy_tree.Goals.{After-behind-end, After-copy_nodes}}
 use Rattle.tree_handles.proofs.copy.copy_tree.Goals as goal
 
 pub locate-from-requires : goal.locate-from-requires

@@ -1,6 +1,5 @@
 use Rattle.tree_handles.proofs.Shared.{◌≡◌, refl, ℕ, ap, ◌∙◌, arith, State, place_of, arity, with_nth, kids_of, with_kids, root_tree, without_root, forest, Stands, IsChildPlace}
-use Rattle.tree_handles.proofs.{Releases.few_nodes, Adding.{IsAdded, added, counted_added, root_live}, Forests.{stands, keeps, keeps_after}}
-use Rattle.tree_handles.proofs.moving.add_at.Goals.{After-behind-end}
+use Rattle.tree_handles.proofs.{Releases.{few_nodes}, Adding.{IsAdded, added, counted_added, root_live}, Forests.{stands, keeps, keeps_after}, moving.add_at.Goals.{After-behind-end}}
 use Rattle.tree_handles.proofs.moving.add_at.Goals as goal
 
 pub children-children-requires-clause-live : goal.children-children-requires-clause-live

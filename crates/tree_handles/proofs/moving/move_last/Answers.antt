@@ -1,6 +1,5 @@
-use Rattle.tree_handles.proofs.{Shared.{rules, ◌≡◌, ℕ, ap, ◌∙◌, arith, inr, State, place_of, join, root_tree, without_root, forest, Stands}, Adding.root_live}
-use Rattle.tree_handles.proofs.{Forests.stands, Swapping.{IsBlock, block, counted_last}, AtRoots.moved_last}
-use Rattle.tree_handles.proofs.moving.move_last.Goals.{After-behind-end}
+use Rattle.tree_handles.proofs.{Shared.{rules, ◌≡◌, ℕ, ap, ◌∙◌, arith, inr, State, place_of, join, root_tree, without_root, forest, Stands}, Adding.{root_live}, Forests.{stands}}
+use Rattle.tree_handles.proofs.{Swapping.{IsBlock, block, counted_last}, AtRoots.{moved_last}, moving.move_last.Goals.{After-behind-end}}
 use Rattle.tree_handles.proofs.moving.move_last.Goals as goal
 
 pub locate-from-requires : goal.locate-from-requires

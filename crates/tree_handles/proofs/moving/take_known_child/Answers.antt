@@ -1,6 +1,5 @@
 use Rattle.tree_handles.proofs.Shared.{rules, ◌≡◌, refl, ℕ, ◌-◌, ap, ◌∙◌, arith, inr, State, used, moved, boundary_le, IsChildAt, arity, tree_nth, join, without_nth, kids_of, with_kids, forest}
-use Rattle.tree_handles.proofs.Shared.{Stands}
-use Rattle.tree_handles.proofs.{Distinct.held_parent, Parts.{IsTold, taken, counted_taken}, AtRoots.taken_root, ChildPlaces.placed, Forests.{stands, keeps, keeps_after}}
+use Rattle.tree_handles.proofs.{Shared.{Stands}, Distinct.{held_parent}, Parts.{IsTold, taken, counted_taken}, AtRoots.{taken_root}, ChildPlaces.{placed}, Forests.{stands, keeps, keeps_after}}
 use Rattle.tree_handles.proofs.moving.take_known_child.Goals.{After-move_block}
 use Rattle.tree_handles.proofs.moving.take_known_child.Goals as goal
 

@@ -1,5 +1,4 @@
-use Rattle.calc_algebra.proofs.NumberLaws.{number_words}
-use Rattle.tree_room.proofs.Calm.{number_calm, parts_calm, calm_append}
+use Rattle.tree_room.proofs.{Shared.{number_words}, Calm.{number_calm, parts_calm, calm_append}}
 use Rattle.tree_room.proofs.laws.calm_trees.Goals as goal
 
 pub returns : goal.returns

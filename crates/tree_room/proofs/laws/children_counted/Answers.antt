@@ -1,5 +1,4 @@
-use Rattle.calc_room.proofs.TreeBytes.{counted_number, counted_other}
-use Rattle.tree_room.proofs.Counts.{counts_one, number_counts_one, appended, all_appended, flat_sum, flat_product}
+use Rattle.tree_room.proofs.{Shared.{counted_number, counted_other}, Counts.{counts_one, number_counts_one, appended, all_appended, flat_sum, flat_product}}
 use Rattle.tree_room.proofs.laws.children_counted.Goals as goal
 
 pub returns : goal.returns

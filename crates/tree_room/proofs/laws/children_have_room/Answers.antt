@@ -1,6 +1,4 @@
-use Rattle.std.proofs.Common.{arith}
-use Rattle.calc_terms.specs.Trees.{power, sub, div}
-use Rattle.tree_room.proofs.Rooms.{term_room, factor_room, root_room, opposite_room, pair_room, two_simple, power_simple}
+use Rattle.tree_room.proofs.{Shared.{arith, power, sub, div}, Rooms.{term_room, factor_room, root_room, opposite_room, pair_room, two_simple, power_simple}}
 use Rattle.tree_room.proofs.laws.children_have_room.Goals as goal
 
 pub returns : goal.returns

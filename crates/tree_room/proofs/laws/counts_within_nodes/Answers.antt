@@ -1,7 +1,4 @@
-use Rattle.std.proofs.Common.{arith}
-use Rattle.calc_terms.specs.Trees.{nodes}
-use Rattle.calc_room.specs.Counts.{counted}
-use Rattle.tree_room.proofs.NodeCounts.{sum_within, product_within, handed_product_within, all_within, power_within}
+use Rattle.tree_room.proofs.{Shared.{arith, nodes, counted}, NodeCounts.{sum_within, product_within, handed_product_within, all_within, power_within}}
 use Rattle.tree_room.proofs.laws.counts_within_nodes.Goals as goal
 
 pub returns-clause-sums : goal.returns-clause-sums

@@ -1,5 +1,4 @@
-use Rattle.std.proofs.Common.{◌+◌, ◌*◌, ◌≤◌, arith}
-use Rattle.tree_room.proofs.Multiples.{scaled}
+use Rattle.tree_room.proofs.{Shared.{◌+◌, ◌*◌, ◌≤◌, arith}, Multiples.{scaled}}
 use Rattle.tree_room.proofs.laws.joins_have_room.Goals as goal
 
 pub returns-clause-exponents : goal.returns-clause-exponents

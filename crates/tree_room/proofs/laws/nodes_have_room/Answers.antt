@@ -1,5 +1,4 @@
-use Rattle.std.proofs.Common.{◌+◌, ◌*◌, ◌≤◌, arith}
-use Rattle.tree_room.proofs.Multiples.{scaled}
+use Rattle.tree_room.proofs.{Shared.{◌+◌, ◌*◌, ◌≤◌, arith}, Multiples.{scaled}}
 use Rattle.tree_room.proofs.laws.nodes_have_room.Goals as goal
 
 pub returns-clause-product : goal.returns-clause-product

@@ -1,5 +1,4 @@
-use Rattle.std.proofs.Common.{◌∙◌, arith}
-use Rattle.tree_room.proofs.PowerCounts.{power_counts, exponents_added, exponents_multiplied, joined, of_a_power, of_a_root, of_a_factor}
+use Rattle.tree_room.proofs.{Shared.{◌∙◌, arith}, PowerCounts.{power_counts, exponents_added, exponents_multiplied, joined, of_a_power, of_a_root, of_a_factor}}
 use Rattle.tree_room.proofs.laws.powers_counted.Goals as goal
 
 pub returns : goal.returns

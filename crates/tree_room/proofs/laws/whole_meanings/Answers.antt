@@ -1,6 +1,4 @@
-use Rattle.calc_algebra.specs.Surds.{surd_of}
-use Rattle.calc_terms.specs.Fractions.{whole_fraction}
-use Rattle.tree_room.proofs.{Calm.{whole_number, literal_whole, opposite_whole, sum_whole, product_whole, no_half}, Zeros.{symbol_zero}}
+use Rattle.tree_room.proofs.{Shared.{surd_of, whole_fraction}, Calm.{whole_number, literal_whole, opposite_whole, sum_whole, product_whole, no_half}, Zeros.{symbol_zero}}
 use Rattle.tree_room.proofs.laws.whole_meanings.Goals as goal
 
 pub returns : goal.returns

@@ -1,9 +1,6 @@
-use Rattle.std.proofs.Common.{◌≡◌, ◌∙◌, ap, arith, sym, subst, refl}
-use Rattle.calc_terms.specs.Trees.{size}
-use Rattle.tree_handles.proofs.{Given.{given_handed, given_other, given_apart, given_told, given_same, given_rest, given_without, gives_as}, Outcomes.{eqb-sym}}
-use Rattle.tree_handles.specs.{Expressions.{plain}, Forest.{Forest}}
-use Rattle.tree_shapes.specs.{Shapes.{tree_of}, declared.shapes.Shape.{Shape}}
-use Rattle.tree_shapes.proofs.Room.{grown_free, pair_bytes, single_bytes}
+use Rattle.tree_shapes.proofs.Shared.{◌≡◌, ◌∙◌, ap, arith, sym, subst, refl, size, given_handed, given_other, given_apart, given_told, given_same, given_rest, given_without, gives_as, plain, Forest}
+use Rattle.tree_shapes.proofs.{Shared.{tree_of, Shape, grown_free}, Room.{pair_bytes, single_bytes}}
+use Rattle.node_pool.proofs.Ids.{eqb_sym as eqb-sym}
 use Rattle.tree_shapes.proofs.shapes.+grow.Goals as goal
 
 pub node_over_two-requires-clause-first : goal.node_over_two-requires-clause-first

@@ -1,5 +1,4 @@
-use Rattle.tree_walks.proofs.{Shared.{arith, plain, tree_at, forest, one_at}, Shallow.{depth_within, nodes_behind}}
-use Rattle.tree_handles.proofs.{Parts.live_node, Plains.nodes-plain}
+use Rattle.tree_walks.proofs.{Shared.{arith, plain, tree_at, forest, one_at, live_node, nodes-plain}, Shallow.{depth_within, nodes_behind}}
 use Rattle.tree_walks.proofs.depth.is_deeper.Goals as goal
 
 pub locate-requires : goal.locate-requires

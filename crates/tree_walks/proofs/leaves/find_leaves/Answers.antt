@@ -1,6 +1,5 @@
-use Rattle.tree_walks.proofs.Shared.{rules, ◌≡◌, ◌∙◌, ◌+◌, ◌-◌, ◌<◌, ◌≤◌, ℕ, zero, suc, List, [], ◌∷◌, ◌++◌, length, take, drop, sym, ap, arith, refl}
-use Rattle.tree_walks.proofs.{Shared.{append_assoc, true, set, length-set, name_of, Visit, Forest, payload_in, has_name}, Searches.{IsLooking, looking, looked, looked_all}}
-use Rattle.std.proofs.lemmas.Grind.{take-set_at}
+use Rattle.tree_walks.proofs.Shared.{rules, ◌≡◌, ◌∙◌, ◌+◌, ◌-◌, ◌<◌, ◌≤◌, ℕ, zero, suc, List, [], ◌∷◌, ◌++◌, length, take, drop, sym, ap, arith, refl, append_assoc, true, set, length-set, name_of}
+use Rattle.tree_walks.proofs.{Shared.{Visit, Forest, payload_in, has_name, take-set_at}, Searches.{IsLooking, looking, looked, looked_all}}
 use Rattle.tree_walks.proofs.leaves.find_leaves.Goals as goal
 
 drop_none : (n : ℕ) → drop {A = ℕ} n [] ≡ []

@@ -1,5 +1,4 @@
-use Rattle.tree_walks.proofs.{Shared.{◌∙◌, ap, sym, name_of, has_name}, Names.same_name}
-use Rattle.tree_handles.proofs.Readings.{symbol_seen}
+use Rattle.tree_walks.proofs.{Shared.{◌∙◌, ap, sym, name_of, has_name, symbol_seen}, Names.{same_name}}
 use Rattle.tree_walks.proofs.leaves.is_leaf_of.Goals as goal
 
 pub name-requires-clause-symbol : goal.name-requires-clause-symbol

@@ -1,8 +1,7 @@
-use Rattle.tree_walks.proofs.Shared.{rules, ◌∙◌, ◌+◌, ◌++◌, inl, sym, ap, refl, arith, drop, take, passed_on, name_of, plain, payload_in, tree_at, forest, owned, last_held, has_name}
-use Rattle.tree_walks.proofs.Shared.{occurrences, tree_of, without_root}
-use Rattle.tree_walks.proofs.Chunks.{found_all, headed, put, goes_on, all_passed, more_passed, all_gone, few_passed, fewer}
-use Rattle.tree_walks.proofs.Filling.{IsFilling, IsLeaf, IsSource, IsStopped, source, source_in, begins, next, stopped, ended, leaf, leaf_stopped, leaf_goes, leaf_done}
-use Rattle.tree_walks.proofs.replacing.put_copies.Goals.{Start, Then-is_leaf_of, In_err-put_copy, In_ok-put_copy}
+use Rattle.tree_walks.proofs.Shared.{rules, ◌∙◌, ◌+◌, ◌++◌, inl, sym, ap, refl, arith, drop, take, passed_on, name_of, plain, payload_in, tree_at, forest, owned, last_held, has_name, occurrences}
+use Rattle.tree_walks.proofs.{Shared.{tree_of, without_root}, Chunks.{found_all, headed, put, goes_on, all_passed, more_passed, all_gone, few_passed, fewer}, Filling.{IsFilling, IsLeaf, IsSource}}
+use Rattle.tree_walks.proofs.{Filling.{IsStopped, source, source_in, begins, next, stopped, ended, leaf, leaf_stopped, leaf_goes, leaf_done}, replacing.put_copies.Goals.{Start, Then-is_leaf_of}}
+use Rattle.tree_walks.proofs.replacing.put_copies.Goals.{In_err-put_copy, In_ok-put_copy}
 use Rattle.tree_walks.proofs.replacing.put_copies.Goals as goal
 
 pub kind-requires-clause-live : goal.kind-requires-clause-live

@@ -1,5 +1,4 @@
-use Rattle.std.proofs.Common.{rules}
-use Rattle.tree_handles.proofs.Given.{given_handed, given_told}
+use Rattle.acceptance.proofs.Shared.{rules, given_handed, given_told}
 use Rattle.acceptance.proofs.tests.round_trips.round_trip.Goals as goal
 
 pub written-requires-clause-handed : goal.written-requires-clause-handed

@@ -1,6 +1,4 @@
-use Rattle.std.proofs.Common.{ap, arith}
-use Rattle.line_text.specs.Content.{spare_of}
-use Rattle.tree_handles.proofs.{Lasts.{expression_root, plain_root}, Roots.{root_held}}
+use Rattle.acceptance.proofs.Shared.{ap, arith, spare_of, expression_root, plain_root, root_held}
 use Rattle.acceptance.proofs.tests.round_trips.written.Goals as goal
 
 pub tree_bytes-bytes-requires-clause-live : goal.tree_bytes-bytes-requires-clause-live

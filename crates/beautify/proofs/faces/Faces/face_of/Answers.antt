@@ -1,8 +1,7 @@
-use Rattle.beautify.proofs.Shared.{◌≡◌, ℕ, Bool, true, false, inl, ap, sym, ◌∙◌, subst, arith, refl, face, size, AllParts, KeepsMeanings, tree_of, Gives, plain, IsExpression}
-use Rattle.beautify.proofs.Shared.{tree_at, without_root, forest, given_told, given_other, gives, gives_as, owned, represents_handed, expression_root, last_tree, plain_root, has_natural_numbers}
-use Rattle.beautify.proofs.{Shared.IsShowable, FaceTrees.{face_keeps, other_gone, keeps_before}, OwnFaces.own_face, Showables.reduced_showable}
+use Rattle.beautify.proofs.Shared.{◌≡◌, ℕ, Bool, true, false, inl, ap, sym, ◌∙◌, subst, arith, refl, face, size, AllParts, KeepsMeanings, tree_of, Gives, plain, IsExpression, tree_at, without_root}
+use Rattle.beautify.proofs.Shared.{forest, given_told, given_other, gives, gives_as, owned, represents_handed, expression_root, last_tree, plain_root, has_natural_numbers, IsShowable, behind_first}
+use Rattle.beautify.proofs.{Shared.{front_same, front_end, front_without}, FaceTrees.{face_keeps, other_gone, keeps_before}, OwnFaces.{own_face}, Showables.{reduced_showable}}
 use Rattle.beautify.proofs.faces.Faces.face_of.Goals.{After-has_natural_numbers, After-release}
-use Rattle.tree_handles.proofs.Fronts.{behind_first, front_same, front_end, front_without}
 use Rattle.beautify.proofs.faces.Faces.face_of.Goals as goal
 
 pub has_natural_numbers-requires-clause-expression : goal.has_natural_numbers-requires-clause-expression

@@ -1,5 +1,4 @@
-use Rattle.std.proofs.{Common.{arith, ap, ◌∙◌, map, sym}, lemmas.List.{with_items_is, length-set}}
-use Rattle.breakers.proofs.Arming.{NoneArms-next, NoneArms-armed, NoneArms-any, NoneArms-all}
+use Rattle.breakers.proofs.{Shared.{arith, ap, ◌∙◌, map, sym, with_items_is, length-set}, Arming.{NoneArms-next, NoneArms-armed, NoneArms-any, NoneArms-all}}
 use Rattle.breakers.proofs.watch.Watch.arm_first.Goals as goal
 
 pub loop-breaker-preserved : goal.loop-breaker-preserved

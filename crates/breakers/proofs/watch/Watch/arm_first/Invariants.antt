@@ -1,5 +1,4 @@
-use Rattle.std.proofs.Common.{◌≡◌, map}
-use Rattle.breakers.proofs.Arming.{NoneArms}
+use Rattle.breakers.proofs.{Shared.{◌≡◌, map}, Arming.{NoneArms}}
 use Rattle.breakers.proofs.watch.Watch.arm_first.Given as goal
 
 abbrev pub invariant-loop-breaker : goal.invariant-loop-breaker

@@ -1,5 +1,4 @@
-use Rattle.std.proofs.{Common.{arith, ap, ◌∙◌, map}, lemmas.List.{with_items_is, length-set}}
-use Rattle.breakers.proofs.Polling.{PassedBelow-next, PassedBelow-trip, PassedBelow-all, tripped_tells, calm_tells}
+use Rattle.breakers.proofs.{Shared.{arith, ap, ◌∙◌, map, with_items_is, length-set}, Polling.{PassedBelow-next, PassedBelow-trip, PassedBelow-all, tripped_tells, calm_tells}}
 use Rattle.breakers.proofs.watch.Watch.check.Goals as goal
 
 pub loop-place-preserved : goal.loop-place-preserved

@@ -1,5 +1,4 @@
-use Rattle.std.proofs.Common.{map}
-use Rattle.breakers.proofs.Polling.{PassedBelow}
+use Rattle.breakers.proofs.{Shared.{map}, Polling.{PassedBelow}}
 use Rattle.breakers.proofs.watch.Watch.check.Given as goal
 
 abbrev pub invariant-loop-place : goal.invariant-loop-place

@@ -1,5 +1,4 @@
-use Rattle.std.proofs.{Common.{rules, ◌==◌}, lemmas.List.Elements.{filter_from_retain}}
-use Rattle.breakers.proofs.Sweeping.{kept_states}
+use Rattle.breakers.proofs.{Shared.{rules, ◌==◌, filter_from_retain}, Sweeping.{kept_states}}
 use Rattle.breakers.proofs.watch.Watch.sweep.Goals as goal
 
 pub returns : goal.returns

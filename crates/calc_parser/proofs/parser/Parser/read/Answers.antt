@@ -1,5 +1,4 @@
-use Rattle.calc_parser.proofs.{Shared.{Ok, Err, ap, bare, tokens_of, steps_in}, LineFaults.{faults_exact, line_accepted}, LineSteps.steps_of_nothing}
-use Rattle.calc_tokens.proofs.Outcomes.{fault_found}
+use Rattle.calc_parser.proofs.{Shared.{Ok, Err, ap, bare, tokens_of, steps_in, fault_found}, LineFaults.{faults_exact, line_accepted}, LineSteps.{steps_of_nothing}}
 use Rattle.calc_parser.specs.declared.parser.LineFault.TheVariants as line_fault
 use Rattle.calc_parser.proofs.parser.Parser.read.Goals as goal
 

@@ -1,12 +1,12 @@
-use Rattle.std.proofs.{lemmas.Bool.{both_ways}, Common.{rules, arith, ◌≡◌, ◌∙◌, ◌+◌, ◌≤◌, ℕ, None, false, inl, inr, refl, sym, ap, subst}}
-use Rattle.calc_session.proofs.Shared.{states, name_of, size, HasDerivative, derivative, free_of, tree_of, Gives, without_root, forest, KeepsRefusals, keeps_after, given_handed, given_other}
-use Rattle.calc_session.proofs.Shared.{given_rest, given_told, gives_as, owned, Refusal, refusal_of_evaluation, reason_of, reply_of, IsReplyToDerivative, LacksDerivative, has_none, refusal_in}
-use Rattle.calc_session.proofs.{Shared.{reported}, CountingLemmas.{none_known, none_short}, DerivingLemmas.{beside_released, comes_reduced, front_beside, over}, EvaluationLemmas.{calm_refused}}
-use Rattle.calc_session.proofs.{EvaluationLemmas.{front_in_place, full_interrupts_none, keeps_then, shown_answer, size_kept}, differentiating.DerivativeCalculation.run.Goals.{After-release}}
-use Rattle.calc_session.proofs.differentiating.DerivativeCalculation.run.Goals.{After-refused}
+use Rattle.calc_session.proofs.Shared.{both_ways, rules, arith, ◌≡◌, ◌∙◌, false, inl, inr, refl, sym, ap, subst, states, name_of, size, HasDerivative, derivative, free_of, tree_of, Gives}
+use Rattle.calc_session.proofs.Shared.{without_root, forest, KeepsRefusals, keeps_after, given_handed, given_other, given_rest, given_told, gives_as, owned, Refusal, refusal_of_evaluation, reason_of}
+use Rattle.calc_session.proofs.{Shared.{reply_of, IsReplyToDerivative, LacksDerivative, has_none, refusal_in, reported, expression, seen, Refused}, CountingLemmas.{none_known, none_short}}
+use Rattle.calc_session.proofs.{DerivingLemmas.{comes_reduced, front_beside, over}, EvaluationLemmas.{calm_refused, front_in_place, full_interrupts_none, keeps_then, shown_answer, size_kept}}
+use Rattle.calc_session.proofs.differentiating.DerivativeCalculation.run.Goals.{After-release, After-refused}
+use Rattle.std.proofs.Common.{◌+◌, ◌≤◌, ℕ, None}
+use Rattle.beautify.proofs.FaceTrees.{other_gone as beside_released}
 use Rattle.node_pool.specs.State.{State}
-use Rattle.tree_handles.proofs.Seen.{expression, seen}
-use Rattle.calc_session.specs.{Deriving.{lacks_bytes}, declared.evaluating.Evaluation.TheVariants.{Refused}}
+use Rattle.calc_session.specs.Deriving.{lacks_bytes}
 use Rattle.calc_session.specs.declared.answers.Refusal.TheVariants as refusal
 use Rattle.calc_session.proofs.differentiating.DerivativeCalculation.run.Goals as goal
 

@@ -1,6 +1,5 @@
-use Rattle.std.proofs.Common.{rules, ◌∙◌, inl, refl, sym, arith}
-use Rattle.calc_session.proofs.{Shared.{states, refusal_of_pool, is_long, state_in}, CountingLemmas.{none_asked, none_known}, SessionLemmas.{answers_blank, answers_vain, calm_refusal}}
-use Rattle.calc_session.proofs.{CommandLemmas.{calm_told}, EvaluationLemmas.{none_rose}}
+use Rattle.calc_session.proofs.{Shared.{rules, ◌∙◌, inl, refl, sym, arith, states, refusal_of_pool, is_long, state_in}, CountingLemmas.{none_asked, none_known}}
+use Rattle.calc_session.proofs.{SessionLemmas.{answers_blank, answers_vain, calm_refusal}, CommandLemmas.{calm_told}, EvaluationLemmas.{none_rose}}
 use Rattle.calc_session.specs.declared.answers.LineAnswer.TheVariants as answer
 use Rattle.calc_session.specs.declared.answers.Refusal.TheVariants as refusal
 use Rattle.calc_session.proofs.parts.Parts.answer.Goals as goal

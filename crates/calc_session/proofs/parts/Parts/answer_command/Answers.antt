@@ -1,7 +1,5 @@
-use Rattle.std.proofs.Common.{inl, refl, sym, subst}
-use Rattle.std.specs.Prelude.{IsNone}
-use Rattle.calc_session.proofs.{Shared.{states, asked_of, refusal_of_pool, is_no_command, state_in}, CommandLemmas.{calm_told, refusal_uninterrupted}, CountingLemmas.{counted_asked}}
-use Rattle.calc_session.proofs.{EvaluationLemmas.{none_rose}, SessionLemmas.{answers_command, answers_vain}}
+use Rattle.calc_session.proofs.{Shared.{inl, refl, sym, subst, IsNone, states, asked_of, refusal_of_pool, is_no_command, state_in}, CommandLemmas.{calm_told, refusal_uninterrupted}}
+use Rattle.calc_session.proofs.{CountingLemmas.{counted_asked}, EvaluationLemmas.{none_rose}, SessionLemmas.{answers_command, answers_vain}}
 use Rattle.calc_session.specs.declared.answers.LineAnswer.TheVariants as answer
 use Rattle.calc_session.specs.declared.answers.Refusal.TheVariants as refusal
 use Rattle.calc_session.proofs.parts.Parts.answer_command.Goals as goal

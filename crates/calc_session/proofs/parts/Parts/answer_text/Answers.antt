@@ -1,9 +1,8 @@
-use Rattle.std.proofs.Common.{rules, None, ◌≡◌, ◌∙◌, ◌++◌, ℕ, List, length, ap, refl, sym, subst, arith, ◌*◌, ◌+◌}
-use Rattle.calc_session.proofs.Shared.{states, text, IsWritable, tokens_of, Content, IsHeld, IsKeepable, name_in, plain, tree_at, forest, given_rest, gives_as, with_answer, is_no_line, state_in}
-use Rattle.calc_session.proofs.{Shared.{refusal_in, reason_of}, PoolLemmas.{kept_but, old_below, rolled_back}, SessionLemmas.{answers_face, answers_refusal, answers_undefined}}
-use Rattle.calc_session.proofs.{SessionLemmas.{answers_unstorable, answers_vain, calm_refusal, face_expression, face_room, face_tree, leaves_answer}, parts.Parts.answer_text.Goals.{After-roll_back}}
-use Rattle.calc_session.proofs.parts.Parts.answer_text.Goals.{After-roll_back-in-Refused}
-use Rattle.calc_session.specs.Pools.{IsRolledBack}
+use Rattle.calc_session.proofs.Shared.{rules, ◌≡◌, ◌∙◌, ◌++◌, ap, refl, sym, subst, arith, ◌*◌, states, text, IsWritable, tokens_of, Content, IsHeld, IsKeepable, name_in, plain, tree_at, forest}
+use Rattle.calc_session.proofs.{Shared.{given_rest, gives_as, with_answer, is_no_line, state_in, refusal_in, reason_of, IsRolledBack}, PoolLemmas.{kept_but, old_below, rolled_back}}
+use Rattle.calc_session.proofs.SessionLemmas.{answers_face, answers_refusal, answers_undefined, answers_unstorable, answers_vain, calm_refusal, face_expression, face_room, face_tree, leaves_answer}
+use Rattle.calc_session.proofs.parts.Parts.answer_text.Goals.{After-roll_back, After-roll_back-in-Refused}
+use Rattle.std.proofs.Common.{None, ℕ, List, length, ◌+◌}
 use Rattle.calc_session.proofs.parts.Parts.answer_text.Goals as goal
 
 pub read_text-requires : goal.read_text-requires

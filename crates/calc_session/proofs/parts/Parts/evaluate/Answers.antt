@@ -1,9 +1,6 @@
-use Rattle.std.proofs.{lemmas.Bool.{both_ways}, Common.{refl, sym, subst, arith}}
-use Rattle.std.specs.Prelude.{Contains}
-use Rattle.calc_session.proofs.Shared.{states, name_in, name_of, Tree, names, tree_of, forest, given_handed, given_rest, given_told, gives_as, held_entries, refusal_of_evaluation, is_answered}
-use Rattle.calc_session.proofs.{Shared.{is_not_made, LacksName}, EvaluationLemmas.{calm_refused, circular_reply, comes_made, front_in_place, front_over, shown_answer, size_kept}}
-use Rattle.calc_session.proofs.parts.Parts.evaluate.Goals.{After-show, in-Some+else-holds_name, in_default}
-use Rattle.tree_handles.proofs.Seen.{expression, seen}
+use Rattle.calc_session.proofs.Shared.{both_ways, refl, sym, subst, arith, Contains, states, name_in, name_of, Tree, names, tree_of, forest, given_handed, given_rest, given_told, gives_as}
+use Rattle.calc_session.proofs.{Shared.{held_entries, refusal_of_evaluation, is_answered, is_not_made, LacksName, expression, seen}, EvaluationLemmas.{calm_refused, circular_reply, comes_made}}
+use Rattle.calc_session.proofs.{EvaluationLemmas.{front_in_place, front_over, shown_answer, size_kept}, parts.Parts.evaluate.Goals.{After-show, in-Some+else-holds_name, in_default}}
 use Rattle.calc_session.specs.declared.answers.Refusal.TheVariants as refusal
 use Rattle.calc_session.specs.declared.evaluating.Evaluation.TheVariants as evaluation
 use Rattle.calc_session.proofs.parts.Parts.evaluate.Goals as goal

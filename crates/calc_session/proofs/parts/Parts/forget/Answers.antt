@@ -1,6 +1,5 @@
-use Rattle.std.proofs.Common.{◌∙◌, ap, refl, sym, subst, arith}
-use Rattle.calc_session.proofs.Shared.{Content, forget, forgot_report, unknown_report, name_of, IsTold, keeps_ans, knows_no_name, refuses, refused, reserved, report, state_in, state_of}
-use Rattle.calc_session.proofs.{CommandLemmas.{answers_forgot, same_pool, written}, TellingLemmas.{told_command}}
+use Rattle.calc_session.proofs.Shared.{◌∙◌, ap, refl, sym, subst, arith, Content, forget, forgot_report, unknown_report, name_of, IsTold, keeps_ans, knows_no_name, refuses, refused, reserved, report}
+use Rattle.calc_session.proofs.{Shared.{state_in, state_of}, CommandLemmas.{answers_forgot, same_pool, written}, TellingLemmas.{told_command}}
 use Rattle.calc_session.specs.declared.answers.LineAnswer.TheVariants as answer
 use Rattle.calc_session.proofs.parts.Parts.forget.Goals as goal
 

@@ -1,9 +1,8 @@
-use Rattle.std.proofs.Common.{◌≡◌, ◌∙◌, inl, refl, ap, subst}
-use Rattle.calc_session.proofs.Shared.{states, IsCommandLine, pool, dump, layout, diff, solve, expand, asked_of, pool_report, dump_of, name_of, Content, CountsRefusal, refusal_of_pool, IsTold}
-use Rattle.calc_session.proofs.{Shared.{is_to_be_drawn, layout_reply, serial_in, drawn, report, state_in}, CalculatingLemmas.{equations_within, expression_within, text_within}}
-use Rattle.calc_session.proofs.{CommandLemmas.{calm_told, written}, CountingLemmas.{counted_as, none_known}, EvaluationLemmas.{none_rose}}
-use Rattle.calc_session.proofs.TellingLemmas.{tells_as, told_command}
-use Rattle.calc_commands.specs.{Commands.{after as arms}, declared.command.Command.{Command}}
+use Rattle.calc_session.proofs.Shared.{◌≡◌, ◌∙◌, inl, refl, ap, subst, states, IsCommandLine, pool, dump, layout, diff, solve, expand, asked_of, pool_report, dump_of, name_of, Content, CountsRefusal}
+use Rattle.calc_session.proofs.Shared.{refusal_of_pool, IsTold, is_to_be_drawn, layout_reply, serial_in, drawn, report, state_in, Command}
+use Rattle.calc_session.proofs.{CalculatingLemmas.{equations_within, expression_within, text_within}, CommandLemmas.{calm_told, written}, CountingLemmas.{counted_as, none_known}}
+use Rattle.calc_session.proofs.{EvaluationLemmas.{none_rose}, TellingLemmas.{tells_as, told_command}}
+use Rattle.calc_commands.specs.Commands.{after as arms}
 use Rattle.calc_session.specs.declared.answers.LineAnswer.TheVariants as answer
 use Rattle.calc_session.proofs.parts.Parts.perform.Goals as goal
 

@@ -1,10 +1,9 @@
-use Rattle.std.proofs.Common.{rules, ◌∙◌, ◌<◌, ℕ, List, length, map, take, refl, sym, ap, subst, arith}
-use Rattle.std.specs.Prelude.{All}
-use Rattle.calc_session.proofs.Shared.{length-map, name_of, answer_told, names_listed, Rises, solution_text, AllZip, states, Equation, Content, used, free_of, form_room, EquationRange, CountsRefusal}
-use Rattle.calc_session.proofs.Shared.{IsWithin, pieces_at, IsReplyToEquations, ReadsEquation, report, state_in, forest, forest_of, held_entries, reason_of, refusal_in}
-use Rattle.calc_session.proofs.{SolvingLemmas.{err_at, names_same, ok_at, on_ok_at}, RangeLemmas.{reads_many}, CommandLemmas.{calm_told, refusal_uninterrupted}, EquationAnswers.{become_many}}
-use Rattle.calc_session.proofs.{EquationAnswers.{forms_told, lacking_reply, multipliers_told, read_reply, solved_reply}, EvaluationLemmas.{none_rose, size_kept}}
-use Rattle.calc_session.proofs.PoolLemmas.{kept_still, nodes_kept, size_same}
+use Rattle.calc_session.proofs.Shared.{rules, ◌∙◌, map, take, refl, sym, ap, subst, arith, All, length-map, name_of, answer_told, names_listed, Rises, solution_text, AllZip, states, Equation, Content}
+use Rattle.calc_session.proofs.Shared.{used, free_of, form_room, EquationRange, CountsRefusal, IsWithin, pieces_at, IsReplyToEquations, ReadsEquation, report, state_in, forest, forest_of}
+use Rattle.calc_session.proofs.{Shared.{held_entries, reason_of, refusal_in}, SolvingLemmas.{err_at, names_same, ok_at, on_ok_at}, RangeLemmas.{reads_many}}
+use Rattle.calc_session.proofs.{CommandLemmas.{calm_told, refusal_uninterrupted}, EquationAnswers.{become_many, forms_told, lacking_reply, multipliers_told, read_reply, solved_reply}}
+use Rattle.calc_session.proofs.{EvaluationLemmas.{none_rose, size_kept}, PoolLemmas.{kept_still, nodes_kept, size_same}}
+use Rattle.std.proofs.Common.{◌<◌, ℕ, List, length}
 use Rattle.calc_session.specs.declared.answers.LineAnswer.TheVariants as answer
 use Rattle.calc_session.proofs.parts.Parts.solve.Goals as goal
 

@@ -1,5 +1,4 @@
-use Rattle.std.proofs.Common.{◌∙◌, refl, sym, ap, subst, arith}
-use Rattle.calc_session.proofs.{Shared.{Content, IsExpression, forest}, DrawingLemmas.{answer_expression}, EvaluationLemmas.{size_kept}, PoolLemmas.{kept_but}}
+use Rattle.calc_session.proofs.{Shared.{◌∙◌, refl, sym, ap, subst, arith, Content, IsExpression, forest}, DrawingLemmas.{answer_expression}, EvaluationLemmas.{size_kept}, PoolLemmas.{kept_but}}
 use Rattle.calc_session.proofs.session.Session.draw.Goals as goal
 
 pub draw_answer-drawn-requires-clause-expression : goal.draw_answer-drawn-requires-clause-expression

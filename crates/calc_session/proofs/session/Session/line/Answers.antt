@@ -1,5 +1,4 @@
-use Rattle.std.proofs.Common.{◌∙◌, ap, subst}
-use Rattle.calc_session.proofs.Shared.{states, Content, Answers, AnswersUntold, refusal_of_pool, AsksForTooMuch, IsCountedBut, Counts, Seen, seen_of, state_in}
+use Rattle.calc_session.proofs.Shared.{◌∙◌, ap, subst, states, Content, Answers, AnswersUntold, refusal_of_pool, AsksForTooMuch, IsCountedBut, Counts, Seen, seen_of, state_in}
 use Rattle.calc_session.proofs.{SessionLemmas.{blank_text, draw_text, told_other, told_refusal}, CalculatingLemmas.{counted_seen}}
 use Rattle.calc_session.specs.declared.answers.LineAnswer.TheVariants as answer
 use Rattle.calc_session.proofs.session.Session.line.Goals as goal

@@ -1,6 +1,5 @@
-use Rattle.std.proofs.Common.{◌++◌, ◌∷◌, [], ℕ, List, OnErr, ap, subst}
-use Rattle.calc_edges.specs.Taken.{AppendsPart}
-use Rattle.calc_session.proofs.Shared.{Seen}
+use Rattle.calc_session.proofs.Shared.{◌++◌, ◌∷◌, [], ap, subst, AppendsPart, Seen}
+use Rattle.std.proofs.Common.{ℕ, List, OnErr}
 use Rattle.calc_session.proofs.session.Session.print.Goals as goal
 
 pub returns-clause-part : goal.returns-clause-part

@@ -15,21 +15,19 @@ here g c =
       id-is = c.index-ids-place.is ∙ (λ i. get_or (items i) (c.from-place.ensures i) c.index-ids-place.result) ∙ root_ids-nth c.args.at c.index-ids-place.result k within;
     }
 
-pub returns-then-place-ids-clause-child : goal.returns-then-place-ids-clause-child
-returns-then-place-ids-clause-child g c = here g (goal.at.returns-then-place-ids-clause-child g c).After-index-ids-place
+pub returns-then-place-ids : goal.returns-then-place-ids
+returns-then-place-ids g c = record {
+  child = here g (goal.at.returns-then-place-ids g c).After-index-ids-place;
+  expression =
+      (seen_child c.args.at c.args.parent c.index-ids-place.result c.args.pool.now c.requires.stands
+      (here g (goal.at.returns-then-place-ids g c).After-index-ids-place)).expression c.requires.expression;
+  plain =
+      (seen_child c.args.at c.args.parent c.index-ids-place.result c.args.pool.now c.requires.stands
+      (here g (goal.at.returns-then-place-ids g c).After-index-ids-place)).plain-is c.requires.expression;
+}
 
 pub returns-else-self-clause-child : goal.returns-else-self-clause-child
 returns-else-self-clause-child g c = record {
   within = omega (arith, c.requires.within, children_number c.args.parent (forest c.args.pool.now) c.requires.expression);
   id-is = c.child_id.ensures.value;
 }
-
-pub returns-then-place-ids-clause-expression : goal.returns-then-place-ids-clause-expression
-returns-then-place-ids-clause-expression g c =
-    (seen_child c.args.at c.args.parent c.index-ids-place.result c.args.pool.now c.requires.stands
-    (here g (goal.at.returns-then-place-ids-clause-expression g c).After-index-ids-place)).expression c.requires.expression
-
-pub returns-then-place-ids-clause-plain : goal.returns-then-place-ids-clause-plain
-returns-then-place-ids-clause-plain g c =
-    (seen_child c.args.at c.args.parent c.index-ids-place.result c.args.pool.now c.requires.stands
-    (here g (goal.at.returns-then-place-ids-clause-plain g c).After-index-ids-place)).plain-is c.requires.expression

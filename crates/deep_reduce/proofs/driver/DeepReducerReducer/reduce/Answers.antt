@@ -1,7 +1,6 @@
-use Rattle.std.proofs.Common.{ℕ, rules, refl, subst}
-use Rattle.deep_reduce.proofs.{Shared.{if_map, tree_of, gives_as, given_handed, given_told}, ChildRooms.{five_answers, lacks_room}}
-use Rattle.breakers.specs.{Breakers.{CalmChecks}, Watch.{states}}
-use Rattle.reduce_walk.proofs.Port.{full_as, overflow_as, unfit_after_checks}
+use Rattle.deep_reduce.proofs.Shared.{ℕ, rules, refl, subst, if_map, tree_of, gives_as, given_handed, given_told, CalmChecks, states, overflow_as, unfit_after_checks}
+use Rattle.deep_reduce.proofs.ChildRooms.{five_answers, lacks_room}
+use Rattle.reduce_walk.proofs.Port.{full_as}
 use Rattle.deep_reduce.proofs.driver.DeepReducerReducer.reduce.Goals as goal
 
 pub returns : goal.returns

@@ -1,5 +1,4 @@
-use Rattle.std.specs.Prelude.{⊤}
-use Rattle.deep_reduce.proofs.{Shared.{Tree, Trees, none, more, EachTree, children_of}, Ready.{child_lacks, child_overflows, leaf_reduced}}
+use Rattle.deep_reduce.proofs.{Shared.{⊤, Tree, Trees, none, more, EachTree, children_of}, Ready.{child_lacks, child_overflows, leaf_reduced}}
 use Rattle.deep_reduce.proofs.driver.NodeReducerNodeStep.laws.Goals as goal
 
 pub returns : goal.returns

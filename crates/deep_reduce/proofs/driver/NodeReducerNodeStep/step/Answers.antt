@@ -1,5 +1,4 @@
-use Rattle.std.proofs.Common.{rules, refl}
-use Rattle.deep_reduce.proofs.{Shared.{if_map, tree_of, gives_as}, NodeAnswers.{node_answered}, Ready.{over_answers, step_lacks, step_overflows}}
+use Rattle.deep_reduce.proofs.{Shared.{rules, refl, if_map, tree_of, gives_as}, NodeAnswers.{node_answered}, Ready.{over_answers, step_lacks, step_overflows}}
 use Rattle.deep_reduce.proofs.driver.NodeReducerNodeStep.step.Goals as goal
 
 pub returns : goal.returns

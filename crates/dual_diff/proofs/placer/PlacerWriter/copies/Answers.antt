@@ -1,6 +1,5 @@
-use Rattle.dual_diff.proofs.{Shared.{◌≡◌, ◌≤◌, ◌∙◌, ap, arith, subst, Places, count, one, size, children_of, nth, tree_of}, Slices.{slice_more, slice_none, slice_room}}
-use Rattle.dual_diff.proofs.placer.PlacerWriter.copies.Goals.{After-child_of-child}
-use Rattle.dual_diff.specs.WritingLaws.{places_joined, places_keeps, places_nothing, places_room}
+use Rattle.dual_diff.proofs.Shared.{◌≡◌, ◌≤◌, ◌∙◌, ap, arith, subst, Places, count, one, size, children_of, nth, tree_of, places_joined, places_keeps, places_nothing, places_room}
+use Rattle.dual_diff.proofs.{Slices.{slice_more, slice_none, slice_room}, placer.PlacerWriter.copies.Goals.{After-child_of-child}}
 use Rattle.dual_diff.proofs.placer.PlacerWriter.copies.Goals as goal
 
 pub loop-at-init : goal.loop-at-init

@@ -1,5 +1,4 @@
-use Rattle.dual_diff.proofs.{Shared.{◌≤◌, arith, free_of, bytes_in, tree_at, forest, size-plain}, Added.places_one}
-use Rattle.tree_handles.proofs.Measures.{one_at}
+use Rattle.dual_diff.proofs.{Shared.{◌≤◌, arith, free_of, bytes_in, tree_at, forest, size-plain, one_at}, Added.{places_one}}
 use Rattle.dual_diff.proofs.placer.PlacerWriter.copy.Goals as goal
 
 pub returns : goal.returns

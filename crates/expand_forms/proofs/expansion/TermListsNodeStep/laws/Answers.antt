@@ -1,4 +1,4 @@
-use Rattle.expand_forms.proofs.{Shared.{arith, child_bits, children_of}, OverAnswers.{all_polynomials, each_polynomial, leaf_expanded}, PowersOfSums.{child_lacks, leaf_ready}}
+use Rattle.expand_forms.proofs.{Shared.{arith, child_bits, children_of}, OverAnswers.{each_polynomial, leaf_expanded}, PowersOfSums.{child_lacks, leaf_ready}, ChildRooms.{all_polynomials}}
 use Rattle.expand_forms.proofs.expansion.TermListsNodeStep.laws.Goals as goal
 
 pub returns : goal.returns

@@ -1,6 +1,4 @@
-use Rattle.line_text.proofs.Shared.{◌≡◌, ◌++◌, ◌∷◌, [], ℕ, List, arith, subst}
-use Rattle.std.proofs.Common.{OnErr}
-use Rattle.calc_edges.specs.Taken.{AppendsPart}
+use Rattle.line_text.proofs.Shared.{◌≡◌, ◌++◌, ◌∷◌, [], ℕ, List, arith, subst, OnErr, AppendsPart}
 use Rattle.line_text.proofs.page.Page.write_line.Goals as goal
 
 pub returns-clause-part : goal.returns-clause-part

@@ -1,6 +1,5 @@
-use Rattle.std.proofs.Common.{◌+◌, ap, sym, subst, ◌∙◌}
-use Rattle.linear_solve.proofs.{Shared.{CalmChecks-append, CalmChecks, name_checks, states, rows_told, misfit_of, one_calm, trips_after}, RowLists.{settled_next}, Walks.{handed_on}}
-use Rattle.linear_solve.proofs.CheckCounts.{name_checks_stop, name_checks_within}
+use Rattle.linear_solve.proofs.{Shared.{◌+◌, ap, sym, subst, ◌∙◌, CalmChecks-append, CalmChecks, name_checks, states, rows_told, misfit_of, one_calm, trips_after}, RowLists.{settled_next}}
+use Rattle.linear_solve.proofs.{Walks.{handed_on}, CheckCounts.{name_checks_stop, name_checks_within}}
 use Rattle.linear_solve.specs.declared.fault.SolveFault.TheVariants as fault
 use Rattle.linear_solve.proofs.elimination.Elimination.eliminate.Goals as goal
 

@@ -1,5 +1,4 @@
-use Rattle.std.proofs.Common.{◌≡◌, Ok, length}
-use Rattle.linear_solve.proofs.Shared.{CalmChecks, states, settled_up_to, rows_told}
+use Rattle.linear_solve.proofs.Shared.{◌≡◌, Ok, length, CalmChecks, states, settled_up_to, rows_told}
 use Rattle.linear_solve.proofs.elimination.Elimination.eliminate.Given as goal
 
 abbrev pub invariant-loop-name : goal.invariant-loop-name

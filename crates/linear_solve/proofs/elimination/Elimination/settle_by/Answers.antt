@@ -1,5 +1,4 @@
-use Rattle.std.proofs.Common.{◌<◌, lit<, length, map, ap, arith}
-use Rattle.linear_solve.proofs.{Shared.{length-map, cleared_pivot, entries_of, pivot_of}, Calculations.{each_long}}
+use Rattle.linear_solve.proofs.{Shared.{◌<◌, lit<, length, map, ap, arith, length-map, cleared_pivot, entries_of, pivot_of}, Calculations.{each_long}}
 use Rattle.linear_solve.proofs.elimination.Elimination.settle_by.Goals as goal
 
 pub push-requires : goal.push-requires

@@ -1,5 +1,4 @@
-use Rattle.std.proofs.Common.{◌≡◌, ◌+◌, ◌++◌, length, drop}
-use Rattle.linear_solve.proofs.Shared.{entries_of}
+use Rattle.linear_solve.proofs.Shared.{◌≡◌, ◌+◌, ◌++◌, length, drop, entries_of}
 use Rattle.linear_solve.proofs.row.Row.behind.Given as goal
 
 abbrev pub invariant-loop-at : goal.invariant-loop-at

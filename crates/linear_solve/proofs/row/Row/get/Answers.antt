@@ -1,6 +1,4 @@
-use Rattle.std.proofs.Common.{map, sym, ap, ◌∙◌, length, arith}
-use Rattle.linear_solve.proofs.{Shared.{entry, get_or_past, length-map, zero_fraction, value_of, entries_of}, Entries.{zero_value}, RowLists.{read_row}}
-use Rattle.linear_solve.specs.declared.row.Entry.{Entry}
+use Rattle.linear_solve.proofs.{Shared.{map, sym, ap, ◌∙◌, length, arith, entry, get_or_past, length-map, zero_fraction, value_of, entries_of, zero_value, Entry}, RowLists.{read_row}}
 use Rattle.linear_solve.proofs.row.Row.get.Goals as goal
 
 pub returns-else-at-entries : goal.returns-else-at-entries

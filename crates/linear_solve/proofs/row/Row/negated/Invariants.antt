@@ -1,5 +1,4 @@
-use Rattle.std.proofs.Common.{◌≡◌, length, map, take}
-use Rattle.linear_solve.proofs.Shared.{negative, entries_of}
+use Rattle.linear_solve.proofs.Shared.{◌≡◌, length, map, take, negative, entries_of}
 use Rattle.linear_solve.proofs.row.Row.negated.Given as goal
 
 abbrev pub invariant-loop-at : goal.invariant-loop-at

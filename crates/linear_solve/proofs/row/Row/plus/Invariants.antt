@@ -1,6 +1,4 @@
-use Rattle.std.proofs.Common.{◌≡◌, length, take, Ok}
-use Rattle.std.specs.Prelude.{zip}
-use Rattle.linear_solve.proofs.Shared.{Fraction, each, sum_of, entries_of}
+use Rattle.linear_solve.proofs.Shared.{◌≡◌, length, take, Ok, zip, Fraction, each, sum_of, entries_of}
 use Rattle.linear_solve.proofs.row.Row.plus.Given as goal
 
 abbrev pub invariant-loop-at : goal.invariant-loop-at

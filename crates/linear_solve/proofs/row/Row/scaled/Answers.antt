@@ -1,5 +1,4 @@
-use Rattle.std.proofs.Common.{◌<◌, length, Ok, Err, sym, arith}
-use Rattle.linear_solve.proofs.{Shared.{err_from_is_err_and, value_of, product_of, entries_of, misfit_of}, Entries.{longer, mul_told, row_more, row_stops}}
+use Rattle.linear_solve.proofs.{Shared.{◌<◌, length, Ok, Err, sym, arith, err_from_is_err_and, value_of, product_of, entries_of, misfit_of}, Entries.{longer, mul_told, row_more, row_stops}}
 use Rattle.linear_solve.proofs.row.Row.scaled.Goals as goal
 
 pub returns-in_err-product-clause-overflow : goal.returns-in_err-product-clause-overflow

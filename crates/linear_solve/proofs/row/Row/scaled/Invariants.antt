@@ -1,5 +1,4 @@
-use Rattle.std.proofs.Common.{◌≡◌, length, take, Ok}
-use Rattle.linear_solve.proofs.Shared.{value_of, each, product_of, entries_of}
+use Rattle.linear_solve.proofs.Shared.{◌≡◌, length, take, Ok, value_of, each, product_of, entries_of}
 use Rattle.linear_solve.proofs.row.Row.scaled.Given as goal
 
 abbrev pub invariant-loop-at : goal.invariant-loop-at

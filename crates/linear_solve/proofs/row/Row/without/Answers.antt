@@ -1,6 +1,5 @@
-use Rattle.std.proofs.Common.{◌≡◌, ◌<◌, length, Ok, Err, refl, sym, ap, ◌∙◌, arith}
-use Rattle.linear_solve.proofs.{Shared.{err_from_is_err_and, Fraction, negative, value_of, and_then, product_of, sum_of, entry, entries_of, misfit_of}, Calculations.{then_err, then_ok}}
-use Rattle.linear_solve.proofs.Entries.{add_told, longer, mul_told, pair_all, pair_more, pair_stops}
+use Rattle.linear_solve.proofs.Shared.{◌≡◌, ◌<◌, length, Ok, Err, refl, sym, ap, ◌∙◌, arith, err_from_is_err_and, Fraction, negative, value_of, and_then, product_of, sum_of, entry, entries_of}
+use Rattle.linear_solve.proofs.{Shared.{misfit_of}, Calculations.{then_err, then_ok}, Entries.{add_told, longer, mul_told, pair_all, pair_more, pair_stops}}
 use Rattle.linear_solve.proofs.row.Row.without.Goals as goal
 
 pub returns-in_err-removed-clause-overflow : goal.returns-in_err-removed-clause-overflow

@@ -1,5 +1,4 @@
-use Rattle.std.proofs.Common.{◌<◌, ℕ, List, [], length, map, arith}
-use Rattle.linear_solve.proofs.{Shared.{length-map, zero_fraction, name_of}, Entries.{longer, mapped_more, zero_value}}
+use Rattle.linear_solve.proofs.{Shared.{◌<◌, ℕ, List, [], length, map, arith, length-map, zero_fraction, name_of, zero_value}, Entries.{longer, mapped_more}}
 use Rattle.linear_solve.proofs.side.SideRow.constant.Goals as goal
 
 pub loop-preserved : goal.loop-preserved

@@ -1,5 +1,4 @@
-use Rattle.std.proofs.Common.{◌≡◌, ℕ, List, length, map, take}
-use Rattle.linear_solve.proofs.Shared.{zero_fraction, name_of, entries_of}
+use Rattle.linear_solve.proofs.Shared.{◌≡◌, ℕ, List, length, map, take, zero_fraction, name_of, entries_of}
 use Rattle.linear_solve.proofs.side.SideRow.constant.Given as goal
 
 abbrev pub invariant-loop : goal.invariant-loop

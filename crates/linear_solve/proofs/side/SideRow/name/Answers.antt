@@ -1,5 +1,6 @@
 use Rattle.std.proofs.Common.{◌≡◌, ◌<◌, ◌++◌, ◌∷◌, ℕ, List, [], length, map, true, if◌then◌else◌, sym, ap, ◌∙◌, get_or, arith}
-use Rattle.linear_solve.proofs.{Shared.{bytes_eq, get_or-map, length-map, one_fraction, zero_fraction, name_of, entries_of}, Entries.{longer, mapped_all, mapped_more, zero_value}}
+use Rattle.linear_solve.proofs.{Shared.{bytes_eq, get_or-map, length-map, one_fraction, zero_fraction, name_of, entries_of}, Entries.{longer, mapped_all, mapped_more}}
+use Rattle.calc_terms.proofs.SmallFractions.{zero_value}
 use Rattle.linear_solve.proofs.side.SideRow.name.Goals as goal
 
 pub loop-other-preserved : goal.loop-other-preserved

@@ -1,5 +1,4 @@
-use Rattle.name_table.proofs.{Shared.{◌≤◌, map, drop, entry_of, depth, tree_of}, Filled.IsFilled}
-use Rattle.name_table.specs.Filling.{depth_limit}
+use Rattle.name_table.proofs.{Shared.{◌≤◌, map, drop, entry_of, depth, tree_of, depth_limit}, Filled.{IsFilled}}
 use Rattle.name_table.proofs.table.NameTable.fill.Given as goal
 
 abbrev pub invariant-loop-slot : goal.invariant-loop-slot

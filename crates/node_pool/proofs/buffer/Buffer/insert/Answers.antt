@@ -1,7 +1,6 @@
-use Rattle.node_pool.proofs.Shared.{arith, refl, ap, length, ◌+◌, ◌-◌, ◌≤◌, ◌∙◌, ◌≡◌, ℕ, Node, Contents, contents_of, IsLaid, IsBoundary, used, parent, put, put_before}
+use Rattle.node_pool.proofs.Shared.{arith, refl, ap, length, ◌+◌, ◌-◌, ◌≤◌, ◌∙◌, ◌≡◌, ℕ, Node, Contents, contents_of, IsLaid, IsBoundary, used, parent, put, put_before, length-slid}
 use Rattle.node_pool.proofs.{Fields.{IsDone, opened, size_is, within}, Changes.{done, inserted, parent_bytes, parent_node}}
 use Rattle.node_pool.specs.declared.buffer.Buffer.TheInside.{Inside}
-use Rattle.raw_region.proofs.Slides.{length-slid}
 use Rattle.node_pool.proofs.buffer.Buffer.insert.Goals as goal
 
 -- the new node's bytes are within the store

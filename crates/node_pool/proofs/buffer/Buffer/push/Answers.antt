@@ -1,5 +1,4 @@
-use Rattle.node_pool.proofs.{Shared.{arith, refl, ap, ◌+◌, ◌++◌, ◌∷◌, [], ℕ, payload_of, fresh}, Sizes.length_le_used, Fields.{IsDone, opened, size_is}, Changes.{done, pushed}}
-use Rattle.calc_terms.proofs.Leaves.{usable}
+use Rattle.node_pool.proofs.{Shared.{arith, refl, ap, ◌+◌, ◌++◌, ◌∷◌, [], ℕ, payload_of, fresh, usable}, Sizes.{length_le_used}, Fields.{IsDone, opened, size_is}, Changes.{done, pushed}}
 use Rattle.node_pool.proofs.buffer.Buffer.push.Goals as goal
 
 pub overflow_add-self-2 : goal.overflow_add-self-2

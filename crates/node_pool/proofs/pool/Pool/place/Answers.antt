@@ -1,4 +1,5 @@
-use Rattle.node_pool.proofs.{Shared.{arith, ap, set, ◌∙◌, ◌≡◌, Header, size_of_header, size_of_payload, payload_of, IsKept, free_of}, Sizes.size_leaf, Keeping.{placed, room_unused}}
+use Rattle.node_pool.proofs.{Shared.{arith, ap, set, ◌∙◌, ◌≡◌, Header, size_of_header, size_of_payload, payload_of, IsKept, free_of}, Keeping.{placed, room_unused}}
+use Rattle.calc_terms.proofs.Sizes.{payload_least as size_leaf}
 use Rattle.node_pool.proofs.pool.Pool.place.Goals as goal
 
 pub take_least-id-requires-clause-some : goal.take_least-id-requires-clause-some

@@ -1,6 +1,4 @@
-use Rattle.std.proofs.Common.{◌≡◌, false, rules}
-use Rattle.poincare_c.proofs.SlotLemmas.{opening, refuses}
-use Rattle.poincare_c.specs.{Slots.{opens}, Standings.{is_open}, declared.standing.Standing.TheVariants.{Open}}
+use Rattle.poincare_c.proofs.{Shared.{◌≡◌, false, rules, opens, is_open, Open}, SlotLemmas.{opening, refuses}}
 use Rattle.poincare_c.proofs.slot.Slot.open.Goals as goal
 
 pub returns-in-Ok : goal.returns-in-Ok

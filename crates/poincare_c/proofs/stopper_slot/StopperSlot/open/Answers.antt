@@ -1,8 +1,5 @@
-use Rattle.std.proofs.Common.{◌≡◌, false, refl, rules, subst, sym}
-use Rattle.poincare_held.specs.declared.held.Held.{Held}
+use Rattle.poincare_c.proofs.Shared.{◌≡◌, false, refl, rules, subst, sym, Held, IsOpeningStopper, has_closed_session, has_new_session, has_no_room, opens_stopper, is_open, Standing, Open}
 use Rattle.poincare_c.proofs.SlotLemmas.{opening_stopper}
-use Rattle.poincare_c.specs.{Slots.{IsOpeningStopper, has_closed_session, has_new_session, has_no_room, opens_stopper}, Standings.{is_open}, declared.standing.Standing.{Standing}}
-use Rattle.poincare_c.specs.declared.standing.Standing.TheVariants.{Open}
 use Rattle.poincare_c.proofs.stopper_slot.StopperSlot.open.Goals as goal
 
 pub returns-in-New : goal.returns-in-New

@@ -1,5 +1,4 @@
-use Rattle.std.proofs.{Common.{arith, rules}, lemmas.Grind.{common_steps}}
-use Rattle.poincare_held.proofs.AnsweringLemmas.{begins, ends_by_line, ends_here, goes_on}
+use Rattle.poincare_held.proofs.{Shared.{arith, rules, common_steps}, AnsweringLemmas.{begins, ends_by_line, ends_here, goes_on}}
 use Rattle.poincare_held.proofs.held.Held.answer_all.Goals as goal
 
 pub loop-line-init : goal.loop-line-init

@@ -1,5 +1,4 @@
-use Rattle.std.proofs.Common.{length}
-use Rattle.poincare_held.proofs.AnsweringLemmas.{IsUnderWay}
+use Rattle.poincare_held.proofs.{Shared.{length}, AnsweringLemmas.{IsUnderWay}}
 use Rattle.poincare_held.proofs.held.Held.answer_all.Given as goal
 
 abbrev pub invariant-loop-line : goal.invariant-loop-line

@@ -1,33 +1,9 @@
 -- A value of no bytes is made, whose ghost list is the old one and what is added.
-use Rattle.std.proofs.Common.{[], ◌∷◌, ◌++◌, ◌<◌, ◌^◌, length, refl}
-use seplogic.Ra.Ura.{Ura}
-use mir.Syntax.{named}
-use mir.Val.{Val, vptr, vstruct, vnil}
-use base.Logic.{SProp, ent, emp, via, fst∗}
-use base.Fml.{Fml}
-use prog.Memory.{Memory}
-use prog.Routine.{Routine}
-use prog.Wp.{Calls, Loops, WpFn, Tables}
-use types.Logic.{Logic}
-use contract.Lifetimes.{Lfts, Shares}
-use contract.Monad.{Fun}
-use contract.Running.{tables, tables_of}
-use sound.WpLaws.{WpFn-mono}
-use types.Kit.{‵, raw, ◌$◌, ◌∵◌, !, qed, move, suffices, done}
-use types.Run.{no_more, returns, enter}
-use types.Part.{agg}
-use types.ByLocal.{alloc_all, pass_all, free_all, look_at, sets}
-use denote.Builtin.{u8}
-use denote.Exit.{yes}
-use denote.RattleType.{owns}
-use denote.Ref.{shr_vals, shr_Tells}
-use denote.Shadow.{pure_i}
-use denote.Signature.{plain, types_at}
-use denote.Slice.{slice_val, shr_slice_vals, shr_slice_Tells}
-use denote.Triple.Entry.{on_entry, alive, Args}
-use denote.Triple.Spec.{Meets, triple_of}
-use denote.Triple.Table.{entered}
-use denote.Triple.Walked.{says, stay_none_ref, stay_none_slice, Stays, walk_of, Walks, ends_at, walked, Goes-none_ref, Goes-none_slice, walk_Meets}
+use Rattle.poincare_held.proofs.Shared.{[], ◌∷◌, ◌++◌, ◌<◌, ◌^◌, length, refl, Ura, named, Val, vptr, vstruct, vnil, SProp, ent, emp, via, fst∗, Fml, Memory, Routine, Calls, Loops, WpFn, Tables}
+use Rattle.poincare_held.proofs.Shared.{Logic, Lfts, Shares, Fun, tables, WpFn-mono, ‵, raw, ◌$◌, ◌∵◌, !, qed, move, suffices, done, no_more, returns, enter, agg, alloc_all, pass_all, free_all}
+use Rattle.poincare_held.proofs.Shared.{look_at, sets, u8, yes, owns, shr_vals, shr_Tells, pure_i, plain, types_at, slice_val, shr_slice_vals, shr_slice_Tells, on_entry, alive, Args, Meets, triple_of}
+use Rattle.poincare_held.proofs.Shared.{entered, says, stay_none_ref, stay_none_slice, Stays, walk_of, Walks, ends_at, walked, Goes-none_ref, Goes-none_slice, walk_Meets}
+use contract.Running.{tables_of}
 use Rattle.poincare_held.specs.contracts.told.Told.and.Key.{name as key}
 use Rattle.poincare_held.specs.contracts.told.Told.and as f
 use Rattle.poincare_held.proofs.told.Told.and.Statement as stated

@@ -1,25 +1,8 @@
 -- A value of no bytes is made, whose ghost list is empty.
-use Rattle.std.proofs.Common.{[], ◌∷◌, refl}
-use seplogic.Ra.Ura.{Ura}
-use mir.Val.{vstruct, vnil}
-use base.Logic.{SProp, ent, emp, via, fst∗}
-use prog.Memory.{Memory}
-use prog.Routine.{Routine}
-use prog.Wp.{Calls, Loops, WpFn, Tables}
-use types.Logic.{Logic}
-use contract.Monad.{Fun}
-use contract.Running.{tables, tables_of}
-use sound.WpLaws.{WpFn-mono}
-use types.Kit.{‵, raw, ◌$◌, ◌∵◌, !, qed, move, suffices, done}
-use types.Run.{no_more, returns, enter}
-use types.Part.{agg}
-use types.ByLocal.{alloc_all, pass_all, free_all, look_at, sets}
-use denote.RattleType.{owns}
-use denote.Shadow.{pure_i}
-use denote.Triple.Entry.{on_entry, alive}
-use denote.Triple.Spec.{Meets, triple_of}
-use denote.Triple.Table.{entered}
-use denote.Triple.Walked.{says, Stays, walk_of, Walks, ends_at, walked, walk_Meets}
+use Rattle.poincare_held.proofs.Shared.{[], ◌∷◌, refl, Ura, vstruct, vnil, SProp, ent, emp, via, fst∗, Memory, Routine, Calls, Loops, WpFn, Tables, Logic, Fun, tables, WpFn-mono, ‵, raw, ◌$◌, ◌∵◌, ! }
+use Rattle.poincare_held.proofs.Shared.{qed, move, suffices, done, no_more, returns, enter, agg, alloc_all, pass_all, free_all, look_at, sets, owns, pure_i, on_entry, alive, Meets, triple_of, entered}
+use Rattle.poincare_held.proofs.Shared.{says, Stays, walk_of, Walks, ends_at, walked, walk_Meets}
+use contract.Running.{tables_of}
 use Rattle.poincare_held.specs.contracts.told.Told.new.Key.{name as key}
 use Rattle.poincare_held.specs.contracts.told.Told.new as f
 use Rattle.poincare_held.proofs.told.Told.new.Statement as stated

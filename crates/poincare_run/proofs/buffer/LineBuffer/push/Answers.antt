@@ -1,5 +1,4 @@
-use Rattle.std.proofs.Common.{refl, append-nil}
-use Rattle.poincare_run.proofs.{Shared.{StandsFor}, BufferLemmas.{holds_all, holds_return}, buffer.LineBuffer.push.Goals.{then-self, else-self}}
+use Rattle.poincare_run.proofs.{Shared.{refl, append-nil, StandsFor}, BufferLemmas.{holds_all, holds_return}, buffer.LineBuffer.push.Goals.{then-self, else-self}}
 use Rattle.poincare_run.proofs.buffer.LineBuffer.push.Goals as goal
 
 pub returns-then-not-self : goal.returns-then-not-self

@@ -1,6 +1,4 @@
-use Rattle.std.proofs.Common.{ℕ, List, take}
-use Rattle.calc_edges.specs.Faults.{IsCalm}
-use Rattle.poincare_run.proofs.Shared.{Moment, Answered, Goes, place_of}
+use Rattle.poincare_run.proofs.Shared.{ℕ, List, take, IsCalm, Moment, Answered, Goes, place_of}
 use Rattle.poincare_run.proofs.dialog.Dialog.answer.Given as goal
 
 -- the bytes so far are answered, and no write failed

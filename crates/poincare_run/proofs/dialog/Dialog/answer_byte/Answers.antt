@@ -1,5 +1,4 @@
-use Rattle.std.proofs.Common.{refl}
-use Rattle.poincare_run.proofs.{Shared.{on_ok_weaker, on_err_weaker, ne_eqb, rest_of}, StepLemmas.{goes_by_line, breaks_at_line, goes_by_byte}}
+use Rattle.poincare_run.proofs.{Shared.{refl, on_ok_weaker, on_err_weaker, ne_eqb, rest_of}, StepLemmas.{goes_by_line, breaks_at_line, goes_by_byte}}
 use Rattle.poincare_run.proofs.dialog.Dialog.answer_byte.Goals as goal
 
 pub returns-then-byte-eq10-clause-ok : goal.returns-then-byte-eq10-clause-ok

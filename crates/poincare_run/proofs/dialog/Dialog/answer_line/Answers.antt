@@ -1,6 +1,5 @@
-use Rattle.std.proofs.Common.{[], sym, ap, subst, refl}
-use Rattle.poincare_run.proofs.{Shared.{Appends-nil, on_ok_weaker, on_err_weaker, Holds, Seen, Place, place_of}, PictureLemmas.{answers_so, fails_so, same_place}, StepLemmas.{written_blank}}
-use Rattle.poincare_run.proofs.StepLemmas.{written_drawn, written_shown, written_text}
+use Rattle.poincare_run.proofs.{Shared.{[], sym, ap, subst, refl, Appends-nil, on_ok_weaker, on_err_weaker, Holds, Seen, Place, place_of}, PictureLemmas.{answers_so, fails_so, same_place}}
+use Rattle.poincare_run.proofs.StepLemmas.{written_blank, written_drawn, written_shown, written_text}
 use Rattle.poincare_run.proofs.dialog.Dialog.answer_line.Goals as goal
 
 pub returns-in-Blank-clause-ok : goal.returns-in-Blank-clause-ok

@@ -1,6 +1,4 @@
-use Rattle.std.proofs.Common.{subst}
-use Rattle.poincare_run.proofs.{Shared.{FailsToDraw, rows_in}, PictureLemmas.{drawn_whole, drawn_part}}
-use Rattle.calc_session.specs.declared.answers.DrawFault.{DrawFault}
+use Rattle.poincare_run.proofs.{Shared.{subst, FailsToDraw, rows_in, DrawFault}, PictureLemmas.{drawn_whole, drawn_part}}
 use Rattle.poincare_run.proofs.dialog.Dialog.draw.Goals as goal
 
 pub returns-in-Ok-clause-ok : goal.returns-in-Ok-clause-ok

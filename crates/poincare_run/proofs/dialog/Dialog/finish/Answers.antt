@@ -1,5 +1,4 @@
-use Rattle.std.proofs.Common.{◌≡◌, true, List, [], ℕ}
-use Rattle.poincare_run.proofs.{Shared.{on_ok_weaker, on_err_weaker, Holds, rest_of}, StepLemmas.{ends_in_newline, ends_in_line, breaks_at_end}}
+use Rattle.poincare_run.proofs.{Shared.{◌≡◌, true, List, [], ℕ, on_ok_weaker, on_err_weaker, Holds, rest_of}, StepLemmas.{ends_in_newline, ends_in_line, breaks_at_end}}
 use Rattle.poincare_run.proofs.dialog.Dialog.finish.Goals as goal
 
 pub returns-then-is_empty-clause-ok : goal.returns-then-is_empty-clause-ok

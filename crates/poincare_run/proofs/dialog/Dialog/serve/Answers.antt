@@ -1,5 +1,4 @@
-use Rattle.std.proofs.Common.{◌≡◌, ◌∙◌, take, length, refl, arith}
-use Rattle.poincare_run.proofs.{Shared.{length-take-le, stops_later}, EndLemmas.{begins, reads_on, write_fails, ends, end_fails}}
+use Rattle.poincare_run.proofs.{Shared.{◌≡◌, ◌∙◌, take, length, refl, arith, length-take-le, stops_later}, EndLemmas.{begins, reads_on, write_fails, ends, end_fails}}
 use Rattle.poincare_run.proofs.dialog.Dialog.serve.Goals as goal
 
 pub loop-left-init : goal.loop-left-init

@@ -1,5 +1,4 @@
-use Rattle.calc_edges.specs.Faults.{IsCalm}
-use Rattle.poincare_run.proofs.Shared.{IsUnderWay, place_of}
+use Rattle.poincare_run.proofs.Shared.{IsCalm, IsUnderWay, place_of}
 use Rattle.poincare_run.proofs.dialog.Dialog.serve.Given as goal
 
 -- what was read so far is answered, up to the rest behind its last newline, and nothing failed

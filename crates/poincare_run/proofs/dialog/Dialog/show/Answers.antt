@@ -1,5 +1,4 @@
-use Rattle.std.proofs.Common.{◌≡◌, ◌++◌, ◌∷◌, [], List, ℕ, ap, sym, subst}
-use Rattle.poincare_run.proofs.{Shared.{on_err_weaker, AppendsPart, AppendsPart-after, Seen, picture_text}, PictureLemmas.{picture_wanted}}
+use Rattle.poincare_run.proofs.{Shared.{◌≡◌, ◌++◌, ◌∷◌, [], List, ℕ, ap, sym, subst, on_err_weaker, AppendsPart, AppendsPart-after, Seen, picture_text}, PictureLemmas.{picture_wanted}}
 use Rattle.poincare_run.proofs.dialog.Dialog.show.Goals as goal
 
 pub returns-then-self-clause-err : goal.returns-then-self-clause-err

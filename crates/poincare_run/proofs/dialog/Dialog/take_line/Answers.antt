@@ -1,5 +1,4 @@
-use Rattle.std.proofs.Common.{refl}
-use Rattle.poincare_run.proofs.StepLemmas.{takes}
+use Rattle.poincare_run.proofs.{Shared.{refl}, StepLemmas.{takes}}
 use Rattle.poincare_run.proofs.dialog.Dialog.take_line.Goals as goal
 
 pub returns-clause-takes : goal.returns-clause-takes

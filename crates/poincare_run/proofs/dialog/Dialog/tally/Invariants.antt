@@ -1,5 +1,4 @@
-use Rattle.std.proofs.Common.{◌≤◌, take}
-use Rattle.poincare_run.proofs.Shared.{Tallied, place_of, IsWithin}
+use Rattle.poincare_run.proofs.Shared.{◌≤◌, take, Tallied, place_of, IsWithin}
 use Rattle.poincare_run.proofs.dialog.Dialog.tally.Given as goal
 
 -- the answers to the lines of the bytes so far are counted

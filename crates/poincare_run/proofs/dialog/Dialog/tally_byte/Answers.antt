@@ -1,5 +1,4 @@
-use Rattle.std.proofs.Common.{refl}
-use Rattle.poincare_run.proofs.{Shared.{ne_eqb, rest_of, replies_of}, TallyLemmas.{tallied_by_byte, tallied_by_line}}
+use Rattle.poincare_run.proofs.{Shared.{refl, ne_eqb, rest_of, replies_of}, TallyLemmas.{tallied_by_byte, tallied_by_line}}
 use Rattle.poincare_run.proofs.dialog.Dialog.tally_byte.Goals as goal
 
 pub returns-then-byte-ne10-clause-tallied : goal.returns-then-byte-ne10-clause-tallied

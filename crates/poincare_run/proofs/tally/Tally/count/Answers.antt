@@ -1,5 +1,4 @@
-use Rattle.std.proofs.Common.{◌∙◌, ap, arith, refl}
-use Rattle.poincare_run.proofs.TallyLemmas.{counted, sort_is, sort_told, other_told}
+use Rattle.poincare_run.proofs.{Shared.{◌∙◌, ap, arith, refl}, TallyLemmas.{counted, sort_is, sort_told, other_told}}
 use Rattle.poincare_run.proofs.tally.Tally.count.Goals as goal
 
 pub returns-in-Shown-clause-value : goal.returns-in-Shown-clause-value

@@ -1,7 +1,4 @@
-use Rattle.std.proofs.Common.{ap}
-use Rattle.calc_terms.specs.Rat.{value_of}
-use Rattle.polynomials.specs.Polynomials.{summand}
-use Rattle.polynomials.proofs.Exponents.{packed_zero}
+use Rattle.polynomials.proofs.{Shared.{ap, value_of, summand}, Exponents.{packed_zero}}
 use Rattle.polynomials.proofs.term.Term.constant.Goals as goal
 
 pub returns : goal.returns

@@ -1,7 +1,4 @@
-use Rattle.std.proofs.Common.{◌∙◌, sym, ap}
-use Rattle.calc_terms.proofs.FractionFacts.{one_is}
-use Rattle.calc_terms.specs.{FractionLaws.{one_times}, Fractions.{times}, Rat.{value_of}}
-use Rattle.polynomials.specs.Polynomials.{summand}
+use Rattle.polynomials.proofs.Shared.{◌∙◌, sym, ap, one_is, one_times, times, value_of, summand}
 use Rattle.polynomials.proofs.term.Term.times.Goals as goal
 
 pub returns-then-is_one-clause-product : goal.returns-then-is_one-clause-product

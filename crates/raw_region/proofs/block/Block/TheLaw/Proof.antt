@@ -1,8 +1,6 @@
 -- A `&` to a block shows its bytes. Assumes `Logic`.
-use Rattle.raw_region.proofs.{Shared.{RattleType, u8, RawPtr, copy_shared, field_copy, Ghosts}, block.Block.TheLaw.Statement.statement, Blocks.{shows_laws, Lends-block}}
-use denote.{Param.Laws.Laws, Param.Shared.Sharable, Shares.Shares-less, Struct.Field.{RawPtr-field, u8-field, usize-field}, Struct.Laws.{RawPtr-copy, u8-copy, usize-copy}}
-use denote.Struct.Lending.{of_Lends}
-use contract.BorrowLft.{⊑_static}
+use Rattle.raw_region.proofs.Shared.{RattleType, u8, RawPtr, copy_shared, field_copy, Ghosts, Laws, Sharable, Shares-less, RawPtr-field, u8-field, usize-field, RawPtr-copy, u8-copy, usize-copy}
+use Rattle.raw_region.proofs.{Shared.{of_Lends, ⊑_static}, block.Block.TheLaw.Statement.{statement}, Blocks.{shows_laws, Lends-block}}
 use Rattle.core.specs.contracts.marker.PhantomData as marker
 use Rattle.raw_region.specs.contracts.block.Block as C
 

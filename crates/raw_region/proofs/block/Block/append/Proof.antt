@@ -1,15 +1,12 @@
 -- `append` writes the first byte of the room. Assumes `Logic`.
-use Rattle.raw_region.proofs.Shared.{◌≡◌, ◌+◌, ◌-◌, ◌^◌, ◌<◌, List, [], ◌∷◌, ◌++◌, length, refl, sym, ap, ◌∙◌, arith, Fn, inst_fn, Val, vunit, full_share}
-use Rattle.raw_region.proofs.Shared.{ftrue, froom, flft, SProp, emp, never, id⊢, Env, WpFn, ◌⊑◌, fact, fact_i, tables, raw, ◌⊛◌, prop, at_ret, ◌$◌, ◌∵◌, qed, by, move}
-use Rattle.raw_region.proofs.Shared.{drop, keep, use0, use1, use2, split, split3, join, rewrite, regoal, fsplit, fsplit3, fjoin, feq_i, feq_l, flt_i, flt_l, look_in, whole, sub, stop, fld, load}
-use Rattle.raw_region.proofs.Shared.{unit_lit, of_opd, first, blocks, exec, returns, enter, alloc_all, pass_all, free_all, look_at, get, through, sets, env, usize, u8, yes, cell_at, owns, Ptr}
-use Rattle.raw_region.proofs.Shared.{in_a_block, bytes, plain, types_at, nothing, heard, opens, alive, after, proved_at, leaves, byte, block_owns, Stays, stay_dropped, walk_of, Goes-dropped}
-use Rattle.raw_region.proofs.{Shared.ty_array, Blocks.{only, Bk, Words, block_val, block_had, block_made, next_room, grown}, block.Block.append.Statement.statement}
+use Rattle.raw_region.proofs.Shared.{◌≡◌, ◌+◌, ◌-◌, ◌^◌, ◌<◌, List, [], ◌∷◌, ◌++◌, length, refl, sym, ap, ◌∙◌, arith, Fn, inst_fn, Val, vunit, full_share, ftrue, froom, flft, SProp, emp, never, id⊢}
+use Rattle.raw_region.proofs.Shared.{Env, WpFn, ◌⊑◌, fact, fact_i, tables, raw, ◌⊛◌, prop, at_ret, ◌$◌, ◌∵◌, qed, by, move, drop, keep, use0, use1, use2, split, split3, join, rewrite, regoal, fsplit}
+use Rattle.raw_region.proofs.Shared.{fsplit3, fjoin, feq_i, feq_l, flt_i, flt_l, look_in, whole, sub, stop, fld, load, unit_lit, of_opd, first, blocks, exec, returns, enter, alloc_all, pass_all}
+use Rattle.raw_region.proofs.Shared.{free_all, look_at, get, through, sets, env, usize, u8, yes, cell_at, owns, Ptr, in_a_block, bytes, plain, types_at, nothing, heard, opens, alive, after, proved_at}
+use Rattle.raw_region.proofs.Shared.{leaves, byte, block_owns, Stays, stay_dropped, walk_of, Goes-dropped, ty_array, vptr, ‵, !, fjoin3, init, bin, assigns_last, closes, stay_ref, Goes-ref}
+use Rattle.raw_region.proofs.{Blocks.{only, Bk, Words, block_val, block_had, block_made, next_room, grown}, block.Block.append.Statement.{statement}}
 use Rattle.std.proofs.Common.{length-append}
-use mir.Val.{vptr}
-use types.{Kit.{‵, !, fjoin3}, Run.{init, bin, assigns_last}}
-use denote.{Steps.closes, Triple.Walked.{stay_ref, Goes-ref}}
-use Rattle.raw_region.specs.{contracts.block.Block.append.{ended, clauses}, contracts.block.Block.append.Key.name as #self}
+use Rattle.raw_region.specs.{contracts.block.Block.append.Key.name as #self, contracts.block.Block.append.{ended, clauses}}
 use Rattle.raw_region.proofs.block.Block.append.Code as code
 
 pub append_spec : {M : Type 1} → statement M

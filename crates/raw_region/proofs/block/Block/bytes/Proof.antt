@@ -1,15 +1,11 @@
 -- `bytes` shows what is written. Assumes `Logic`.
-use Rattle.raw_region.proofs.Shared.{◌≡◌, ◌+◌, ◌*◌, ◌^◌, ◌<◌, List, [], ◌∷◌, ◌++◌, length, refl, sym, ap, subst, arith, Fn, inst_fn, Val, ftrue, flft, SProp, emp}
-use Rattle.raw_region.proofs.Shared.{never, id⊢, Env, WpFn, ◌⊑◌, fact, fact_i, tables, raw, ◌⊛◌, prop, at_ret, ◌$◌, ◌∵◌, qed, by, move, drop, keep, use0, use1, split}
-use Rattle.raw_region.proofs.Shared.{split3, join, rewrite, regoal, fsplit, fjoin, feq_i, feq_l, flt_i, flt_l, agg, stop, fld, load, of_opd, and_then, no_more, first, blocks, exec, returns}
-use Rattle.raw_region.proofs.Shared.{enter, alloc_all, pass_all, free_all, look_at, get, through, sets, sets_last, env, u8, RefOf, yes, hidden_shr, param, owns, Ptr, in_a_block, plain, types_at}
-use Rattle.raw_region.proofs.Shared.{nothing, heard, alive, after, proved_at, leaves, block_shows, hide, unhide, slice_val, elements_shared, Stays, stay_dropped, walk_of, Goes-dropped, RawPtr}
-use Rattle.raw_region.proofs.{Blocks.{only, Bk, Words, shows_start, shows_len}, block.Block.bytes.Statement.statement}
-use base.Fml.{fhide}
-use types.{Kit.{‵, ! }, Run.look}
-use denote.{RawPtr.{InBlock, block_of, count_of}, Struct.Lending.lent_out}
-use Rattle.std_alloc.proofs.Words.{word_in, word_out, pointer_in, pointer_out}
-use Rattle.raw_region.specs.{contracts.block.Block.bytes.{ended, clauses}, contracts.block.Block.bytes.Key.name as #self}
+use Rattle.raw_region.proofs.Shared.{◌≡◌, ◌+◌, ◌*◌, ◌^◌, ◌<◌, List, [], ◌∷◌, ◌++◌, length, refl, sym, ap, subst, arith, Fn, inst_fn, Val, ftrue, flft, SProp, emp, never, id⊢, Env, WpFn, ◌⊑◌, fact}
+use Rattle.raw_region.proofs.Shared.{fact_i, tables, raw, ◌⊛◌, prop, at_ret, ◌$◌, ◌∵◌, qed, by, move, drop, keep, use0, use1, split, split3, join, rewrite, regoal, fsplit, fjoin, feq_i, feq_l, flt_i}
+use Rattle.raw_region.proofs.Shared.{flt_l, agg, stop, fld, load, of_opd, and_then, no_more, first, blocks, exec, returns, enter, alloc_all, pass_all, free_all, look_at, get, through, sets, sets_last}
+use Rattle.raw_region.proofs.Shared.{env, u8, RefOf, yes, hidden_shr, param, owns, Ptr, in_a_block, plain, types_at, nothing, heard, alive, after, proved_at, leaves, block_shows, hide, unhide}
+use Rattle.raw_region.proofs.Shared.{slice_val, elements_shared, Stays, stay_dropped, walk_of, Goes-dropped, RawPtr, fhide, ‵, !, look, InBlock, block_of, count_of, lent_out, word_in, word_out}
+use Rattle.raw_region.proofs.{Shared.{pointer_in, pointer_out}, Blocks.{only, Bk, Words, shows_start, shows_len}, block.Block.bytes.Statement.{statement}}
+use Rattle.raw_region.specs.{contracts.block.Block.bytes.Key.name as #self, contracts.block.Block.bytes.{ended, clauses}}
 use Rattle.core.specs.contracts.marker.PhantomData as marker
 use Rattle.raw_region.specs.contracts.block.Block as block-type
 use Rattle.raw_region.proofs.block.Block.bytes.Code as code

@@ -1,15 +1,11 @@
 -- `bytes_mut` lends what is written, and the block follows it. Assumes `Logic`.
-use Rattle.raw_region.proofs.Shared.{◌≡◌, ◌*◌, ◌^◌, ◌<◌, ℕ, List, [], ◌∷◌, ◌++◌, length, refl, sym, ap, ◌∙◌, arith, Fn, inst_fn, Val, full_share, ftrue, flft}
-use Rattle.raw_region.proofs.Shared.{SProp, emp, never, id⊢, Env, WpFn, sem, ◌⊑◌, fact, fact_i, tables, raw, ◌⊛◌, later, prop, at_ret, ◌$◌, ◌∵◌, qed, by, move, drop}
-use Rattle.raw_region.proofs.Shared.{keep, use0, use1, split, split3, join, group, rewrite, regoal, fsplit, fsplit3, fjoin, feq_l, flt_l, await, look_in, whole, sub, agg, stop, fld, load}
-use Rattle.raw_region.proofs.Shared.{of_opd, and_then, no_more, first, blocks, exec, returns, enter, alloc_all, pass_all, free_all, look_at, get, through, sets, sets_last, env, cells, u8, no}
-use Rattle.raw_region.proofs.Shared.{mem, cell_at, owns, Ptr, in_a_block, plain, types_at, nothing, heard, opens, alive, after, proved_at, leaves, block_owns, Stays, stay_dropped, walk_of}
-use Rattle.raw_region.proofs.{Shared.{slice_val, rewritten}, Blocks.{only, Bk, block_val, block_had, Rest, back}, block.Block.bytes_mut.Statement.statement}
-use base.Fml.{GName}
-use types.Kit.{‵, some, !, pick}
-use denote.{Signature.mut_ref_to, Triple.Walked.Goes-spent_ref, Array.Array, Follow.follows, FollowSlice.{Elements, lends_Elements}, Index.whole_in, Ref.MutBor, Slice.MutSlice}
-use mir.Syntax.{named}
-use Rattle.raw_region.specs.{contracts.block.Block.bytes_mut.{ended, clauses}, contracts.block.Block.bytes_mut.Key.name as #self}
+use Rattle.raw_region.proofs.Shared.{◌≡◌, ◌*◌, ◌^◌, ◌<◌, ℕ, List, [], ◌∷◌, ◌++◌, length, refl, sym, ap, ◌∙◌, arith, Fn, inst_fn, Val, full_share, ftrue, flft, SProp, emp, never, id⊢, Env, WpFn, sem}
+use Rattle.raw_region.proofs.Shared.{◌⊑◌, fact, fact_i, tables, raw, ◌⊛◌, later, prop, at_ret, ◌$◌, ◌∵◌, qed, by, move, drop, keep, use0, use1, split, split3, join, group, rewrite, regoal, fsplit}
+use Rattle.raw_region.proofs.Shared.{fsplit3, fjoin, feq_l, flt_l, await, look_in, whole, sub, agg, stop, fld, load, of_opd, and_then, no_more, first, blocks, exec, returns, enter, alloc_all}
+use Rattle.raw_region.proofs.Shared.{pass_all, free_all, look_at, get, through, sets, sets_last, env, cells, u8, no, mem, cell_at, owns, Ptr, in_a_block, plain, types_at, nothing, heard, opens, alive}
+use Rattle.raw_region.proofs.Shared.{after, proved_at, leaves, block_owns, Stays, stay_dropped, walk_of, slice_val, rewritten, GName, ‵, some, !, pick, mut_ref_to, Goes-spent_ref, Array, follows}
+use Rattle.raw_region.proofs.{Shared.{Elements, lends_Elements, whole_in, MutBor, MutSlice, named}, Blocks.{only, Bk, block_val, block_had, Rest, back}, block.Block.bytes_mut.Statement.{statement}}
+use Rattle.raw_region.specs.{contracts.block.Block.bytes_mut.Key.name as #self, contracts.block.Block.bytes_mut.{ended, clauses}}
 use Rattle.raw_region.proofs.block.Block.bytes_mut.Code as code
 
 pub bytes_mut_spec : {M : Type 1} → statement M

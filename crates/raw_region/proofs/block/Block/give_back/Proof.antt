@@ -3,14 +3,11 @@ use Rattle.raw_region.proofs.Shared.{◌≡◌, List, [], ◌∷◌, ◌++◌, l
 use Rattle.raw_region.proofs.Shared.{tables, raw, ◌⊛◌, later, prop, at_ret, ◌$◌, ◌∵◌, qed, by, move, drop, keep, use1, split, split3, join, group, rewrite, regoal, fsplit, fjoin, feq_i, feq_l, await}
 use Rattle.raw_region.proofs.Shared.{whole, sub, stop, fld, lit, unit_lit, of_opd, and_then, no_more, first, blocks, exec, returns, enter, alloc_all, pass_all, free_all, look_at, get, get_in, sets}
 use Rattle.raw_region.proofs.Shared.{env, RefOf, yes, no, param, owns, Ptr, block_ptr, in_a_block, plain, types_at, nothing, heard, alive, after, proved_at, leaves, byte, block_owns, Stays}
-use Rattle.raw_region.proofs.{Shared.{stay_dropped, walk_of, Goes-dropped, ty_array, Al, fm}, block.Block.give_back.Statement.statement, Blocks.{only, Bk, block_val, block_had, block_size}}
-use mir.{Val.{has_ty, WT}, Syntax.ty_unit, Raw.raw as bare}
-use types.{Kit.{‵, given, !, learn}, ByLocal.lands_last}
-use denote.{RawPtr.Bytes.bytes-room, Triple.Call.calls_at_last}
+use Rattle.raw_region.proofs.Shared.{stay_dropped, walk_of, Goes-dropped, ty_array, Al, fm, has_ty, WT, ty_unit, ‵, given, !, learn, lands_last, bytes-room, calls_at_last, Gives, at_gives, Gives-goes}
+use Rattle.raw_region.proofs.{Shared.{Gives-Gives, Goes-blank, as_raw}, block.Block.give_back.Statement.{statement}, Blocks.{only, Bk, block_val, block_had, block_size}}
+use mir.{Raw.raw as bare}
 use lib.Dec.{T as Holds}
-use Rattle.core.proofs.alloc.Calls.{Gives, at_gives, Gives-goes, Gives-Gives, Goes-blank}
-use Rattle.std_alloc.proofs.RawLayout.{as_raw}
-use Rattle.raw_region.specs.{contracts.block.Block.give_back.{ended, clauses}, contracts.block.Block.give_back.Key.name as #self}
+use Rattle.raw_region.specs.{contracts.block.Block.give_back.Key.name as #self, contracts.block.Block.give_back.{ended, clauses}}
 use Rattle.raw_region.proofs.block.Block.give_back.Code as code
 
 pub give_back_spec : {M : Type 1} → statement M

@@ -1,19 +1,14 @@
 -- `take` keeps the new room, and the right to give it back. Assumes `Logic`.
-use Rattle.raw_region.proofs.Shared.{◌≡◌, ℕ, ◌+◌, ◌-◌, ◌^◌, ◌<◌, List, [], ◌∷◌, ◌++◌, refl, arith, lit<, Fn, inst_fn, Val, vcons, vnil, vstruct, ftrue, froom}
-use Rattle.raw_region.proofs.Shared.{flft, SProp, emp, id⊢, Env, WpFn, ◌⊑◌, ⊑_trans, fact, fact_i, tables, raw, ◌⊛◌, later, prop, at_ret, ◌$◌, ◌∵◌, qed, by, move, drop}
-use Rattle.raw_region.proofs.Shared.{use0, use1, use2, split, split3, join, rewrite, regoal, fsplit, fjoin, feq_l, flt_i, flt_l, await, whole, agg, stop, fld, lit, of_opd, and_then, no_more}
-use Rattle.raw_region.proofs.Shared.{first, exec, returns, enter, alloc_all, pass_all, free_all, look_at, get, get_in, sets, sets_last, env, usize, RefOf, yes, param, RattleType, owns, Ptr}
-use Rattle.raw_region.proofs.Shared.{block_ptr, plain, types_at, nothing, heard, alive, after, proved_at, leaves, byte, Stays, stay_dropped, walk_of, Goes-dropped, ty_array, Struct, Al, fm}
-use Rattle.raw_region.proofs.{Blocks.{only, Bk, Words, block_val, block_made, block_size}, block.Block.take.Statement.statement}
-use types.{Kit.{‵, !, Post as After, any_q}, Run.switches_on, ByLocal.{get_tag, lands_as}, Match.{live, vrt, in_variant}}
-use Rattle.core.proofs.{alloc.Shapes.{head, arm_body}, alloc.Calls.{Takes, at_takes, Answered, Answer-typed, Takes-goes, Takes-gives, answers}}
-use denote.{Triple.Call.calls_at, Laws.Is, Steps.owned, Struct.Struct.Struct-Makes}
-use mir.{Syntax.Body, Raw.raw as bare}
-use mathlib.Core.Bool.{true, false}
-use prog.Wp.{Wp, after_seq, at_return}
-use Rattle.std.specs.Prelude.{Ok, Err}
-use Rattle.std_alloc.proofs.{RawLayout.as_written, ResultValues.{ok_of, err_of}}
-use Rattle.raw_region.specs.{contracts.block.Block.take.{ended, clauses}, contracts.block.Block.take.Key.name as #self}
+use Rattle.raw_region.proofs.Shared.{◌≡◌, ℕ, ◌+◌, ◌-◌, ◌^◌, ◌<◌, List, [], ◌∷◌, ◌++◌, refl, arith, lit<, Fn, inst_fn, Val, vcons, vnil, vstruct, ftrue, froom, flft, SProp, emp, id⊢, Env, WpFn, ◌⊑◌}
+use Rattle.raw_region.proofs.Shared.{⊑_trans, fact, fact_i, tables, raw, ◌⊛◌, later, prop, at_ret, ◌$◌, ◌∵◌, qed, by, move, drop, use0, use1, use2, split, split3, join, rewrite, regoal, fsplit, fjoin}
+use Rattle.raw_region.proofs.Shared.{feq_l, flt_i, flt_l, await, whole, agg, stop, fld, lit, of_opd, and_then, no_more, first, exec, returns, enter, alloc_all, pass_all, free_all, look_at, get}
+use Rattle.raw_region.proofs.Shared.{get_in, sets, sets_last, env, usize, RefOf, yes, param, RattleType, owns, Ptr, block_ptr, plain, types_at, nothing, heard, alive, after, proved_at, leaves, byte}
+use Rattle.raw_region.proofs.Shared.{Stays, stay_dropped, walk_of, Goes-dropped, ty_array, Struct, Al, fm, ‵, !, any_q, switches_on, get_tag, lands_as, live, vrt, in_variant, head, arm_body, Takes}
+use Rattle.raw_region.proofs.Shared.{at_takes, Answered, Answer-typed, Takes-goes, Takes-gives, answers, calls_at, Is, owned, Struct-Makes, Body, true, false, Wp, after_seq, at_return, Ok, Err}
+use Rattle.raw_region.proofs.{Shared.{as_written, ok_of, err_of}, Blocks.{only, Bk, Words, block_val, block_made, block_size}, block.Block.take.Statement.{statement}}
+use types.Kit.{Post as After}
+use mir.{Raw.raw as bare}
+use Rattle.raw_region.specs.{contracts.block.Block.take.Key.name as #self, contracts.block.Block.take.{ended, clauses}}
 use denote.Struct.Declared as Declared
 use Rattle.core.specs.contracts.result.Result as RS
 use Rattle.core.specs.contracts.alloc.AllocError as AE

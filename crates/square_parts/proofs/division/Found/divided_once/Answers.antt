@@ -1,6 +1,5 @@
-use Rattle.square_parts.proofs.{Shared.{◌≡◌, ℕ, true, false, ◌*◌, ◌/◌, refl, arith}, Steps.{IsStep, square_found, clean_found}}
+use Rattle.square_parts.proofs.{Shared.{◌≡◌, ℕ, true, false, ◌*◌, ◌/◌, refl, arith}, Steps.{IsStep, square_found, clean_found}, division.Found.divided_once.Goals.{Then-divides, Else-divides}}
 use Rattle.square_parts.proofs.division.Found.divided_once.Goals as goal
-use Rattle.square_parts.proofs.division.Found.divided_once.Goals.{Then-divides, Else-divides}
 
 -- the steps, at what the quotients and the cast give
 squared : (c : Then-divides) (d' rest : ℕ) → d' ≡ c.args.d → rest ≡ c.quotient-once.result / c.args.d → IsStep c.args.self (record { root = c.args.self.root * d'; clean = c.args.self.clean; rest = rest }) c.args.d
@@ -17,26 +16,12 @@ overflow_mul-result c = omega (arith, (squared (goal.at.overflow_mul-result c).T
 pub overflow_mul-result-else-divides : goal.overflow_mul-result-else-divides
 overflow_mul-result-else-divides c = omega (arith, (cleaned (goal.at.overflow_mul-result-else-divides c).Else-divides c.from-else-divides.result c.from-else-divides.ensures).clean_fits)
 
-pub returns-then-divides-clause-same : goal.returns-then-divides-clause-same
-returns-then-divides-clause-same c = (squared (goal.at.returns-then-divides-clause-same c).Then-divides c.from.result c.quotient.result c.from.ensures c.quotient.ensures).same
+pub returns-then-divides : goal.returns-then-divides
+returns-then-divides c =
+    let step = squared (goal.at.returns-then-divides c).Then-divides c.from.result c.quotient.result c.from.ensures c.quotient.ensures in
+    record { same = step.same; found = step.found; below = step.below; less = step.less }
 
-pub returns-then-divides-clause-found : goal.returns-then-divides-clause-found
-returns-then-divides-clause-found c = (squared (goal.at.returns-then-divides-clause-found c).Then-divides c.from.result c.quotient.result c.from.ensures c.quotient.ensures).found
-
-pub returns-then-divides-clause-below : goal.returns-then-divides-clause-below
-returns-then-divides-clause-below c = (squared (goal.at.returns-then-divides-clause-below c).Then-divides c.from.result c.quotient.result c.from.ensures c.quotient.ensures).below
-
-pub returns-then-divides-clause-less : goal.returns-then-divides-clause-less
-returns-then-divides-clause-less c = (squared (goal.at.returns-then-divides-clause-less c).Then-divides c.from.result c.quotient.result c.from.ensures c.quotient.ensures).less
-
-pub returns-else-divides-clause-same : goal.returns-else-divides-clause-same
-returns-else-divides-clause-same c = (cleaned (goal.at.returns-else-divides-clause-same c).Else-divides c.from-else-divides.result c.from-else-divides.ensures).same
-
-pub returns-else-divides-clause-found : goal.returns-else-divides-clause-found
-returns-else-divides-clause-found c = (cleaned (goal.at.returns-else-divides-clause-found c).Else-divides c.from-else-divides.result c.from-else-divides.ensures).found
-
-pub returns-else-divides-clause-below : goal.returns-else-divides-clause-below
-returns-else-divides-clause-below c = (cleaned (goal.at.returns-else-divides-clause-below c).Else-divides c.from-else-divides.result c.from-else-divides.ensures).below
-
-pub returns-else-divides-clause-less : goal.returns-else-divides-clause-less
-returns-else-divides-clause-less c = (cleaned (goal.at.returns-else-divides-clause-less c).Else-divides c.from-else-divides.result c.from-else-divides.ensures).less
+pub returns-else-divides : goal.returns-else-divides
+returns-else-divides c =
+    let step = cleaned (goal.at.returns-else-divides c).Else-divides c.from-else-divides.result c.from-else-divides.ensures in
+    record { same = step.same; found = step.found; below = step.below; less = step.less }

@@ -1,6 +1,4 @@
-use Rattle.std.proofs.Common.{◌++◌}
-use Rattle.sum_reduce.proofs.Hindered.{numbers_named}
-use Rattle.like_children.proofs.SoFar.{joint_given}
+use Rattle.sum_reduce.proofs.{Shared.{◌++◌, joint_given}, Hindered.{numbers_named}}
 use Rattle.sum_reduce.proofs.numbers.AddingJoins.join.Goals as goal
 
 pub returns-clause-ok : goal.returns-clause-ok

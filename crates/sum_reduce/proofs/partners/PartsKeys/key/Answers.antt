@@ -1,5 +1,4 @@
-use Rattle.std.proofs.Common.{◌∙◌, sym}
-use Rattle.sum_reduce.proofs.{Shared.{product_kind, forest}, Parts.{product_key}}
+use Rattle.sum_reduce.proofs.{Shared.{◌∙◌, sym, product_kind, forest}, Parts.{product_key}}
 use Rattle.sum_reduce.proofs.partners.PartsKeys.key.Goals as goal
 
 pub returns-in-Mult-clause-valid : goal.returns-in-Mult-clause-valid
