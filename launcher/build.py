@@ -1,6 +1,6 @@
 """Proves and builds the program, with crates side by side, and then runs it.
 
-A crate is begun once the libraries that it stands on are ready; of those that are, the one with the most lines waiting
+A crate is begun once the libraries that it stands on are ready; of those that are, the one with the most work waiting
 for it comes first. The kit's `rattle` proves it and writes its library, with its statements alone, so that no proof is
 read again above. Each library is kept beside the program with a sum of all that it was made of: the next run, after a
 change or an interruption, proves what has changed and what stands on it.
@@ -28,7 +28,9 @@ SOURCES = ("src", "specs", "proofs")
 LANE_BYTES = 3_000_000_000
 # More processes than this share no proof's searches any faster.
 MOST_JOBS = 4
-# A crate is late where the lines that wait for it, shared by nobody, are so many times those of all that is left, shared by all processors.
+# What it takes to load the libraries that a crate stands on, in lines of code that are proved meanwhile.
+LOADING = 130
+# A crate is late where the work that waits for it, shared by nobody, is so many times all that is left, shared by all processors.
 LATE = 1.5
 
 
@@ -48,8 +50,9 @@ class Crate:
     def files(self):
         return sorted(it for part in SOURCES for it in (self.folder / part).rglob("*") if it.is_file())
 
-    def count_lines(self):
-        return sum(it.read_bytes().count(b"\n") for it in self.files())
+    def work(self):
+        """What its proof takes, in lines of code: what is paid for is what the code owes, and lemmas take next to nothing."""
+        return LOADING + sum(it.read_bytes().count(b"\n") for it in (self.folder / "src").rglob("*.rt"))
 
     def sum_over(self, sums):
         """A sum of the crate's files and of all that it stands on."""
@@ -80,12 +83,12 @@ def read_crates(root):
     return crates
 
 
-def lines_waiting(crates):
-    """For each crate the lines of the longest chain that begins with it."""
+def work_waiting(crates):
+    """For each crate the work of the longest chain that begins with it."""
     found = {}
     for name in reversed(crates):
         above = [found[it.name] for it in crates.values() if name in it.below]
-        found[name] = crates[name].count_lines() + max(above, default=0)
+        found[name] = crates[name].work() + max(above, default=0)
     return found
 
 
@@ -132,12 +135,14 @@ class Build:
     def __init__(self, root, kit, program, log):
         self.kit, self.program, self.log = kit, program, log
         self.crates, self.lanes = read_crates(root), count_lanes()
-        waiting = lines_waiting(self.crates)
-        self.left = sorted(self.crates.values(), key=lambda it: -waiting[it.name])
-        self.waiting, self.lines = waiting, {name: it.count_lines() for name, it in self.crates.items()}
+        self.waiting, self.work_of = work_waiting(self.crates), {name: it.work() for name, it in self.crates.items()}
         self.sums, self.ready, self.under_way, self.failed = {}, set(), {}, []
         for it in self.crates.values():
             self.sums[it.name] = hashlib.sha256((kit.version + it.sum_over(self.sums)).encode()).hexdigest()
+            if self.ready.issuperset(it.below) and self.is_kept(it):
+                self.ready.add(it.name)
+        left = [it for it in self.crates.values() if it.name not in self.ready]
+        self.left = sorted(left, key=lambda it: -self.waiting[it.name])
         self.called, self.changed, self.begun = set(), threading.Condition(), time.monotonic()
 
     def call(self, words, folder):
@@ -161,9 +166,7 @@ class Build:
         return kept.is_file() and kept.read_text() == self.sums[crate.name]
 
     def prove(self, crate, jobs):
-        """Proves a crate that is not kept; its status."""
-        if self.is_kept(crate):
-            return 0
+        """Proves a crate; its status."""
         (self.kit.built / f"{crate.name}.sum").unlink(missing_ok=True)
         status = self.kit.build(crate, jobs, self.call)
         if status == -signal.SIGKILL and jobs > 1:
@@ -179,8 +182,8 @@ class Build:
         return [it for it in self.left if self.ready.issuperset(it.below)]
 
     def is_late(self, crate):
-        lines_left = sum(lines for name, lines in self.lines.items() if name not in self.ready)
-        return self.waiting[crate.name] * self.lanes > LATE * lines_left
+        left = sum(work for name, work in self.work_of.items() if name not in self.ready)
+        return self.waiting[crate.name] * self.lanes > LATE * left
 
     def jobs_for(self, found):
         """The processes that the first of these crates gets, none where it has to wait. One that is late gets two, and waits for one
