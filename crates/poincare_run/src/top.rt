@@ -87,8 +87,8 @@ pub fn run<S: Source, K: Sink, B: Breaker>(
         return 5;
     };
     let watch = armed(breakers, options.interrupt);
-    let dialog = Dialog::new(session, watch, notice, options.draw);
-    status_of(answer(alloc, dialog, options.generated, source, sink))
+    let mut dialog = Dialog::new(session, watch, notice, options.draw);
+    status_of(answer(alloc, &mut dialog, options.generated, source, sink))
 }
 
 /// A watch in which the first breaker that can be armed is armed with a number of polls, where there is one.
@@ -106,18 +106,18 @@ fn armed<B: Breaker>(breakers: Vec<B>, polls: Option<u64>) -> Watch<B>
 /// Answers the lines of a generated session, where there is one, and else those of the source.
 fn answer<S: Source, K: Sink, B: Breaker>(
     alloc: Global,
-    dialog: Dialog<B>,
+    dialog: &mut Dialog<B>,
     generated: Option<u32>,
     source: &mut S,
     sink: &mut K,
 ) -> Ending
-    requires fresh { Holds dialog.line [] }
-    ensures ends { EndsFrom result (begun (place_of B.state dialog).now generated) (S.told source.old) (S.told source.new)
+    requires fresh { Holds dialog.old.line [] }
+    ensures ends { EndsFrom result (begun (place_of B.state dialog.old).now generated) (S.told source.old) (S.told source.new)
         (K.taken sink.old) (K.taken sink.new) }
     ensures reads { StopsReading result S.told S.faults source.old source.new }
     ensures writes { StopsWriting result K.taken K.faults sink.old sink.new }
     ensures untouched { IfNoMemory result ((source.new ≡ source.old) × (sink.new ≡ sink.old)) }
-    ensures unread { IfGenerates (Some (begun (place_of B.state dialog).now generated)) (λ start number. source.new ≡ source.old) }
+    ensures unread { IfGenerates (Some (begun (place_of B.state dialog.old).now generated)) (λ start number. source.new ≡ source.old) }
 {
     match generated {
         Some(number) => sum_up(alloc, dialog, number, sink),
@@ -128,12 +128,12 @@ fn answer<S: Source, K: Sink, B: Breaker>(
 /// Answers the lines of the source.
 fn converse<S: Source, K: Sink, B: Breaker>(
     alloc: Global,
-    mut dialog: Dialog<B>,
+    dialog: &mut Dialog<B>,
     source: &mut S,
     sink: &mut K,
 ) -> Ending
-    requires fresh { Holds dialog.line [] }
-    ensures ends { EndsAs result (place_of B.state dialog).now (S.told source.old) (S.told source.new)
+    requires fresh { Holds dialog.old.line [] }
+    ensures ends { EndsAs result (place_of B.state dialog.old).now (S.told source.old) (S.told source.new)
         (K.taken sink.old) (K.taken sink.new) }
     ensures reads { StopsReading result S.told S.faults source.old source.new }
     ensures writes { StopsWriting result K.taken K.faults sink.old sink.new }
@@ -148,12 +148,12 @@ fn converse<S: Source, K: Sink, B: Breaker>(
 /// Answers the lines of a generated session, and writes how they were answered.
 fn sum_up<K: Sink, B: Breaker>(
     alloc: Global,
-    mut dialog: Dialog<B>,
+    dialog: &mut Dialog<B>,
     number: u32,
     sink: &mut K,
 ) -> Ending
-    requires fresh { Holds dialog.line [] }
-    ensures sums { SumsUpAs result (place_of B.state dialog).now number (K.taken sink.old) (K.taken sink.new) }
+    requires fresh { Holds dialog.old.line [] }
+    ensures sums { SumsUpAs result (place_of B.state dialog.old).now number (K.taken sink.old) (K.taken sink.new) }
     ensures writes { StopsWriting result K.taken K.faults sink.old sink.new }
     ensures untouched { IfNoMemory result (sink.new ≡ sink.old) }
     ensures sort { IsSummed result }
