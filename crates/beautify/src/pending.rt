@@ -10,7 +10,7 @@ use calc_terms::Kind;
 use node_pool::Id;
 
 /// How a tree is written.
-#[derive(Clone, Copy, Debug)]
+#[derive(Clone, Copy)]
 pub(crate) enum Form {
     /// As its face.
     Face,
@@ -21,7 +21,7 @@ pub(crate) enum Form {
 }
 
 /// What comes next: one node, or a tree in some form.
-#[derive(Clone, Copy, Debug)]
+#[derive(Clone, Copy)]
 pub(crate) enum Pending {
     /// A node over so many trees that follow it.
     Over { kind: Kind, children: u16 },

@@ -16,7 +16,7 @@ use node_pool::{Id, Pool};
 use tree_handles::{child_ids, kind, rational};
 
 /// Of a sum its terms without their signs; of a product what stands on a side of the line.
-#[derive(Clone, Copy, Debug)]
+#[derive(Clone, Copy)]
 pub(crate) enum Share {
     Terms,
     Above,

@@ -9,7 +9,7 @@ use calc_terms::Name;
 use calc_tokens::is_blank;
 
 /// What stands side by side in a command line.
-#[derive(Clone, Copy, Debug)]
+#[derive(Clone, Copy)]
 enum Class {
     Blank,
     SmallLetter,

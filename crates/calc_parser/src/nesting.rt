@@ -11,7 +11,7 @@ use arrayvec::ArrayVec;
 use calc_terms::Kind;
 
 /// Something that began and has not ended.
-#[derive(Clone, Copy, Debug)]
+#[derive(Clone, Copy)]
 pub(crate) enum Open {
     /// `(`.
     Parentheses,
@@ -38,7 +38,7 @@ pub(crate) enum Open {
 }
 
 /// What a part is that has ended.
-#[derive(Clone, Copy, Debug)]
+#[derive(Clone, Copy)]
 pub(crate) enum Level {
     Power,
     Factor,
@@ -46,7 +46,7 @@ pub(crate) enum Level {
 }
 
 /// Where a part that has ended stands in what was opened last.
-#[derive(Clone, Copy, Debug)]
+#[derive(Clone, Copy)]
 pub(crate) enum Place {
     /// It is one more child beside so many.
     Child(u16),

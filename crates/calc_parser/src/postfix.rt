@@ -11,7 +11,7 @@ use calc_tokens::LINE_LIMIT;
 pub(crate) const STEP_LIMIT: usize = 2 * LINE_LIMIT;
 
 /// One node of a tree in postfix order.
-#[derive(Clone, Copy, Debug)]
+#[derive(Clone, Copy)]
 pub(crate) enum Step {
     /// The token at this place of the list is a leaf.
     Leaf(u16),

@@ -16,7 +16,7 @@ use calc_terms::Kind;
 use calc_tokens::{Token, What};
 
 /// What may come next.
-#[derive(Clone, Copy, Debug)]
+#[derive(Clone, Copy)]
 pub(crate) enum Expects {
     /// An operand, or a minus sign.
     Operand,
@@ -27,7 +27,7 @@ pub(crate) enum Expects {
 }
 
 /// The tokens are no sum.
-#[derive(Clone, Copy, Debug)]
+#[derive(Clone, Copy)]
 pub(crate) struct NoSum;
 
 /// A sum as far as it was read: the nodes that are whole, and what is still open.

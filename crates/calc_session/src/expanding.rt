@@ -10,7 +10,7 @@ use expand_forms::{expand, is_polynomial};
 use tree_handles::Handle;
 
 /// The expanded form.
-#[derive(Clone, Copy, Debug)]
+#[derive(Clone, Copy)]
 pub struct Expansion;
 
 impl Calculation for Expansion {

@@ -102,7 +102,7 @@ pub fn level(kind: Kind) -> u8
 }
 
 /// The children of a node that are still to be written.
-#[derive(Clone, Copy, Debug)]
+#[derive(Clone, Copy)]
 pub(crate) struct Pending {
     /// Where the next of them stands.
     pub(crate) place: Place,

@@ -21,7 +21,7 @@ use deep_reduce::DeepReducer;
 const SESSION_LIMIT: usize = 16_777_215;
 
 /// How a session ended.
-#[derive(Clone, Copy, Debug)]
+#[derive(Clone, Copy)]
 pub enum Ending {
     ReadToEnd,
     ReadFailed,

@@ -17,7 +17,7 @@ use node_pool::{Id, Pool};
 use tree_handles::{Visit, kind, name, rational};
 
 /// The nodes of a layout, the columns of its picture, and the picture's rows above its base row and below.
-#[derive(Clone, Copy, Debug, Default)]
+#[derive(Clone, Copy, Default)]
 pub(crate) struct Extent {
     pub(crate) nodes: u32,
     pub(crate) width: u32,

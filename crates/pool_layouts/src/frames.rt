@@ -8,7 +8,7 @@ use node_pool::Id;
 use tree_handles::Visit;
 
 /// A node of a face whose layout is under way.
-#[derive(Clone, Copy, Debug)]
+#[derive(Clone, Copy)]
 pub(crate) struct Frame {
     /// The node.
     pub(crate) id: Id,

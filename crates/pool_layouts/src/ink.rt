@@ -8,7 +8,7 @@ use line_text::{Text, write_leaf};
 use node_pool::{Id, Pool};
 
 /// What is painted at once.
-#[derive(Clone, Copy, Debug)]
+#[derive(Clone, Copy)]
 pub(crate) enum Ink {
     Nothing,
     /// A node that has no parts.

@@ -10,7 +10,7 @@ use calc_terms::Kind;
 use tree_handles::Visit;
 
 /// What is still to be painted of a row.
-#[derive(Clone, Copy, Debug)]
+#[derive(Clone, Copy)]
 pub(crate) enum Step {
     /// So many blanks.
     Blanks(u32),
@@ -24,7 +24,7 @@ pub(crate) enum Step {
 }
 
 /// The nodes from one place of the list to before another.
-#[derive(Clone, Copy, Debug)]
+#[derive(Clone, Copy)]
 pub(crate) struct Span {
     pub(crate) at: u32,
     pub(crate) end: u32,
@@ -37,7 +37,7 @@ impl Default for Step {
 }
 
 /// What a step paints: blanks, ink, and then what two further steps paint.
-#[derive(Clone, Copy, Debug)]
+#[derive(Clone, Copy)]
 pub(crate) struct Opened {
     pub(crate) blanks: u32,
     pub(crate) ink: Ink,
