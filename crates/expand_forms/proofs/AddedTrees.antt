@@ -1,7 +1,7 @@
 -- New trees behind others, and a node that adopts them.
-use Rattle.expand_forms.proofs.Shared.{◌≡◌, ◌≤◌, ℕ, ◌+◌, true, refl, sym, ap, ◌∙◌, subst, arith, Option, drop, bare, size_of_payload, Tree, Trees, none, more, append, count, is_mult, mult, sizes}
+use Rattle.expand_forms.proofs.Shared.{◌≡◌, ◌≤◌, ℕ, ◌+◌, true, refl, sym, ap, ◌∙◌, subst, arith, Option, drop, bare, Tree, Trees, none, more, append, count, is_mult, mult, sizes}
 use Rattle.expand_forms.proofs.Shared.{Kind, represents_count, AddsTrees, AreFactors, BeginsWith, HasMonomial, factors_in, first_place, Monomial, State, free_of, last_with, lists_with, root_ids}
-use Rattle.expand_forms.proofs.Shared.{IsExpression, children_of, compound, plain, takes_kind, Forest, Label, arity, bytes_in, empty, join, kids, one_tree, tree, with_nth, Ends, Gives, kids_of}
+use Rattle.expand_forms.proofs.Shared.{IsExpression, children_of, compound, plain, takes_kind, Forest, Label, arity, empty, join, kids, one_tree, tree, with_nth, Ends, Gives, kids_of}
 use Rattle.expand_forms.proofs.Shared.{tree_at, adopted, behind_root, has_root, put, root_tree, without_root, KeepsRefusals, Stands, forest, bytes_in-join, join-empty, join_assoc, given_handed}
 use Rattle.expand_forms.proofs.Shared.{given_rest, given_told, gives, gives_as, represents_join, represents_node, represents_none, holds-left, kids_of-join_left, tree_at-join_left, ends_as, ends_at}
 use Rattle.expand_forms.proofs.{Shared.{last_rest, last_root, last_tree, alone, sizes-plains, root-left}, TermReadings.{IsBeside}}

@@ -1,8 +1,8 @@
 -- Expanded trees as answers.
-use Rattle.expand_forms.proofs.Shared.{one_nonzero, ◌≡◌, ◌≤◌, ℕ, List, [], ◌∷◌, ◌++◌, Bool, true, false, refl, sym, ap, ◌∙◌, arith, pos, append-nil, not, if◌then◌else◌, no_one, one_is, zero_is}
-use Rattle.expand_forms.proofs.Shared.{zero_test, product_tree, Rat, ratio_of, value_of, Ratio, whole, Fraction, is_one_fraction, is_zero_fraction, lowest, one_fraction, zero_fraction, Tree, num}
+use Rattle.expand_forms.proofs.Shared.{one_nonzero, ◌≡◌, ◌≤◌, ℕ, List, [], ◌∷◌, ◌++◌, Bool, true, false, refl, sym, ap, ◌∙◌, arith, append-nil, not, if◌then◌else◌, no_one, one_is, zero_is}
+use Rattle.expand_forms.proofs.Shared.{product_tree, Fraction, is_one_fraction, one_fraction, zero_fraction, Tree, num}
 use Rattle.expand_forms.proofs.Shared.{symbol, add, none, more, count, IsNormal, expanded, normal, sum_tree, term_trees, AreMonomials, IsMonomial, Polynomial, coefficient_at, constant, factor}
-use Rattle.expand_forms.proofs.Shared.{summand, variable, polynomial_of, AreSame, IsExpanded, IsSum, IsSumOf, children_of, nth, one_not_zero, AllHave, normal_all, sum_polynomial_is}
+use Rattle.expand_forms.proofs.Shared.{summand, variable, polynomial_of, AreSame, IsExpanded, IsSum, IsSumOf, children_of, nth, AllHave, normal_all, sum_polynomial_is}
 use Rattle.expand_forms.proofs.{Shared.{expanded_polynomial, normal_coefficient, normal_is, one_normal, normal_same, same_sym, same_trans, all_monomials}, Sums.{sum_is}, TermReadings.{sum_children}}
 
 pub expanded_same : {v w : Polynomial} → AreSame v w → expanded v ≡ expanded w

@@ -1,5 +1,5 @@
 -- A node is a polynomial by its root and its children.
-use Rattle.expand_forms.proofs.Shared.{◌≡◌, ◌<◌, ◌≤◌, ℕ, zero, suc, true, false, refl, ap, arith, ◌&&◌, Tree, Trees, none, more, count, nodes, nodes_of, are_polynomials, has_polynomial_root}
+use Rattle.expand_forms.proofs.Shared.{◌≡◌, ◌<◌, ◌≤◌, ℕ, zero, suc, true, false, refl, ap, arith, ◌&&◌, Tree, Trees, none, more, count, nodes, are_polynomials, has_polynomial_root}
 use Rattle.expand_forms.proofs.Shared.{is_polynomial, nth, children_of}
 use Rattle.tree_handles.proofs.{SmallLaws.{nodes_nth as at_most_all}, Plains.{nodes_grown as below}}
 

@@ -1,5 +1,5 @@
 -- Rationals as literals.
-use Rattle.expand_forms.proofs.Shared.{value_by, opposite_by, clash, arith, ◌≡◌, ℤ, Bool, true, false, ap, ◌==◌, ◌↔◌, IsTrue, Some, None, if◌then◌else◌, neg_ℤ, false_from_ne_true, opposite}
+use Rattle.expand_forms.proofs.Shared.{value_by, opposite_by, clash, arith, ◌≡◌, ℤ, Bool, true, false, ◌↔◌, IsTrue, Some, false_from_ne_true, opposite}
 use Rattle.expand_forms.proofs.Shared.{whole_value, Rat, Fraction, negative, ratio_of, value_of, ratio_parts, negative_parts, is_small}
 
 -- a rational that is whole is small where its numerator is

@@ -1,10 +1,10 @@
 -- Powers of sums, which are left to be raised where their parent is expanded.
-use Rattle.expand_forms.proofs.Shared.{◌≡◌, ◌⊎◌, inl, inr, ℕ, zero, suc, ◌+◌, ◌<◌, ◌≤◌, Bool, true, false, Result, Ok, Err, refl, sym, ap, ◌∙◌, subst, arith, ◌==◌, ◌||◌, [], ◌∷◌, if◌then◌else◌, IfErr}
+use Rattle.expand_forms.proofs.Shared.{◌≡◌, ◌⊎◌, inl, inr, ℕ, zero, suc, ◌+◌, ◌<◌, ◌≤◌, Bool, true, false, Result, Ok, Err, refl, sym, ap, ◌∙◌, subst, arith, ◌||◌, [], ◌∷◌, if◌then◌else◌, IfErr}
 use Rattle.expand_forms.proofs.Shared.{AreExpanded, AreExpandedFrom, AreSame, Factor, IsExpanded, IsExpandedFrom, IsOver, Kind, MayLack, Monomial, IfOverflow, MayOverflow, NumberFault, OfFull}
 use Rattle.expand_forms.proofs.Shared.{OfOverflow, Payload, Polynomial, Summand, Tree, Trees, add, and_parts, append, is_add, are_polynomials, bare, child_bits, children_of, compound, count}
 use Rattle.expand_forms.proofs.Shared.{divisor_of, eqb-true, expanded, exponent_of, factor_tree, factor_trees, grown, has_polynomial_root, is_divisor, is_exponent, is_one_fraction, is_polynomial}
 use Rattle.expand_forms.proofs.Shared.{monomial_tree, more, most_bits, most_terms, named, names, node_bytes, nodes, none, normal, nth, num, polynomial_of, power, product_tree, rational, root_kind}
-use Rattle.expand_forms.proofs.Shared.{root_size, size, sizes, sum_tree, symbol, takes, takes_kind, term_tree, term_trees, whole_num, AreReady, AreReadyFrom, IsOverReady, IsLeft, IsReady, IsReadyFrom}
+use Rattle.expand_forms.proofs.Shared.{root_size, size, sizes, sum_tree, takes, takes_kind, term_tree, term_trees, AreReady, AreReadyFrom, IsOverReady, IsLeft, IsReady, IsReadyFrom}
 use Rattle.expand_forms.proofs.{Shared.{has_power_of_sum, is_power_of_sum, answers_count, set_child, set_tree, same_is, same_trans, tree_monomials, root_over}, ChildExpansions.{IsOver as IsOverSame}}
 use Rattle.expand_forms.proofs.{ChildExpansions.{divisor_same, exponent_same, over_payload}, ChildRooms.{narrower, room_above, room_at_node, root_bytes}}
 use Rattle.expand_forms.proofs.{Expansions.{expanded_same, is_expanded, same_polynomial}, NodeBits.{over_kind}, Nodes.{from}}

@@ -1,6 +1,6 @@
 -- Rows of products, one after another.
 use Rattle.calc_terms.proofs.FractionFacts.{zero_test as is_nonzero}
-use Rattle.expand_forms.proofs.Shared.{arith, ◌≡◌, ◌≢◌, ◌≤◌, ℕ, ◌+◌, [], ◌∷◌, ◌++◌, drop, map, false, sym, ap, ◌∙◌, append-nil, product_not_zero, zero_is, Fraction, is_zero_fraction, times}
+use Rattle.expand_forms.proofs.Shared.{◌≡◌, ◌≢◌, ◌≤◌, ℕ, ◌+◌, [], ◌∷◌, ◌++◌, drop, map, false, sym, ap, ◌∙◌, append-nil, product_not_zero, Fraction, is_zero_fraction, times}
 use Rattle.expand_forms.proofs.Shared.{zero_fraction, Tree, count, normal, term_trees, Polynomial, Summand, monomial_times, product, summand, summand_times, polynomial_of, row, with_coefficient}
 use Rattle.expand_forms.proofs.{Shared.{IsTerm, coefficient_in, plain, Forest, tree_at}, JoinLoops.{IsNextPart, IsNextTerm, next_part}, Joins.{IsNextSummand, no_summands}}
 use Rattle.expansions.proofs.{TermPolynomials.{term_polynomial_is, term_coefficient}, SameCoefficients.{product_nil}}

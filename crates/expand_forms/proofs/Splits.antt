@@ -1,5 +1,5 @@
 -- Polynomials in two parts, one of which is joined to a sum: both are held as the whole is.
-use Rattle.expand_forms.proofs.Shared.{◌≡◌, ℕ, zero, suc, ◌+◌, ◌^◌, ◌≤◌, ◌<◌, [], ◌∷◌, pos, Bool, true, false, refl, sym, ap, ◌∙◌, subst, arith, mul-le, pow-add, pow_below, magnitude_over}
+use Rattle.expand_forms.proofs.Shared.{◌≡◌, ℕ, zero, suc, ◌+◌, ◌^◌, ◌≤◌, ◌<◌, [], ◌∷◌, pos, true, refl, sym, ap, ◌∙◌, subst, arith, mul-le, pow-add, pow_below, magnitude_over}
 use Rattle.expand_forms.proofs.Shared.{den_divides, magnitude_lowest, fraction_fits, sum_fits, Fraction, lowest, Tree, Trees, count, term_trees, AreWhole, IsHeld, mass, Polynomial, Summand}
 use Rattle.expand_forms.proofs.{Shared.{polynomial_of, IsSum, coefficient_in, children_of, nth, ◌∣◌, sum_polynomial_is, term_coefficient, multiple_fits, sum_fits_over}, TermReadings.{sum_children}}
 

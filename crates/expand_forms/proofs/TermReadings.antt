@@ -1,5 +1,5 @@
 -- What readers of terms are told.
-use Rattle.expand_forms.proofs.Shared.{◌≡◌, ◌≤◌, ◌<◌, ℕ, ℤ, pos, zero, suc, ◌+◌, length, [], ◌∷◌, ◌++◌, drop, true, false, Result, refl, sym, ap, ◌∙◌, subst, arith, ◌==◌, IfOk, ints, product_tree}
+use Rattle.expand_forms.proofs.Shared.{◌≡◌, ◌≤◌, ◌<◌, ℕ, ℤ, pos, zero, suc, ◌+◌, length, [], ◌∷◌, ◌++◌, drop, true, false, refl, sym, ap, ◌∙◌, subst, arith, ◌==◌, ints, product_tree}
 use Rattle.expand_forms.proofs.Shared.{one_is, whole_denominator, whole_numerator, int_is_one, value_of, Fraction, is_one_fraction, lowest, one_fraction, plus, plus_lowest, Tree, num, symbol, mult}
 use Rattle.expand_forms.proofs.Shared.{power, Trees, more, append, count, is_add, is_mult, is_num, root_kind, factor_tree, factor_trees, term_tree, term_trees, IsFirst, IsNext, Next, Factor}
 use Rattle.expand_forms.proofs.Shared.{IsMonomial, Monomial, summand, IsSum, HasMonomial, IsRead, IsTerm, coefficient_in, factors_in, first_place, led_by, terms_in, holds-left, tree_at-join_left}

@@ -15,13 +15,12 @@ ghost use Rattle.expand_forms.specs.Sums.{with_term};
 ghost use Rattle.expansions.specs.Terms.{HasMonomial};
 ghost use Rattle.node_pool.specs.State.{free_of};
 ghost use Rattle.tree_handles.specs.Lacking.{OfFull};
-ghost use Rattle.tree_handles.specs.Causes.{IsCaused};
 ghost use Rattle.tree_handles.specs.Expressions.{IsExpression, children_of, plain};
-ghost use Rattle.tree_handles.specs.Faults.{Faults};
-ghost use Rattle.tree_handles.specs.Handed.{Gives, KeepsFront, tree_of};
+ghost use Rattle.tree_handles.specs.Handed.{Gives, tree_of};
 ghost use Rattle.tree_handles.specs.Inside.{tree_at};
 ghost use Rattle.tree_handles.specs.Roots.{without_root};
-ghost use Rattle.tree_handles.specs.Standing.{KeepsRefusals, LacksBytes, Refuses, Stands, forest};
+ghost use Rattle.tree_handles.specs.Standing.{Stands, forest};
+ghost use Rattle.expand_forms.specs.Safety.{IsSafe, IsSafePlacing};
 
 use crate::factors::{self, Factors};
 use crate::monomials::{completed, place_merged};
@@ -56,17 +55,13 @@ pub(crate) fn join_product<const N: usize>(
         → OnOk result (Gives others (forest pool.new) sum.now
         (IsSumOf (summand (value_of coefficient) (monomial_times m n) ∷ polynomial_of (tree_of sum.now pool.old)))) }
     ensures lists { OnOk result (Lists list.new sum.now (forest pool.new)) }
-    ensures front { KeepsFront (sum.now ∷ []) (forest pool.old) (forest pool.new) }
-    ensures kept { OnOk result (KeepsRefusals pool.old pool.new) }
-    ensures faults { IfErr result (Faults pool.old pool.new) }
-    ensures caused { IfErr result (IsCaused pool.new) }
     ensures fits { let others = without_root sum.now (forest pool.old) in
         (m n : Monomial) (h l : ℕ) → HasMonomial m (plain (tree_at s others)) → HasMonomial n (plain (tree_at t others))
         → IsHeld (summand (value_of coefficient) (monomial_times m n) ∷ polynomial_of (tree_of sum.now pool.old)) h l → h + l < 127 → IfErr result IsNoOverflow }
     ensures room { let others = without_root sum.now (forest pool.old) in
         (m n : Monomial) → HasMonomial m (plain (tree_at s others)) → HasMonomial n (plain (tree_at t others))
         → IfErr result (OfFull (λ full. free_of pool.old < term_bytes (length (monomial_times m n)))) }
-    ensures stands { Stands pool.new }
+    ensures safe { IsSafe (sum.now ∷ []) pool.old pool.new result }
 {
     let left = Factors::of(pool, s);
     let product = place_merged(pool, &left, s, t)?;
@@ -104,12 +99,8 @@ fn replace<const N: usize>(
         → OnOk result (Gives (without_root sum.now (without_root product (forest pool.old))) (forest pool.new) sum.now
         (λ u. u ≡ add (with_term at (summand (value_of total) m) (children_of (tree_of sum.now pool.old))))) }
     ensures lists { OnOk result (Lists list.new sum.now (forest pool.new)) }
-    ensures front { KeepsFront (sum.now ∷ product ∷ []) (forest pool.old) (forest pool.new) }
-    ensures kept { OnOk result (KeepsRefusals pool.old pool.new) }
-    ensures full { IfErr result (Refuses pool.old pool.new) }
-    ensures caused { IfErr result (LacksBytes pool.new) }
     ensures room { IfErr result (λ full. free_of pool.old < number_bytes) }
-    ensures stands { Stands pool.new }
+    ensures safe { IsSafePlacing (sum.now ∷ product ∷ []) pool.old pool.new result }
 {
     if total.is_zero() {
         release(pool, product);

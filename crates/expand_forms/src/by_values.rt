@@ -5,7 +5,7 @@ ghost use Rattle.calc_terms.specs.declared.kind.Kind.TheVariants as kinds;
 ghost use Rattle.calc_terms.specs.Trees.{is_mult, root_kind};
 ghost use Rattle.expansions.specs.Named.{IsListOf, names_of};
 ghost use Rattle.expand_forms.specs.ByValues.{CanName};
-ghost use Rattle.expansions.specs.Polynomials.{Polynomial, product, raised, scaled};
+ghost use Rattle.expansions.specs.Polynomials.{Polynomial, product, scaled};
 ghost use Rattle.expand_forms.specs.Parts.{has_parts};
 ghost use Rattle.expansions.specs.PolynomialTrees.{has_polynomial_root, polynomial_of};
 ghost use Rattle.expand_forms.specs.PowersOfSums.{AreReady, IsReady, is_power_of_sum};
@@ -60,7 +60,7 @@ fn list_node(pool: &Pool, id: Id, lists: &mut TermLists) -> bool
     }
     match kind(pool, id) {
         Kind::Mult => list_products(pool, id, lists),
-        Kind::Pow => list_power_node(pool, id, lists),
+        Kind::Pow => list_power(pool, id, lists),
         _ => false,
     }
 }
@@ -227,7 +227,7 @@ fn multiply(
 }
 
 /// A power.
-fn list_power_node(pool: &Pool, id: Id, lists: &mut TermLists) -> bool
+fn list_power(pool: &Pool, id: Id, lists: &mut TermLists) -> bool
     requires stands { Stands pool.now }
     requires expression { IsExpression id (forest pool.now) }
     requires polynomial { has_polynomial_root (plain (tree_at id (forest pool.now))) ≡ true }
@@ -238,19 +238,7 @@ fn list_power_node(pool: &Pool, id: Id, lists: &mut TermLists) -> bool
     ensures names { lists.new.names ≡ lists.old.names }
 {
     let exponent = exponent_of(pool, child_id(pool, id, 1));
-    list_power(pool, child_id(pool, id, 0), exponent, lists)
-}
-
-/// A child to a power.
-fn list_power(pool: &Pool, base: Id, exponent: u8, lists: &mut TermLists) -> bool
-    requires stands { Stands pool.now }
-    requires expression { IsExpression base (forest pool.now) }
-    requires ready { IsReady (plain (tree_at base (forest pool.now))) }
-    requires names { CanName (names_of lists.old.names.items) (plain (tree_at base (forest pool.now))) }
-    ensures list { result ≡ true → IsListOf (names_of lists.old.names.items) lists.new.answer.items (raised (polynomial_of (plain (tree_at base (forest pool.now)))) exponent) }
-    ensures names { lists.new.names ≡ lists.old.names }
-{
-    if !list_child(pool, base, lists) {
+    if !list_child(pool, child_id(pool, id, 0), lists) {
         return false;
     }
     if u16::from(exponent) * u16::from(degree(&lists.child)) > GREATEST_EXPONENT {

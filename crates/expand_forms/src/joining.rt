@@ -14,13 +14,12 @@ ghost use Rattle.expansions.specs.Sums.{IsExpanded, IsSum, IsSumOf};
 ghost use Rattle.expansions.specs.Terms.{IsTerm};
 ghost use Rattle.node_pool.specs.State.{free_of};
 ghost use Rattle.tree_handles.specs.Lacking.{OfFull};
-ghost use Rattle.tree_handles.specs.Causes.{IsCaused};
 ghost use Rattle.tree_handles.specs.Expressions.{IsExpression, plain};
-ghost use Rattle.tree_handles.specs.Faults.{Faults};
-ghost use Rattle.tree_handles.specs.Handed.{Gives, KeepsFront, tree_of};
+ghost use Rattle.tree_handles.specs.Handed.{Gives, tree_of};
 ghost use Rattle.tree_handles.specs.Inside.{tree_at};
 ghost use Rattle.tree_handles.specs.Roots.{without_root};
-ghost use Rattle.tree_handles.specs.Standing.{KeepsRefusals, Stands, forest};
+ghost use Rattle.tree_handles.specs.Standing.{Stands, forest};
+ghost use Rattle.expand_forms.specs.Safety.{IsSafe};
 
 use crate::adding::join_product;
 use crate::factors::coefficient;
@@ -50,16 +49,12 @@ pub(crate) fn join_products<const N: usize>(
     ensures ok { let others = without_root sum.now (forest pool.old) in
         OnOk result (Gives others (forest pool.new) sum.now (IsSumOf (product (polynomial_of (plain (tree_at a others))) (polynomial_of (plain (tree_at b others))) ++ polynomial_of (tree_of sum.now pool.old)))) }
     ensures lists { OnOk result (Lists list.new sum.now (forest pool.new)) }
-    ensures front { KeepsFront (sum.now ∷ []) (forest pool.old) (forest pool.new) }
-    ensures kept { OnOk result (KeepsRefusals pool.old pool.new) }
-    ensures faults { IfErr result (Faults pool.old pool.new) }
-    ensures caused { IfErr result (IsCaused pool.new) }
     ensures fits { let others = without_root sum.now (forest pool.old) in
         (h l : ℕ) → IsHeld (product (polynomial_of (plain (tree_at a others))) (polynomial_of (plain (tree_at b others))) ++ polynomial_of (tree_of sum.now pool.old)) h l → h + l < 127 → IfErr result IsNoOverflow }
     ensures room { let others = without_root sum.now (forest pool.old) in
         (ns : List (List ℕ)) (n : ℕ) → HasFewTerms ns n (product (polynomial_of (plain (tree_at a others))) (polynomial_of (plain (tree_at b others))) ++ polynomial_of (tree_of sum.now pool.old))
         → IfErr result (OfFull (λ full. free_of pool.old + size (tree_of sum.now pool.old) < sum_bytes ns n)) }
-    ensures stands { Stands pool.new }
+    ensures safe { IsSafe (sum.now ∷ []) pool.old pool.new result }
 {
     let firsts: ChildList<NONE> = ChildList::of(pool, a);
     for at in 0..term_count(pool, a) {
@@ -90,16 +85,12 @@ pub(crate) fn join_row<const N: usize>(
     ensures ok { let others = without_root sum.now (forest pool.old) in
         OnOk result (Gives others (forest pool.new) sum.now (IsSumOf (row (value_of factor) (plain (tree_at term others)) 0 (plain (tree_at b others)) ++ polynomial_of (tree_of sum.now pool.old)))) }
     ensures lists { OnOk result (Lists list.new sum.now (forest pool.new)) }
-    ensures front { KeepsFront (sum.now ∷ []) (forest pool.old) (forest pool.new) }
-    ensures kept { OnOk result (KeepsRefusals pool.old pool.new) }
-    ensures faults { IfErr result (Faults pool.old pool.new) }
-    ensures caused { IfErr result (IsCaused pool.new) }
     ensures fits { let others = without_root sum.now (forest pool.old) in
         (h l : ℕ) → IsHeld (row (value_of factor) (plain (tree_at term others)) 0 (plain (tree_at b others)) ++ polynomial_of (tree_of sum.now pool.old)) h l → h + l < 127 → IfErr result IsNoOverflow }
     ensures room { let others = without_root sum.now (forest pool.old) in
         (ns : List (List ℕ)) (n : ℕ) → HasFewTerms ns n (row (value_of factor) (plain (tree_at term others)) 0 (plain (tree_at b others)) ++ polynomial_of (tree_of sum.now pool.old))
         → IfErr result (OfFull (λ full. free_of pool.old + size (tree_of sum.now pool.old) < sum_bytes ns n)) }
-    ensures stands { Stands pool.new }
+    ensures safe { IsSafe (sum.now ∷ []) pool.old pool.new result }
 {
     if usize::from(children(pool, b)) <= FEW {
         row_within::<N, FEW>(pool, sum, list, factor, term, b)
@@ -130,16 +121,12 @@ fn row_within<const N: usize, const M: usize>(
     ensures ok { let others = without_root sum.now (forest pool.old) in
         OnOk result (Gives others (forest pool.new) sum.now (IsSumOf (row (value_of factor) (plain (tree_at term others)) 0 (plain (tree_at b others)) ++ polynomial_of (tree_of sum.now pool.old)))) }
     ensures lists { OnOk result (Lists list.new sum.now (forest pool.new)) }
-    ensures front { KeepsFront (sum.now ∷ []) (forest pool.old) (forest pool.new) }
-    ensures kept { OnOk result (KeepsRefusals pool.old pool.new) }
-    ensures faults { IfErr result (Faults pool.old pool.new) }
-    ensures caused { IfErr result (IsCaused pool.new) }
     ensures fits { let others = without_root sum.now (forest pool.old) in
         (h l : ℕ) → IsHeld (row (value_of factor) (plain (tree_at term others)) 0 (plain (tree_at b others)) ++ polynomial_of (tree_of sum.now pool.old)) h l → h + l < 127 → IfErr result IsNoOverflow }
     ensures room { let others = without_root sum.now (forest pool.old) in
         (ns : List (List ℕ)) (n : ℕ) → HasFewTerms ns n (row (value_of factor) (plain (tree_at term others)) 0 (plain (tree_at b others)) ++ polynomial_of (tree_of sum.now pool.old))
         → IfErr result (OfFull (λ full. free_of pool.old + size (tree_of sum.now pool.old) < sum_bytes ns n)) }
-    ensures stands { Stands pool.new }
+    ensures safe { IsSafe (sum.now ∷ []) pool.old pool.new result }
 {
     let seconds: ChildList<M> = ChildList::of(pool, b);
     for at in 0..term_count(pool, b) {

@@ -3,7 +3,7 @@ ghost use Rattle.expansions.specs.ExpansionBits.{HasExponents};
 ghost use Rattle.expand_forms.specs.Walks.{IsNoOverflow};
 ghost use Rattle.std.specs.Cmp.Lexicographic.{slice_cmp};
 ghost use Rattle.std.specs.Ordering.{nat_cmp};
-ghost use Rattle.std.specs.Prelude.{◌≡◌, ◌≤◌, ◌<◌, ◌*◌, [], IfOk, IfErr, OnOk, length, ℕ, ◌^◌, ◌+◌};
+ghost use Rattle.std.specs.Prelude.{◌≡◌, ◌<◌, ◌*◌, [], IfOk, IfErr, length, ℕ, ◌^◌, ◌+◌};
 ghost use Rattle.calc_terms.specs.Leaf.{name_of};
 ghost use Rattle.calc_terms.specs.Rat.{value_of};
 ghost use Rattle.calc_terms.specs.Trees.{num, power, symbol as symbol_tree};
@@ -16,12 +16,12 @@ ghost use Rattle.expand_forms.specs.Terms.{IsRead};
 ghost use Rattle.node_pool.specs.State.{free_of};
 ghost use Rattle.tree_handles.specs.Lacking.{OfFull};
 ghost use Rattle.std.specs.declared.cmp.Ordering.TheVariants.{Equal};
-ghost use Rattle.tree_handles.specs.Causes.{IsCaused, Overflows};
+ghost use Rattle.tree_handles.specs.Causes.{Overflows};
 ghost use Rattle.tree_handles.specs.Expressions.{IsExpression, plain};
-ghost use Rattle.tree_handles.specs.Faults.{Faults};
-ghost use Rattle.tree_handles.specs.Handed.{Gives, KeepsFront};
+ghost use Rattle.tree_handles.specs.Handed.{Gives};
 ghost use Rattle.tree_handles.specs.Inside.{tree_at};
-ghost use Rattle.tree_handles.specs.Standing.{KeepsRefusals, LacksBytes, Refuses, Stands, forest};
+ghost use Rattle.tree_handles.specs.Standing.{Stands, forest};
+ghost use Rattle.expand_forms.specs.Safety.{IsSafe, IsSafePlacing};
 
 use crate::factors::{Factor, Factors};
 use calc_terms::Kind;
@@ -109,12 +109,8 @@ pub(crate) fn place_factor(pool: &mut Pool, factor: Factor) -> Result<Handle, Fu
     requires stands { Stands pool.old }
     requires read { (f : FactorOf) × IsRead factor f }
     ensures ok { (f : FactorOf) → IsRead factor f → IfOk result (λ h. Gives (forest pool.old) (forest pool.new) h (λ t. t ≡ factor_tree f)) }
-    ensures front { KeepsFront [] (forest pool.old) (forest pool.new) }
-    ensures kept { OnOk result (KeepsRefusals pool.old pool.new) }
-    ensures full { IfErr result (Refuses pool.old pool.new) }
-    ensures caused { IfErr result (LacksBytes pool.new) }
     ensures room { IfErr result (λ full. free_of pool.old < factor_bytes) }
-    ensures stands { Stands pool.new }
+    ensures safe { IsSafePlacing [] pool.old pool.new result }
 {
     if factor.exponent.is_one() {
         return symbol(pool, factor.name);
@@ -126,12 +122,8 @@ pub(crate) fn place_factor(pool: &mut Pool, factor: Factor) -> Result<Handle, Fu
 fn place_power(pool: &mut Pool, factor: Factor) -> Result<Handle, Full>
     requires stands { Stands pool.old }
     ensures ok { IfOk result (λ h. Gives (forest pool.old) (forest pool.new) h (λ t. t ≡ power (symbol_tree (name_of factor.name)) (num (value_of factor.exponent)))) }
-    ensures front { KeepsFront [] (forest pool.old) (forest pool.new) }
-    ensures kept { OnOk result (KeepsRefusals pool.old pool.new) }
-    ensures full { IfErr result (Refuses pool.old pool.new) }
-    ensures caused { IfErr result (LacksBytes pool.new) }
     ensures room { IfErr result (λ full. free_of pool.old < factor_bytes) }
-    ensures stands { Stands pool.new }
+    ensures safe { IsSafePlacing [] pool.old pool.new result }
 {
     let power = node(pool, Kind::Pow)?;
     let _base = symbol(pool, factor.name)?;
@@ -154,15 +146,11 @@ pub(crate) fn place_factors(
     requires monomials { (m : Monomial) × (n : Monomial) × HasMonomial m (plain (tree_at s (forest pool.old))) × HasMonomial n (plain (tree_at t (forest pool.old))) }
     ensures ok { (m n : Monomial) → HasMonomial m (plain (tree_at s (forest pool.old))) → HasMonomial n (plain (tree_at t (forest pool.old)))
         → IfOk result (λ many. (many ≡ length (monomial_times m n)) × AddsTrees (factor_trees (monomial_times m n)) (forest pool.old) (forest pool.new)) }
-    ensures front { KeepsFront [] (forest pool.old) (forest pool.new) }
-    ensures kept { OnOk result (KeepsRefusals pool.old pool.new) }
-    ensures faults { IfErr result (Faults pool.old pool.new) }
-    ensures caused { IfErr result (IsCaused pool.new) }
     ensures fits { (m n : Monomial) (k : ℕ) → HasMonomial m (plain (tree_at s (forest pool.old))) → HasMonomial n (plain (tree_at t (forest pool.old)))
         → HasExponents k (monomial_times m n) → k < 2 ^ 127 → IfErr result IsNoOverflow }
     ensures room { (m n : Monomial) → HasMonomial m (plain (tree_at s (forest pool.old))) → HasMonomial n (plain (tree_at t (forest pool.old)))
         → IfErr result (OfFull (λ full. free_of pool.old < factor_bytes * length (monomial_times m n))) }
-    ensures stands { Stands pool.new }
+    ensures safe { IsSafe [] pool.old pool.new result }
 {
     let right = Factors::of(pool, t);
     let mut i = 0u16;

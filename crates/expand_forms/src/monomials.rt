@@ -1,7 +1,7 @@
 //! New terms: the monomials of two terms multiplied, and then a coefficient.
 ghost use Rattle.expansions.specs.ExpansionBits.{HasExponents};
 ghost use Rattle.expand_forms.specs.Walks.{IsNoOverflow};
-ghost use Rattle.std.specs.Prelude.{◌≡◌, ◌<◌, [], ◌∷◌, IfOk, IfErr, OnOk, if◌then◌else◌, length, true, ℕ, ◌^◌};
+ghost use Rattle.std.specs.Prelude.{◌≡◌, ◌<◌, [], ◌∷◌, IfOk, IfErr, if◌then◌else◌, length, true, ℕ, ◌^◌};
 ghost use Rattle.calc_terms.specs.Rat.{value_of};
 ghost use Rattle.calc_terms.specs.Trees.{is_mult, more, mult, num};
 ghost use Rattle.expansions.specs.ExpandedTrees.{factor_trees, term_tree};
@@ -11,13 +11,12 @@ ghost use Rattle.expansions.specs.Polynomials.{Monomial, monomial_times, summand
 ghost use Rattle.expansions.specs.Terms.{HasMonomial, led_by};
 ghost use Rattle.node_pool.specs.State.{free_of};
 ghost use Rattle.tree_handles.specs.Lacking.{OfFull};
-ghost use Rattle.tree_handles.specs.Causes.{IsCaused};
 ghost use Rattle.tree_handles.specs.Expressions.{IsExpression, children_of, plain};
-ghost use Rattle.tree_handles.specs.Faults.{Faults};
-ghost use Rattle.tree_handles.specs.Handed.{Gives, KeepsFront, tree_of};
+ghost use Rattle.tree_handles.specs.Handed.{Gives, tree_of};
 ghost use Rattle.tree_handles.specs.Inside.{tree_at};
 ghost use Rattle.tree_handles.specs.Roots.{without_root};
-ghost use Rattle.tree_handles.specs.Standing.{KeepsRefusals, LacksBytes, Refuses, Stands, forest};
+ghost use Rattle.tree_handles.specs.Standing.{Stands, forest};
+ghost use Rattle.expand_forms.specs.Safety.{IsSafe, IsSafePlacing};
 
 use crate::factors::Factors;
 use crate::merging::place_factors;
@@ -40,15 +39,11 @@ pub(crate) fn place_merged(
     requires monomials { (m : Monomial) × (n : Monomial) × HasMonomial m (plain (tree_at s (forest pool.old))) × HasMonomial n (plain (tree_at t (forest pool.old))) }
     ensures ok { (m n : Monomial) → HasMonomial m (plain (tree_at s (forest pool.old))) → HasMonomial n (plain (tree_at t (forest pool.old)))
         → IfOk result (λ h. Gives (forest pool.old) (forest pool.new) h (λ u. u ≡ mult (factor_trees (monomial_times m n)))) }
-    ensures front { KeepsFront [] (forest pool.old) (forest pool.new) }
-    ensures kept { OnOk result (KeepsRefusals pool.old pool.new) }
-    ensures faults { IfErr result (Faults pool.old pool.new) }
-    ensures caused { IfErr result (IsCaused pool.new) }
     ensures fits { (m n : Monomial) (k : ℕ) → HasMonomial m (plain (tree_at s (forest pool.old))) → HasMonomial n (plain (tree_at t (forest pool.old)))
         → HasExponents k (monomial_times m n) → k < 2 ^ 127 → IfErr result IsNoOverflow }
     ensures room { (m n : Monomial) → HasMonomial m (plain (tree_at s (forest pool.old))) → HasMonomial n (plain (tree_at t (forest pool.old)))
         → IfErr result (OfFull (λ full. free_of pool.old < term_bytes (length (monomial_times m n)))) }
-    ensures stands { Stands pool.new }
+    ensures safe { IsSafe [] pool.old pool.new result }
 {
     let product = node(pool, Kind::Mult)?;
     let factors = place_factors(pool, left, s, t)?;
@@ -62,12 +57,8 @@ pub(crate) fn completed(pool: &mut Pool, product: Handle, coefficient: Rat) -> R
     requires product { Gives (without_root product (forest pool.old)) (forest pool.old) product (λ u. is_mult u ≡ true) }
     ensures ok { (m : Monomial) → tree_of product pool.old ≡ mult (factor_trees m)
         → IfOk result (λ h. Gives (without_root product (forest pool.old)) (forest pool.new) h (λ t. t ≡ term_tree (summand (value_of coefficient) m))) }
-    ensures front { KeepsFront (product ∷ []) (forest pool.old) (forest pool.new) }
-    ensures kept { OnOk result (KeepsRefusals pool.old pool.new) }
-    ensures full { IfErr result (Refuses pool.old pool.new) }
-    ensures caused { IfErr result (LacksBytes pool.new) }
     ensures room { IfErr result (λ full. free_of pool.old < number_bytes) }
-    ensures stands { Stands pool.new }
+    ensures safe { IsSafePlacing (product ∷ []) pool.old pool.new result }
 {
     let led = led_by(pool, product, coefficient)?;
     if children(pool, led.id()) == 1 {
@@ -82,12 +73,8 @@ fn led_by(pool: &mut Pool, product: Handle, coefficient: Rat) -> Result<Handle, 
     requires product { Gives (without_root product (forest pool.old)) (forest pool.old) product (λ u. is_mult u ≡ true) }
     ensures ok { IfOk result (λ h. Gives (without_root product (forest pool.old)) (forest pool.new) h
         (λ t. t ≡ mult (led_by (value_of coefficient) (children_of (tree_of product pool.old))))) }
-    ensures front { KeepsFront (product ∷ []) (forest pool.old) (forest pool.new) }
-    ensures kept { OnOk result (KeepsRefusals pool.old pool.new) }
-    ensures full { IfErr result (Refuses pool.old pool.new) }
-    ensures caused { IfErr result (LacksBytes pool.new) }
     ensures room { IfErr result (λ full. free_of pool.old < number_bytes) }
-    ensures stands { Stands pool.new }
+    ensures safe { IsSafePlacing (product ∷ []) pool.old pool.new result }
 {
     if !is_written(pool, product.id(), coefficient) {
         return Ok(product);

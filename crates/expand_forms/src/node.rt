@@ -16,13 +16,13 @@ ghost use Rattle.expansions.specs.PolynomialTrees.{has_polynomial_root, is_polyn
 ghost use Rattle.expansions.specs.Sums.{AreExpanded, IsSum, IsSumOf};
 ghost use Rattle.node_pool.specs.State.{free_of};
 ghost use Rattle.tree_handles.specs.Lacking.{OfFull};
-ghost use Rattle.tree_handles.specs.Causes.{IsCaused};
 ghost use Rattle.tree_handles.specs.Expressions.{IsExpression, children_of, plain};
-ghost use Rattle.tree_handles.specs.Faults.{Faults, OfOverflow};
-ghost use Rattle.tree_handles.specs.Handed.{Gives, IsHanded, KeepsFront, tree_of};
+ghost use Rattle.tree_handles.specs.Faults.{OfOverflow};
+ghost use Rattle.tree_handles.specs.Handed.{Gives, IsHanded, tree_of};
 ghost use Rattle.tree_handles.specs.Inside.{tree_at};
 ghost use Rattle.tree_handles.specs.Roots.{without_root};
-ghost use Rattle.tree_handles.specs.Standing.{KeepsRefusals, LacksBytes, Refuses, Stands, forest};
+ghost use Rattle.tree_handles.specs.Standing.{Stands, forest};
+ghost use Rattle.expand_forms.specs.Safety.{IsSafe, IsSafePlacing};
 
 use crate::by_values::expand_values;
 use crate::joining::join_row;
@@ -47,14 +47,10 @@ pub(crate) fn expand_node(
     requires polynomial { has_polynomial_root (tree_of tree pool.old) ≡ true }
     requires children { AreExpanded (children_of (tree_of tree pool.old)) }
     ensures ok { IfOk result (λ h. Gives (without_root tree (forest pool.old)) (forest pool.new) h (λ t. t ≡ expanded (polynomial_of (tree_of tree pool.old)))) }
-    ensures front { KeepsFront (tree ∷ []) (forest pool.old) (forest pool.new) }
-    ensures kept { OnOk result (KeepsRefusals pool.old pool.new) }
-    ensures faults { IfErr result (Faults pool.old pool.new) }
-    ensures caused { IfErr result (IsCaused pool.new) }
     ensures fits { (whole : Tree) → IsOver whole (tree_of tree pool.old) → is_polynomial whole ≡ true → IfErr result (OfOverflow (λ o. 124 < bits_of whole)) }
     ensures room { (whole : Tree) (n : ℕ) → HasNoNewName whole (tree_of tree pool.old) → length (polynomial_of (tree_of tree pool.old)) ≤ n
         → IfErr result (OfFull (λ full. free_of pool.old < node_bytes (names whole) n)) }
-    ensures stands { Stands pool.new }
+    ensures safe { IsSafe (tree ∷ []) pool.old pool.new result }
 {
     if expand_values(pool, tree.id(), lists) {
         return Ok(place_listed(pool, tree, lists)?);
@@ -74,13 +70,9 @@ pub(crate) fn place_listed(
     requires few { length lists.old.answer.items < 2 ^ 16 }
     ensures ok { (v : Polynomial) → IsListOf (names_of lists.old.names.items) lists.old.answer.items v
         → IfOk result (λ h. Gives (without_root tree (forest pool.old)) (forest pool.new) h (λ t. t ≡ expanded v)) }
-    ensures front { KeepsFront (tree ∷ []) (forest pool.old) (forest pool.new) }
-    ensures kept { OnOk result (KeepsRefusals pool.old pool.new) }
-    ensures full { IfErr result (Refuses pool.old pool.new) }
-    ensures caused { IfErr result (LacksBytes pool.new) }
     ensures room { (v : Polynomial) (ns : List (List ℕ)) (n : ℕ) → IsListOf (names_of lists.old.names.items) lists.old.answer.items v → HasFewTerms ns n v
         → IfErr result (λ full. free_of pool.old < node_bytes ns n) }
-    ensures stands { Stands pool.new }
+    ensures safe { IsSafePlacing (tree ∷ []) pool.old pool.new result }
 {
     let answer = place_terms(pool, &lists.names, &mut lists.answer)?;
     release(pool, tree);
@@ -95,14 +87,10 @@ pub(crate) fn expand_by_trees(pool: &mut Pool, tree: Handle) -> Result<Handle, N
     requires polynomial { has_polynomial_root (tree_of tree pool.old) ≡ true }
     requires children { AreExpanded (children_of (tree_of tree pool.old)) }
     ensures ok { IfOk result (λ h. Gives (without_root tree (forest pool.old)) (forest pool.new) h (λ t. t ≡ expanded (polynomial_of (tree_of tree pool.old)))) }
-    ensures front { KeepsFront (tree ∷ []) (forest pool.old) (forest pool.new) }
-    ensures kept { OnOk result (KeepsRefusals pool.old pool.new) }
-    ensures faults { IfErr result (Faults pool.old pool.new) }
-    ensures caused { IfErr result (IsCaused pool.new) }
     ensures fits { (whole : Tree) → IsOver whole (tree_of tree pool.old) → is_polynomial whole ≡ true → IfErr result (OfOverflow (λ o. 124 < bits_of whole)) }
     ensures room { (whole : Tree) (n : ℕ) → HasNoNewName whole (tree_of tree pool.old) → length (polynomial_of (tree_of tree pool.old)) ≤ n
         → IfErr result (OfFull (λ full. free_of pool.old < node_bytes (names whole) n)) }
-    ensures stands { Stands pool.new }
+    ensures safe { IsSafe (tree ∷ []) pool.old pool.new result }
 {
     let answer = place_expansion(pool, tree.id())?;
     release(pool, tree);
@@ -116,14 +104,10 @@ fn place_expansion(pool: &mut Pool, id: Id) -> Result<Handle, NumberFault>
     requires polynomial { has_polynomial_root (plain (tree_at id (forest pool.old))) ≡ true }
     requires children { AreExpanded (children_of (plain (tree_at id (forest pool.old)))) }
     ensures ok { let old = forest pool.old in IfOk result (λ h. Gives old (forest pool.new) h (λ t. t ≡ expanded (polynomial_of (plain (tree_at id old))))) }
-    ensures front { KeepsFront [] (forest pool.old) (forest pool.new) }
-    ensures kept { OnOk result (KeepsRefusals pool.old pool.new) }
-    ensures faults { IfErr result (Faults pool.old pool.new) }
-    ensures caused { IfErr result (IsCaused pool.new) }
     ensures fits { (whole : Tree) → IsOver whole (plain (tree_at id (forest pool.old))) → is_polynomial whole ≡ true → IfErr result (OfOverflow (λ o. 124 < bits_of whole)) }
     ensures room { let t = plain (tree_at id (forest pool.old)) in
         (whole : Tree) (n : ℕ) → HasNoNewName whole t → length (polynomial_of t) ≤ n → IfErr result (OfFull (λ full. free_of pool.old < node_bytes (names whole) n)) }
-    ensures stands { Stands pool.new }
+    ensures safe { IsSafe [] pool.old pool.new result }
 {
     if has_factors(pool, id) {
         return place_products(pool, id);
@@ -143,14 +127,10 @@ fn place_sum(pool: &mut Pool, id: Id) -> Result<Handle, NumberFault>
     requires parts { has_parts (plain (tree_at id (forest pool.old))) ≡ true }
     requires children { AreExpanded (children_of (plain (tree_at id (forest pool.old)))) }
     ensures ok { let old = forest pool.old in IfOk result (λ h. Gives old (forest pool.new) h (λ t. t ≡ expanded (polynomial_of (plain (tree_at id old))))) }
-    ensures front { KeepsFront [] (forest pool.old) (forest pool.new) }
-    ensures kept { OnOk result (KeepsRefusals pool.old pool.new) }
-    ensures faults { IfErr result (Faults pool.old pool.new) }
-    ensures caused { IfErr result (IsCaused pool.new) }
     ensures fits { (h l : ℕ) → IsHeld (polynomial_of (plain (tree_at id (forest pool.old)))) h l → h + l < 127 → IfErr result IsNoOverflow }
     ensures room { (ns : List (List ℕ)) (n : ℕ) → HasFewTerms ns n (polynomial_of (plain (tree_at id (forest pool.old))))
         → IfErr result (OfFull (λ full. free_of pool.old < node_bytes ns n)) }
-    ensures stands { Stands pool.new }
+    ensures safe { IsSafe [] pool.old pool.new result }
 {
     let one = number(pool, Rat::whole(1))?;
     let sum = node(pool, Kind::Add)?;
@@ -181,16 +161,12 @@ fn join_parts(
     ensures ok { let others = without_root sum.now (forest pool.old) in
         OnOk result (Gives others (forest pool.new) sum.now (IsSumOf (total (parts_of (plain (tree_at id others))) ++ polynomial_of (tree_of sum.now pool.old)))) }
     ensures lists { OnOk result (Lists list.new sum.now (forest pool.new)) }
-    ensures front { KeepsFront (sum.now ∷ []) (forest pool.old) (forest pool.new) }
-    ensures kept { OnOk result (KeepsRefusals pool.old pool.new) }
-    ensures faults { IfErr result (Faults pool.old pool.new) }
-    ensures caused { IfErr result (IsCaused pool.new) }
     ensures fits { let others = without_root sum.now (forest pool.old) in
         (h l : ℕ) → IsHeld (total (parts_of (plain (tree_at id others))) ++ polynomial_of (tree_of sum.now pool.old)) h l → h + l < 127 → IfErr result IsNoOverflow }
     ensures room { let others = without_root sum.now (forest pool.old) in
         (ns : List (List ℕ)) (k n : ℕ) → HasFewTerms ns k (polynomial_of (tree_of sum.now pool.old)) → HasFewTerms ns n (total (parts_of (plain (tree_at id others))))
         → IfErr result (OfFull (λ full. free_of pool.old + size (tree_of sum.now pool.old) < sum_bytes ns (k + n))) }
-    ensures stands { Stands pool.new }
+    ensures safe { IsSafe (sum.now ∷ []) pool.old pool.new result }
 {
     for at in 0..part_count(pool, id) {
         let part = part_at(pool, id, at);
@@ -207,14 +183,10 @@ fn place_products(pool: &mut Pool, id: Id) -> Result<Handle, NumberFault>
     requires factors { has_factors (plain (tree_at id (forest pool.old))) ≡ true }
     requires children { AreExpanded (children_of (plain (tree_at id (forest pool.old)))) }
     ensures ok { let old = forest pool.old in IfOk result (λ h. Gives old (forest pool.new) h (λ t. t ≡ expanded (polynomial_of (plain (tree_at id old))))) }
-    ensures front { KeepsFront [] (forest pool.old) (forest pool.new) }
-    ensures kept { OnOk result (KeepsRefusals pool.old pool.new) }
-    ensures faults { IfErr result (Faults pool.old pool.new) }
-    ensures caused { IfErr result (IsCaused pool.new) }
     ensures fits { (h l : ℕ) → AreHeldTogether (multiplied (plain (tree_at id (forest pool.old)))) h l → h + l < 127 → IfErr result IsNoOverflow }
     ensures room { let t = plain (tree_at id (forest pool.old)) in
         (whole : Tree) (n : ℕ) → HasNoNewName whole t → length (polynomial_of t) ≤ n → IfErr result (OfFull (λ full. free_of pool.old < node_bytes (names whole) n)) }
-    ensures stands { Stands pool.new }
+    ensures safe { IsSafe [] pool.old pool.new result }
 {
     let mut product = number(pool, Rat::whole(1))?;
     let mut left = factor_number(pool, id);

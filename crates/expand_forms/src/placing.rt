@@ -10,8 +10,9 @@ ghost use Rattle.expansions.specs.Polynomials.{AreMonomials, Polynomial, summand
 ghost use Rattle.node_pool.specs.State.{free_of};
 ghost use Rattle.polynomials.specs.Packed.{monomial_of};
 ghost use Rattle.polynomials.specs.Terms.{polynomial_of};
-ghost use Rattle.tree_handles.specs.Handed.{Gives, KeepsFront};
-ghost use Rattle.tree_handles.specs.Standing.{KeepsRefusals, LacksBytes, Refuses, Stands, forest};
+ghost use Rattle.tree_handles.specs.Handed.{Gives};
+ghost use Rattle.tree_handles.specs.Standing.{Stands, forest};
+ghost use Rattle.expand_forms.specs.Safety.{IsSafePlacing};
 
 use crate::factors::{Factor, FactorList};
 use crate::packed_order::{exponents_of, know_monomials, sort_terms};
@@ -32,13 +33,9 @@ pub(crate) fn place_terms(
     requires few { length terms.old < 2 ^ 16 }
     ensures ok { (v : Polynomial) → IsListOf (names_of names.now) terms.old v
         → IfOk result (λ h. Gives (forest pool.old) (forest pool.new) h (λ t. t ≡ expanded v)) }
-    ensures front { KeepsFront [] (forest pool.old) (forest pool.new) }
-    ensures kept { OnOk result (KeepsRefusals pool.old pool.new) }
-    ensures full { IfErr result (Refuses pool.old pool.new) }
-    ensures caused { IfErr result (LacksBytes pool.new) }
     ensures room { (v : Polynomial) (ns : List (List ℕ)) (n : ℕ) → IsListOf (names_of names.now) terms.old v → HasFewTerms ns n v
         → IfErr result (λ full. free_of pool.old < number_bytes + sum_bytes ns n) }
-    ensures stands { Stands pool.new }
+    ensures safe { IsSafePlacing [] pool.old pool.new result }
 {
     know_monomials(terms);
     sort_terms(terms);
@@ -51,13 +48,9 @@ fn place_sum(pool: &mut Pool, names: &[Name], terms: &[Term]) -> Result<Handle, 
     requires names { length names.now ≤ 8 }
     requires few { length terms.now < 2 ^ 16 }
     ensures ok { IfOk result (λ h. Gives (forest pool.old) (forest pool.new) h (λ t. t ≡ sum_tree (term_trees (named_polynomial (names_of names.now) (polynomial_of terms.now))))) }
-    ensures front { KeepsFront [] (forest pool.old) (forest pool.new) }
-    ensures kept { OnOk result (KeepsRefusals pool.old pool.new) }
-    ensures full { IfErr result (Refuses pool.old pool.new) }
-    ensures caused { IfErr result (LacksBytes pool.new) }
     ensures room { let v = named_polynomial (names_of names.now) (polynomial_of terms.now) in
         (ns : List (List ℕ)) → AreMonomials v → AreNamed ns v → IfErr result (λ full. free_of pool.old < number_bytes + sum_bytes ns (length terms.now)) }
-    ensures stands { Stands pool.new }
+    ensures safe { IsSafePlacing [] pool.old pool.new result }
 {
     if terms.is_empty() {
         return number(pool, Rat::whole(0));
@@ -84,13 +77,9 @@ fn place_all(
     requires few { length terms.now < 2 ^ 16 }
     ensures count { IfOk result (λ many. many ≡ length terms.now) }
     ensures ok { OnOk result (AddsTrees (term_trees (named_polynomial (names_of names.now) (polynomial_of terms.now))) (forest pool.old) (forest pool.new)) }
-    ensures front { KeepsFront [] (forest pool.old) (forest pool.new) }
-    ensures kept { OnOk result (KeepsRefusals pool.old pool.new) }
-    ensures full { IfErr result (Refuses pool.old pool.new) }
-    ensures caused { IfErr result (LacksBytes pool.new) }
     ensures room { let v = named_polynomial (names_of names.now) (polynomial_of terms.now) in
         (ns : List (List ℕ)) → AreMonomials v → AreNamed ns v → IfErr result (λ full. free_of pool.old < terms_bytes ns (length terms.now)) }
-    ensures stands { Stands pool.new }
+    ensures safe { IsSafePlacing [] pool.old pool.new result }
 {
     let mut placed = 0u16;
     for term in terms {
@@ -111,12 +100,8 @@ fn place_packed(
     requires names { length names.now ≤ 8 }
     ensures ok { let m = named (names_of names.now) (monomial_of term.monomial) in
         IfOk result (λ h. Gives (forest pool.old) (forest pool.new) h (λ t. t ≡ term_tree (summand (value_of term.coefficient) m))) }
-    ensures front { KeepsFront [] (forest pool.old) (forest pool.new) }
-    ensures kept { OnOk result (KeepsRefusals pool.old pool.new) }
-    ensures full { IfErr result (Refuses pool.old pool.new) }
-    ensures caused { IfErr result (LacksBytes pool.new) }
     ensures room { IfErr result (λ full. free_of pool.old < term_bytes (length (named (names_of names.now) (monomial_of term.monomial)))) }
-    ensures stands { Stands pool.new }
+    ensures safe { IsSafePlacing [] pool.old pool.new result }
 {
     list_packed(names, term.monomial, factors);
     place_term(pool, term.coefficient, factors.as_slice())

@@ -9,14 +9,14 @@ ghost use Rattle.expand_forms.specs.Walks.{IsOver, IsPolynomial, MayLack};
 ghost use Rattle.node_pool.specs.State.{free_of};
 ghost use Rattle.reduce_walk.specs.Answers.{IsOverSome};
 ghost use Rattle.tree_handles.specs.Lacking.{OfFull};
-ghost use Rattle.tree_handles.specs.Causes.{IsCaused};
 ghost use Rattle.tree_handles.specs.Expressions.{IsExpression, children_of, nth, plain};
-ghost use Rattle.tree_handles.specs.Faults.{Faults, OfOverflow};
-ghost use Rattle.tree_handles.specs.Handed.{Ends, Gives, IsHanded, KeepsFront, tree_of};
+ghost use Rattle.tree_handles.specs.Faults.{OfOverflow};
+ghost use Rattle.tree_handles.specs.Handed.{Ends, Gives, IsHanded, tree_of};
 ghost use Rattle.tree_handles.specs.Holes.{ChangesTree, set_child};
 ghost use Rattle.tree_handles.specs.Inside.{tree_at};
 ghost use Rattle.tree_handles.specs.Roots.{root_tree, without_root};
-ghost use Rattle.tree_handles.specs.Standing.{KeepsRefusals, Stands, forest};
+ghost use Rattle.tree_handles.specs.Standing.{Stands, forest};
+ghost use Rattle.expand_forms.specs.Safety.{IsSafe};
 
 use crate::node::expand_node;
 use crate::parts::exponent_of;
@@ -93,14 +93,10 @@ pub(crate) fn raise_powers(
     requires over { IsOverSome IsPolynomial IsReadyFrom (tree_of tree pool.old) }
     ensures ok { (whole : Tree) → is_polynomial whole ≡ true → IsOverReady whole (tree_of tree pool.old)
         → IfOk result (λ h. Gives (without_root tree (forest pool.old)) (forest pool.new) h (λ t. IsOver whole t)) }
-    ensures front { KeepsFront (tree ∷ []) (forest pool.old) (forest pool.new) }
-    ensures kept { OnOk result (KeepsRefusals pool.old pool.new) }
-    ensures faults { IfErr result (Faults pool.old pool.new) }
-    ensures caused { IfErr result (IsCaused pool.new) }
     ensures fits { (whole : Tree) → is_polynomial whole ≡ true → IsOverReady whole (tree_of tree pool.old) → IfErr result (OfOverflow (λ o. 124 < most_bits whole)) }
     ensures room { (whole : Tree) → is_polynomial whole ≡ true → IsOverReady whole (tree_of tree pool.old)
         → IfErr result (OfFull (λ full. MayLack whole (free_of pool.old + size (tree_of tree pool.old)))) }
-    ensures stands { Stands pool.new }
+    ensures safe { IsSafe (tree ∷ []) pool.old pool.new result }
 {
     let mut left = children(pool, tree.id());
     while left > 0 {
@@ -128,14 +124,10 @@ fn raise_power(
     requires over { IsOverSome IsPolynomial IsReadyFrom (tree_of tree.now pool.old) }
     ensures ok { let t = tree_of tree.now pool.old in
         OnOk result (ChangesTree tree.now (set_child at (expanded (polynomial_of (nth at (children_of t)))) t) (forest pool.old) (forest pool.new)) }
-    ensures front { KeepsFront (tree.now ∷ []) (forest pool.old) (forest pool.new) }
-    ensures kept { OnOk result (KeepsRefusals pool.old pool.new) }
-    ensures faults { IfErr result (Faults pool.old pool.new) }
-    ensures caused { IfErr result (IsCaused pool.new) }
     ensures fits { (whole : Tree) → is_polynomial whole ≡ true → IsOverReady whole (tree_of tree.now pool.old) → IfErr result (OfOverflow (λ o. 124 < most_bits whole)) }
     ensures room { (whole : Tree) → is_polynomial whole ≡ true → IsOverReady whole (tree_of tree.now pool.old)
         → IfErr result (OfFull (λ full. MayLack whole (free_of pool.old + size (tree_of tree.now pool.old)))) }
-    ensures stands { Stands pool.new }
+    ensures safe { IsSafe (tree.now ∷ []) pool.old pool.new result }
 {
     let (hole, power) = open_child(pool, tree, at);
     let sum = expand_node(pool, power, lists)?;
@@ -155,14 +147,10 @@ pub(crate) fn raise_answer(
     requires ready { (whole : Tree) × (is_polynomial whole ≡ true) × IsReadyFrom whole (tree_of answer pool.old) }
     ensures ok { (whole : Tree) → is_polynomial whole ≡ true → IsReadyFrom whole (tree_of answer pool.old)
         → IfOk result (λ h. Gives (without_root answer (forest pool.old)) (forest pool.new) h (λ t. t ≡ expanded (polynomial_of whole))) }
-    ensures front { KeepsFront (answer ∷ []) (forest pool.old) (forest pool.new) }
-    ensures kept { OnOk result (KeepsRefusals pool.old pool.new) }
-    ensures faults { IfErr result (Faults pool.old pool.new) }
-    ensures caused { IfErr result (IsCaused pool.new) }
     ensures fits { (whole : Tree) → is_polynomial whole ≡ true → IsReadyFrom whole (tree_of answer pool.old) → IfErr result (OfOverflow (λ o. 124 < most_bits whole)) }
     ensures room { (whole : Tree) → is_polynomial whole ≡ true → IsReadyFrom whole (tree_of answer pool.old)
         → IfErr result (OfFull (λ full. MayLack whole (free_of pool.old + size (tree_of answer pool.old)))) }
-    ensures stands { Stands pool.new }
+    ensures safe { IsSafe (answer ∷ []) pool.old pool.new result }
 {
     if is_power_of_sum(pool, answer.id()) {
         return expand_node(pool, answer, lists);

@@ -1,7 +1,7 @@
 //! Expanded trees multiplied.
 ghost use Rattle.expansions.specs.ExpansionBits.{IsHeld};
 ghost use Rattle.expand_forms.specs.Walks.{IsNoOverflow};
-ghost use Rattle.std.specs.Prelude.{ℕ, List, ◌≡◌, ◌<◌, ◌*◌, ◌+◌, ◌^◌, [], ◌∷◌, IfOk, IfErr, OnOk};
+ghost use Rattle.std.specs.Prelude.{ℕ, List, ◌≡◌, ◌<◌, ◌*◌, ◌+◌, ◌^◌, [], ◌∷◌, IfOk, IfErr};
 ghost use Rattle.calc_terms.specs.Trees.{size};
 ghost use Rattle.expansions.specs.ExpandedTrees.{expanded};
 ghost use Rattle.expansions.specs.ExpansionRoom.{HasFewTerms, number_bytes, sum_bytes};
@@ -10,13 +10,12 @@ ghost use Rattle.expansions.specs.PolynomialTrees.{polynomial_of};
 ghost use Rattle.expansions.specs.Sums.{IsExpanded, IsSum};
 ghost use Rattle.node_pool.specs.State.{free_of};
 ghost use Rattle.tree_handles.specs.Lacking.{OfFull};
-ghost use Rattle.tree_handles.specs.Causes.{IsCaused};
 ghost use Rattle.tree_handles.specs.Expressions.{IsExpression, plain};
-ghost use Rattle.tree_handles.specs.Faults.{Faults};
-ghost use Rattle.tree_handles.specs.Handed.{Gives, IsHanded, KeepsFront, tree_of};
+ghost use Rattle.tree_handles.specs.Handed.{Gives, IsHanded, tree_of};
 ghost use Rattle.tree_handles.specs.Inside.{tree_at};
 ghost use Rattle.tree_handles.specs.Roots.{without_root};
-ghost use Rattle.tree_handles.specs.Standing.{KeepsRefusals, LacksBytes, Refuses, Stands, forest};
+ghost use Rattle.tree_handles.specs.Standing.{Stands, forest};
+ghost use Rattle.expand_forms.specs.Safety.{IsSafe, IsSafePlacing};
 
 use crate::joining::join_products;
 use crate::terms::term_count;
@@ -30,12 +29,8 @@ pub(crate) fn finished(pool: &mut Pool, sum: Handle) -> Result<Handle, Full>
     requires stands { Stands pool.old }
     requires sum { Gives (without_root sum (forest pool.old)) (forest pool.old) sum IsSum }
     ensures ok { IfOk result (λ h. Gives (without_root sum (forest pool.old)) (forest pool.new) h (λ t. t ≡ expanded (polynomial_of (tree_of sum pool.old)))) }
-    ensures front { KeepsFront (sum ∷ []) (forest pool.old) (forest pool.new) }
-    ensures kept { OnOk result (KeepsRefusals pool.old pool.new) }
-    ensures full { IfErr result (Refuses pool.old pool.new) }
-    ensures caused { IfErr result (LacksBytes pool.new) }
     ensures room { IfErr result (λ full. free_of pool.old + size (tree_of sum pool.old) < number_bytes) }
-    ensures stands { Stands pool.new }
+    ensures safe { IsSafePlacing (sum ∷ []) pool.old pool.new result }
 {
     let terms = children(pool, sum.id());
     if terms == 0 {
@@ -59,16 +54,12 @@ fn place_product(pool: &mut Pool, a: Id, b: Id) -> Result<Handle, NumberFault>
     requires second_expanded { IsExpanded (plain (tree_at b (forest pool.old))) }
     ensures ok { let old = forest pool.old in
         IfOk result (λ h. Gives old (forest pool.new) h (λ t. t ≡ expanded (product (polynomial_of (plain (tree_at a old))) (polynomial_of (plain (tree_at b old)))))) }
-    ensures front { KeepsFront [] (forest pool.old) (forest pool.new) }
-    ensures kept { OnOk result (KeepsRefusals pool.old pool.new) }
-    ensures faults { IfErr result (Faults pool.old pool.new) }
-    ensures caused { IfErr result (IsCaused pool.new) }
     ensures fits { let old = forest pool.old in
         (h l : ℕ) → IsHeld (product (polynomial_of (plain (tree_at a old))) (polynomial_of (plain (tree_at b old)))) h l → h + l < 127 → IfErr result IsNoOverflow }
     ensures room { let old = forest pool.old in
         (ns : List (List ℕ)) (m n : ℕ) → HasFewTerms ns m (polynomial_of (plain (tree_at a old))) → HasFewTerms ns n (polynomial_of (plain (tree_at b old)))
         → IfErr result (OfFull (λ full. free_of pool.old < sum_bytes ns (m * n))) }
-    ensures stands { Stands pool.new }
+    ensures safe { IsSafe [] pool.old pool.new result }
 {
     let terms = term_count(pool, a).saturating_mul(term_count(pool, b));
     if usize::from(terms) <= FEW {
@@ -89,16 +80,12 @@ fn product_within<const N: usize>(pool: &mut Pool, a: Id, b: Id) -> Result<Handl
     requires second_expanded { IsExpanded (plain (tree_at b (forest pool.old))) }
     ensures ok { let old = forest pool.old in
         IfOk result (λ h. Gives old (forest pool.new) h (λ t. t ≡ expanded (product (polynomial_of (plain (tree_at a old))) (polynomial_of (plain (tree_at b old)))))) }
-    ensures front { KeepsFront [] (forest pool.old) (forest pool.new) }
-    ensures kept { OnOk result (KeepsRefusals pool.old pool.new) }
-    ensures faults { IfErr result (Faults pool.old pool.new) }
-    ensures caused { IfErr result (IsCaused pool.new) }
     ensures fits { let old = forest pool.old in
         (h l : ℕ) → IsHeld (product (polynomial_of (plain (tree_at a old))) (polynomial_of (plain (tree_at b old)))) h l → h + l < 127 → IfErr result IsNoOverflow }
     ensures room { let old = forest pool.old in
         (ns : List (List ℕ)) (m n : ℕ) → HasFewTerms ns m (polynomial_of (plain (tree_at a old))) → HasFewTerms ns n (polynomial_of (plain (tree_at b old)))
         → IfErr result (OfFull (λ full. free_of pool.old < sum_bytes ns (m * n))) }
-    ensures stands { Stands pool.new }
+    ensures safe { IsSafe [] pool.old pool.new result }
 {
     let sum = node(pool, Kind::Add)?;
     let mut list: ChildList<N> = ChildList::new();
@@ -115,16 +102,12 @@ pub(crate) fn times(pool: &mut Pool, a: Id, b: Handle) -> Result<Handle, NumberF
     requires last { Gives (without_root b (forest pool.old)) (forest pool.old) b IsExpanded }
     ensures ok { let others = without_root b (forest pool.old) in
         IfOk result (λ h. Gives others (forest pool.new) h (λ t. t ≡ expanded (product (polynomial_of (plain (tree_at a others))) (polynomial_of (tree_of b pool.old))))) }
-    ensures front { KeepsFront (b ∷ []) (forest pool.old) (forest pool.new) }
-    ensures kept { OnOk result (KeepsRefusals pool.old pool.new) }
-    ensures faults { IfErr result (Faults pool.old pool.new) }
-    ensures caused { IfErr result (IsCaused pool.new) }
     ensures fits { let others = without_root b (forest pool.old) in
         (h l : ℕ) → IsHeld (product (polynomial_of (plain (tree_at a others))) (polynomial_of (tree_of b pool.old))) h l → h + l < 127 → IfErr result IsNoOverflow }
     ensures room { let others = without_root b (forest pool.old) in
         (ns : List (List ℕ)) (m n : ℕ) → HasFewTerms ns m (polynomial_of (plain (tree_at a others))) → HasFewTerms ns n (polynomial_of (tree_of b pool.old))
         → IfErr result (OfFull (λ full. free_of pool.old < sum_bytes ns (m * n))) }
-    ensures stands { Stands pool.new }
+    ensures safe { IsSafe (b ∷ []) pool.old pool.new result }
 {
     let product = place_product(pool, a, b.id())?;
     release(pool, b);

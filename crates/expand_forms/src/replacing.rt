@@ -1,5 +1,5 @@
 //! New terms from listed factors.
-ghost use Rattle.std.specs.Prelude.{◌≡◌, ◌<◌, ◌≤◌, ◌*◌, ◌^◌, [], IfOk, IfErr, OnOk, length};
+ghost use Rattle.std.specs.Prelude.{◌≡◌, ◌<◌, ◌≤◌, ◌*◌, ◌^◌, [], IfOk, IfErr, length};
 ghost use Rattle.calc_terms.specs.Rat.{value_of};
 ghost use Rattle.calc_terms.specs.Trees.{mult};
 ghost use Rattle.expansions.specs.ExpandedTrees.{factor_trees, term_tree};
@@ -9,8 +9,9 @@ ghost use Rattle.expand_forms.specs.Merging.{AddsTrees};
 ghost use Rattle.expansions.specs.Polynomials.{Monomial, summand};
 ghost use Rattle.expansions.specs.Terms.{led_by};
 ghost use Rattle.node_pool.specs.State.{free_of};
-ghost use Rattle.tree_handles.specs.Handed.{Gives, KeepsFront};
-ghost use Rattle.tree_handles.specs.Standing.{KeepsRefusals, LacksBytes, Refuses, Stands, forest};
+ghost use Rattle.tree_handles.specs.Handed.{Gives};
+ghost use Rattle.tree_handles.specs.Standing.{Stands, forest};
+ghost use Rattle.expand_forms.specs.Safety.{IsSafePlacing};
 
 use crate::factors::Factor;
 use crate::merging::place_factor;
@@ -29,12 +30,8 @@ pub(crate) fn place_term(
     requires few { length factors.now < 2 ^ 15 }
     ensures ok { (m : Monomial) → AreRead factors.now m
         → IfOk result (λ h. Gives (forest pool.old) (forest pool.new) h (λ t. t ≡ term_tree (summand (value_of coefficient) m))) }
-    ensures front { KeepsFront [] (forest pool.old) (forest pool.new) }
-    ensures kept { OnOk result (KeepsRefusals pool.old pool.new) }
-    ensures full { IfErr result (Refuses pool.old pool.new) }
-    ensures caused { IfErr result (LacksBytes pool.new) }
     ensures room { IfErr result (λ full. free_of pool.old < term_bytes (length factors.now)) }
-    ensures stands { Stands pool.new }
+    ensures safe { IsSafePlacing [] pool.old pool.new result }
 {
     if factors.is_empty() {
         return number(pool, coefficient);
@@ -53,12 +50,8 @@ fn place_product(pool: &mut Pool, coefficient: Rat, factors: &[Factor]) -> Resul
     requires few { length factors.now < 2 ^ 15 }
     ensures ok { (m : Monomial) → AreRead factors.now m
         → IfOk result (λ h. Gives (forest pool.old) (forest pool.new) h (λ t. t ≡ mult (led_by (value_of coefficient) (factor_trees m)))) }
-    ensures front { KeepsFront [] (forest pool.old) (forest pool.new) }
-    ensures kept { OnOk result (KeepsRefusals pool.old pool.new) }
-    ensures full { IfErr result (Refuses pool.old pool.new) }
-    ensures caused { IfErr result (LacksBytes pool.new) }
     ensures room { IfErr result (λ full. free_of pool.old < term_bytes (length factors.now)) }
-    ensures stands { Stands pool.new }
+    ensures safe { IsSafePlacing [] pool.old pool.new result }
 {
     let product = node(pool, Kind::Mult)?;
     let mut placed = 0;
@@ -78,12 +71,8 @@ fn place_listed(pool: &mut Pool, factors: &[Factor]) -> Result<u16, Full>
     requires few { length factors.now < 2 ^ 15 }
     ensures count { IfOk result (λ many. many ≡ length factors.now) }
     ensures ok { (m : Monomial) → AreRead factors.now m → IfOk result (λ many. AddsTrees (factor_trees m) (forest pool.old) (forest pool.new)) }
-    ensures front { KeepsFront [] (forest pool.old) (forest pool.new) }
-    ensures kept { OnOk result (KeepsRefusals pool.old pool.new) }
-    ensures full { IfErr result (Refuses pool.old pool.new) }
-    ensures caused { IfErr result (LacksBytes pool.new) }
     ensures room { IfErr result (λ full. free_of pool.old < factor_bytes * length factors.now) }
-    ensures stands { Stands pool.new }
+    ensures safe { IsSafePlacing [] pool.old pool.new result }
 {
     let mut placed = 0u16;
     for factor in factors {

@@ -1,5 +1,5 @@
 //! One node over what has become of its children.
-ghost use Rattle.std.specs.Prelude.{◌≡◌, ◌+◌, [], ◌∷◌, IfOk, IfErr, OnOk, true};
+ghost use Rattle.std.specs.Prelude.{◌≡◌, ◌+◌, [], ◌∷◌, IfOk, IfErr, true};
 ghost use Rattle.calc_measures.specs.Measures.{most_bits};
 ghost use Rattle.calc_terms.specs.Trees.{Tree, size};
 ghost use Rattle.expansions.specs.PolynomialTrees.{is_polynomial};
@@ -9,11 +9,11 @@ ghost use Rattle.node_pool.specs.State.{free_of};
 ghost use Rattle.reduce_walk.specs.Answers.{IsOverSome};
 ghost use Rattle.std.specs.Prelude.{◌<◌};
 ghost use Rattle.tree_handles.specs.Lacking.{OfFull};
-ghost use Rattle.tree_handles.specs.Causes.{IsCaused};
-ghost use Rattle.tree_handles.specs.Faults.{Faults, OfOverflow};
-ghost use Rattle.tree_handles.specs.Handed.{Ends, Gives, IsHanded, KeepsFront, tree_of};
+ghost use Rattle.tree_handles.specs.Faults.{OfOverflow};
+ghost use Rattle.tree_handles.specs.Handed.{Ends, Gives, IsHanded, tree_of};
 ghost use Rattle.tree_handles.specs.Roots.{root_tree, without_root};
-ghost use Rattle.tree_handles.specs.Standing.{KeepsRefusals, Stands, forest};
+ghost use Rattle.tree_handles.specs.Standing.{Stands, forest};
+ghost use Rattle.expand_forms.specs.Safety.{IsSafe};
 
 use crate::by_values::expand_values;
 use crate::node::{expand_by_trees, place_listed};
@@ -36,14 +36,10 @@ pub(crate) fn expand_next(
     requires over { IsOverSome IsPolynomial IsReadyFrom (tree_of tree pool.old) }
     ensures ok { (whole : Tree) → is_polynomial whole ≡ true → IsOverReady whole (tree_of tree pool.old)
         → IfOk result (λ h. Gives (without_root tree (forest pool.old)) (forest pool.new) h (IsReadyFrom whole)) }
-    ensures front { KeepsFront (tree ∷ []) (forest pool.old) (forest pool.new) }
-    ensures kept { OnOk result (KeepsRefusals pool.old pool.new) }
-    ensures faults { IfErr result (Faults pool.old pool.new) }
-    ensures caused { IfErr result (IsCaused pool.new) }
     ensures fits { (whole : Tree) → is_polynomial whole ≡ true → IsOverReady whole (tree_of tree pool.old) → IfErr result (OfOverflow (λ o. 124 < most_bits whole)) }
     ensures room { (whole : Tree) → is_polynomial whole ≡ true → IsOverReady whole (tree_of tree pool.old)
         → IfErr result (OfFull (λ full. MayLack whole (free_of pool.old + size (tree_of tree pool.old)))) }
-    ensures stands { Stands pool.new }
+    ensures safe { IsSafe (tree ∷ []) pool.old pool.new result }
 {
     if is_left(pool, tree.id()) {
         return Ok(tree);

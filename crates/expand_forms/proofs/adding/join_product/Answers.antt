@@ -1,4 +1,4 @@
-use Rattle.expand_forms.proofs.Shared.{refl, rules, ◌≡◌, ◌<◌, ◌∙◌, [], ◌∷◌, ap, sym, subst, arith, length, not_from_false, no_zero, plus, value_of, Tree, count, is_mult, size, Fraction, one_fraction}
+use Rattle.expand_forms.proofs.Shared.{refl, rules, Overflows, kept_after, ◌≡◌, ◌<◌, ◌∙◌, [], ◌∷◌, ap, sym, subst, arith, length, not_from_false, no_zero, plus, value_of, Tree, count, is_mult, size, Fraction, one_fraction}
 use Rattle.expand_forms.proofs.Shared.{lists_at, term_tree, IsNoOverflow, term_bytes, Monomial, monomial_times, summand, IsPlace, IsSum, HasMonomial, coefficient_in, free_of, OfFull, gives_rest}
 use Rattle.expand_forms.proofs.Shared.{passed_on, children_of, nth, plain, Forest, Gives, KeepsFront, tree_of, tree_at, without_root, forest, behind_first, behind_new, front_after, front_after_one}
 use Rattle.expand_forms.proofs.Shared.{front_after_two, front_same, given_handed, given_other, given_rest, given_root, given_same, given_told, gives_as, given_free, expression, lists_behind}
@@ -6,6 +6,7 @@ use Rattle.expand_forms.proofs.{Shared.{factors_most, monomial_times_monomial, c
 use Rattle.expand_forms.proofs.{Joins.{sum_read, term_read}, TermReadings.{beside, product_monomial}, adding.join_product.Given.{Over}, adding.join_product.Goals.{After-child-other, After-id-2}}
 use Rattle.expand_forms.proofs.adding.join_product.Goals.{In-Err, In-Ok, In_ok-product, In_ok-term-in-Err}
 use Rattle.tree_handles.specs.declared.fault.NumberFault.TheVariants as fault
+use Rattle.expand_forms.proofs.Safety.{after_one, answered, beside_all, fits_full, no_answer, overflowed, passed, passed_full, room_overflow, then_safe}
 use Rattle.expand_forms.proofs.adding.join_product.Goals as goal
 
 pub place_merged-requires : goal.place_merged-requires
@@ -35,13 +36,13 @@ sought : (g : Over) (c : After-id-2 g) (m n : Monomial) → HasMonomial m (plain
     → HasMonomial (monomial_times m n) (plain (tree_at c.id-2.result (forest c.place_merged.new.pool)))
 sought g c m n hm hn =
     let p = placed_behind c.requires.sum c.requires.first c.requires.second c.in_ok-product.ensures.ok m n hm hn in
-    product_monomial (monomial_times_monomial m n hm.monomial hn.monomial) (term_read c.place_merged.new.pool p c.in_ok-product.ensures.stands c.id-2.ensures ∙ given_told p)
+    product_monomial (monomial_times_monomial m n hm.monomial hn.monomial) (term_read c.place_merged.new.pool p c.in_ok-product.ensures.safe.stands c.id-2.ensures ∙ given_told p)
 
 pub place_of-requires : goal.place_of-requires
 place_of-requires g c =
     let (m, n, hm, hn) = c.requires.monomials in
     let p = placed_behind c.requires.sum c.requires.first c.requires.second c.in_ok-product.ensures.ok m n hm hn in
-    let st = c.in_ok-product.ensures.stands in
+    let st = c.in_ok-product.ensures.safe.stands in
     let x = expression c.id.ensures st (given_other p (given_handed c.requires.sum)) in
     let sum = subst IsSum (sym (sum_read c.args.pool.now c.place_merged.new.pool c.requires.sum p st c.id.ensures)) (given_told c.requires.sum) in
     let lists = lists_at c.id.ensures (lists_behind c.requires.sum p c.requires.lists) in
@@ -57,7 +58,7 @@ place_in g c q m n hm hn =
     let h = monomial_times_monomial m n hm.monomial hn.monomial in
     subst (λ (t : Tree). IsPlace c.in-Err.at (term_tree (summand q (monomial_times m n))) (children_of t))
     (sum_read c.args.pool.now c.place_merged.new.pool c.requires.sum
-    (placed_behind c.requires.sum c.requires.first c.requires.second c.in_ok-product.ensures.ok m n hm hn) c.in_ok-product.ensures.stands c.id.ensures)
+    (placed_behind c.requires.sum c.requires.first c.requires.second c.in_ok-product.ensures.ok m n hm hn) c.in_ok-product.ensures.safe.stands c.id.ensures)
     (c.in-Err.ensures.place (monomial_times m n) (term_tree (summand q (monomial_times m n))) (sought g c.before.before m n hm hn) (has_monomial q h))
 
 pub completed-requires-clause-product : goal.completed-requires-clause-product
@@ -78,29 +79,29 @@ insert_child-requires g c =
     let r = completed g (goal.at.insert_child-requires g c).In_ok-term-in-Err m n hm hn in
     let place = place_in g (goal.at.insert_child-requires g c).In-Err one_fraction m n hm hn in
     let same = ap (λ (f : Forest). count (children_of (plain f))) (given_same c.args.sum.now r (given_root c.requires.sum)) in
-    (search rules, (c.in_ok-term-in-Err.ensures.stands, (gives_rest r (λ t h. tt), (sum_still c.requires.sum (given_rest r), (lists_behind c.requires.sum r c.requires.lists, omega (arith, place.within, same))))))
+    (search rules, (c.in_ok-term-in-Err.ensures.safe.stands, (gives_rest r (λ t h. tt), (sum_still c.requires.sum (given_rest r), (lists_behind c.requires.sum r c.requires.lists, omega (arith, place.within, same))))))
 
-pub returns-in_ok-term-in-Err-clause-ok : goal.returns-in_ok-term-in-Err-clause-ok
-returns-in_ok-term-in-Err-clause-ok g c = λ m n hm hn.
-    let p = placed_behind c.requires.sum c.requires.first c.requires.second c.in_ok-product.ensures.ok m n hm hn in
-    let r = completed g (goal.at.returns-in_ok-term-in-Err-clause-ok g c).In_ok-term-in-Err m n hm hn in
-    let q = value_of c.args.coefficient in
-    put_in (summand q (monomial_times m n)) c.in-Err.at c.requires.sum r (no_zero q (not_from_false _ c.requires.nonzero)) (monomial_times_monomial m n hm.monomial hn.monomial)
-    (place_in g (goal.at.returns-in_ok-term-in-Err-clause-ok g c).In-Err q m n hm hn) c.insert_child.ensures.sum
-
-pub returns-in_ok-term-in-Err-clause-front : goal.returns-in_ok-term-in-Err-clause-front
-returns-in_ok-term-in-Err-clause-front g c =
-    let (m, n, hm, hn) = c.requires.monomials in
-    let p = placed_behind c.requires.sum c.requires.first c.requires.second c.in_ok-product.ensures.ok m n hm hn in
-    let r = completed g (goal.at.returns-in_ok-term-in-Err-clause-front g c).In_ok-term-in-Err m n hm hn in
-    front_after_two behind_first (behind_new r.ends front_same)
-    (front_after_one (behind_new p.ends front_same) (front_after front_same c.place_merged.ensures.front) c.completed.ensures.front) c.insert_child.ensures.front
-
-pub returns-in_err-term-in-Err-clause-front : goal.returns-in_err-term-in-Err-clause-front
-returns-in_err-term-in-Err-clause-front g c =
-    let (m, n, hm, hn) = c.requires.monomials in
-    front_after_one (behind_new (placed_behind c.requires.sum c.requires.first c.requires.second c.in_ok-product.ensures.ok m n hm hn).ends front_same)
-    (front_after front_same c.place_merged.ensures.front) c.completed.ensures.front
+pub returns-in_ok-term-in-Err : goal.returns-in_ok-term-in-Err
+returns-in_ok-term-in-Err g c =
+    record {
+      ok = λ m n hm hn.
+          let p = placed_behind c.requires.sum c.requires.first c.requires.second c.in_ok-product.ensures.ok m n hm hn in
+          let r = completed g (goal.at.returns-in_ok-term-in-Err g c).In_ok-term-in-Err m n hm hn in
+          let q = value_of c.args.coefficient in
+          put_in (summand q (monomial_times m n)) c.in-Err.at c.requires.sum r (no_zero q (not_from_false _ c.requires.nonzero)) (monomial_times_monomial m n hm.monomial hn.monomial)
+          (place_in g (goal.at.returns-in_ok-term-in-Err g c).In-Err q m n hm hn) c.insert_child.ensures.sum;
+      lists = c.insert_child.ensures.lists;
+      fits = λ a b d e f h i j. tt;
+      room = λ a b d e. tt;
+      safe = let (m, n, hm, hn) = c.requires.monomials in
+          let p = placed_behind c.requires.sum c.requires.first c.requires.second c.in_ok-product.ensures.ok m n hm hn in
+          let r = completed g (goal.at.returns-in_ok-term-in-Err g c).In_ok-term-in-Err m n hm hn in
+          let s = c.in_ok-product.ensures.safe in
+          let t = c.in_ok-term-in-Err.ensures.safe in
+          answered
+          (front_after_two behind_first (behind_new r.ends front_same) (front_after_one (behind_new p.ends front_same) (front_after front_same s.front) t.front) c.insert_child.ensures.front)
+          (kept_after (kept_after s.kept t.kept) c.insert_child.ensures.kept) c.insert_child.ensures.stands;
+    }
 
 -- ---- a term that is there
 
@@ -111,7 +112,7 @@ found g c q m n hm hn =
     let h = monomial_times_monomial m n hm.monomial hn.monomial in
     subst (λ (t : Tree). IsFoundAt c.in-Ok.at (term_tree (summand q (monomial_times m n))) (children_of t))
     (sum_read c.args.pool.now c.place_merged.new.pool c.requires.sum
-    (placed_behind c.requires.sum c.requires.first c.requires.second c.in_ok-product.ensures.ok m n hm hn) c.in_ok-product.ensures.stands c.id.ensures)
+    (placed_behind c.requires.sum c.requires.first c.requires.second c.in_ok-product.ensures.ok m n hm hn) c.in_ok-product.ensures.safe.stands c.id.ensures)
     (c.in-Ok.ensures.found (monomial_times m n) (term_tree (summand q (monomial_times m n))) (sought g c.before.before m n hm hn) (has_monomial q h))
 
 within : (g : Over) (c : In-Ok g) → c.in-Ok.at < count (children_of (tree_of c.args.sum.now c.args.pool.now))
@@ -123,7 +124,7 @@ pub child-other-requires : goal.child-other-requires
 child-other-requires g c =
     let (m, n, hm, hn) = c.requires.monomials in
     let p = placed_behind c.requires.sum c.requires.first c.requires.second c.in_ok-product.ensures.ok m n hm hn in
-    let st = c.in_ok-product.ensures.stands in
+    let st = c.in_ok-product.ensures.safe.stands in
     let x = expression c.id-in-Ok.ensures st (given_other p (given_handed c.requires.sum)) in
     let lists = lists_at c.id-in-Ok.ensures (lists_behind c.requires.sum p c.requires.lists) in
     let same = sum_read c.args.pool.now c.place_merged.new.pool c.requires.sum p st c.id-in-Ok.ensures in
@@ -135,7 +136,7 @@ other g c =
     let (m, n, hm, hn) = c.requires.monomials in
     c.child-other.ensures.plain
     ∙ ap (λ (t : Tree). nth c.in-Ok.at (children_of t)) (sum_read c.args.pool.now c.place_merged.new.pool c.requires.sum
-    (placed_behind c.requires.sum c.requires.first c.requires.second c.in_ok-product.ensures.ok m n hm hn) c.in_ok-product.ensures.stands c.id-in-Ok.ensures)
+    (placed_behind c.requires.sum c.requires.first c.requires.second c.in_ok-product.ensures.ok m n hm hn) c.in_ok-product.ensures.safe.stands c.id-in-Ok.ensures)
 
 pub replace-requires : goal.replace-requires
 replace-requires g c =
@@ -143,74 +144,108 @@ replace-requires g c =
     let p = placed_behind c.requires.sum c.requires.first c.requires.second c.in_ok-product.ensures.ok m n hm hn in
     let sum = subst (λ (f : Forest). Gives (without_root c.args.sum.now f) f c.args.sum.now IsSum) (sym (given_rest p)) c.requires.sum in
     let same = ap (λ (f : Forest). count (children_of (plain f))) (given_same c.args.sum.now p (given_root c.requires.sum)) in
-    (search rules, (c.in_ok-product.ensures.stands, ((monomial_times m n, gives_rest p (λ t e. e)), (sum, (lists_behind c.requires.sum p c.requires.lists, omega (arith, within g (goal.at.replace-requires g c).In-Ok, same))))))
-
-pub returns-in_ok-replace-in-Ok-clause-ok : goal.returns-in_ok-replace-in-Ok-clause-ok
-returns-in_ok-replace-in-Ok-clause-ok g c = λ m n hm hn.
-    let p = placed_behind c.requires.sum c.requires.first c.requires.second c.in_ok-product.ensures.ok m n hm hn in
-    let st = c.in_ok-product.ensures.stands in
-    let now = c.place_merged.new.pool in
-    let q = value_of c.args.coefficient in
-    let ts = children_of (tree_of c.args.sum.now c.args.pool.now) in
-    let same = (found g (goal.at.returns-in_ok-replace-in-Ok-clause-ok g c).In-Ok q m n hm hn).1 in
-    let total : value_of c.in_ok-total-in-Ok.total ≡ plus (coefficient_in (nth c.in-Ok.at ts)) q =
-    c.in_ok-total-in-Ok.ensures.sum ∙ ap (λ r. plus r q) (c.coefficient.ensures ∙ ap coefficient_in (other g (goal.at.returns-in_ok-replace-in-Ok-clause-ok g c).After-child-other)) in
-    set_in (summand q (monomial_times m n)) c.in-Ok.at (value_of c.in_ok-total-in-Ok.total) c.requires.sum p
-    (within g (goal.at.returns-in_ok-replace-in-Ok-clause-ok g c).In-Ok) same total (c.in_ok-replace-in-Ok.ensures.ok (monomial_times m n) (given_told p))
+    (search rules, (c.in_ok-product.ensures.safe.stands, ((monomial_times m n, gives_rest p (λ t e. e)), (sum, (lists_behind c.requires.sum p c.requires.lists, omega (arith, within g (goal.at.replace-requires g c).In-Ok, same))))))
 
 replaced : (g : Over) (c : In_ok-product g) {f : Forest} → KeepsFront (c.args.sum.now ∷ c.in_ok-product.product ∷ []) (forest c.place_merged.new.pool) f
     → KeepsFront (c.args.sum.now ∷ []) (forest c.args.pool.now) f
 replaced g c k =
     let (m, n, hm, hn) = c.requires.monomials in
     front_after_two behind_first (behind_new (placed_behind c.requires.sum c.requires.first c.requires.second c.in_ok-product.ensures.ok m n hm hn).ends front_same)
-    (front_after front_same c.place_merged.ensures.front) k
+    (front_after front_same c.in_ok-product.ensures.safe.front) k
 
-pub returns-in_ok-replace-in-Ok-clause-front : goal.returns-in_ok-replace-in-Ok-clause-front
-returns-in_ok-replace-in-Ok-clause-front g c = replaced g (goal.at.returns-in_ok-replace-in-Ok-clause-front g c).In_ok-product c.replace.ensures.front
-
-pub returns-in_err-replace-in-Ok-clause-front : goal.returns-in_err-replace-in-Ok-clause-front
-returns-in_err-replace-in-Ok-clause-front g c = replaced g (goal.at.returns-in_err-replace-in-Ok-clause-front g c).In_ok-product c.replace.ensures.front
+pub returns-in_ok-replace-in-Ok : goal.returns-in_ok-replace-in-Ok
+returns-in_ok-replace-in-Ok g c =
+    record {
+      ok = λ m n hm hn.
+          let p = placed_behind c.requires.sum c.requires.first c.requires.second c.in_ok-product.ensures.ok m n hm hn in
+          let st = c.in_ok-product.ensures.safe.stands in
+          let now = c.place_merged.new.pool in
+          let q = value_of c.args.coefficient in
+          let ts = children_of (tree_of c.args.sum.now c.args.pool.now) in
+          let same = (found g (goal.at.returns-in_ok-replace-in-Ok g c).In-Ok q m n hm hn).1 in
+          let total : value_of c.in_ok-total-in-Ok.total ≡ plus (coefficient_in (nth c.in-Ok.at ts)) q =
+          c.in_ok-total-in-Ok.ensures.sum ∙ ap (λ r. plus r q) (c.coefficient.ensures ∙ ap coefficient_in (other g (goal.at.returns-in_ok-replace-in-Ok g c).After-child-other)) in
+          set_in (summand q (monomial_times m n)) c.in-Ok.at (value_of c.in_ok-total-in-Ok.total) c.requires.sum p
+          (within g (goal.at.returns-in_ok-replace-in-Ok g c).In-Ok) same total (c.in_ok-replace-in-Ok.ensures.ok (monomial_times m n) (given_told p));
+      lists = c.in_ok-replace-in-Ok.ensures.lists;
+      fits = λ a b d e f h i j. tt;
+      room = λ a b d e. tt;
+      safe = let s = c.in_ok-replace-in-Ok.ensures.safe in
+          answered (replaced g (goal.at.returns-in_ok-replace-in-Ok g c).In_ok-product s.front) (kept_after c.in_ok-product.ensures.safe.kept s.kept) s.stands;
+    }
 
 -- ---- few bytes
-
-pub returns-in_err-product-clause-room : goal.returns-in_err-product-clause-room
-returns-in_err-product-clause-room g c = λ m n hm hn.
-    passed_on c.from_residual.result c.in_err-product.field-0.0
-    (OfFull (λ full. free_of c.args.pool.now < term_bytes (length (monomial_times m n)))) c.from_residual.ensures.0 c.from_residual.ensures.1
-    (c.in_err-product.ensures.room m n (subst (HasMonomial m) (sym (beside c.requires.sum c.requires.first).same) hm) (subst (HasMonomial n) (sym (beside c.requires.sum c.requires.second).same) hn))
 
 few : (g : Over) (c : In_ok-product g) (m n : Monomial) → HasMonomial m (plain (tree_at c.args.s (without_root c.args.sum.now (forest c.args.pool.now))))
     → HasMonomial n (plain (tree_at c.args.t (without_root c.args.sum.now (forest c.args.pool.now))))
     → free_of c.place_merged.new.pool < 40 → free_of c.args.pool.now < term_bytes (length (monomial_times m n))
 few g c m n hm hn l =
     let p = placed_behind c.requires.sum c.requires.first c.requires.second c.in_ok-product.ensures.ok m n hm hn in
-    omega (arith, given_free c.requires.stands c.in_ok-product.ensures.stands c.in_ok-product.ensures.kept p, ap size (given_told p), factors_most (monomial_times m n), l)
+    omega (arith, given_free c.requires.stands c.in_ok-product.ensures.safe.stands c.in_ok-product.ensures.safe.kept p, ap size (given_told p), factors_most (monomial_times m n), l)
 
-pub returns-in_err-term-in-Err-clause-room : goal.returns-in_err-term-in-Err-clause-room
-returns-in_err-term-in-Err-clause-room g c = λ m n hm hn.
-    passed_on c.from_residual-in_err-term-in-Err.result (fault.Full c.in_err-term-in-Err.field-0.0)
-    (OfFull (λ full. free_of c.args.pool.now < term_bytes (length (monomial_times m n)))) c.from_residual-in_err-term-in-Err.ensures.0 c.from_residual-in_err-term-in-Err.ensures.1
-    (few g (goal.at.returns-in_err-term-in-Err-clause-room g c).In_ok-product m n hm hn c.in_err-term-in-Err.ensures.room)
+pub returns-in_err-term-in-Err : goal.returns-in_err-term-in-Err
+returns-in_err-term-in-Err g c =
+    record {
+      ok = λ a b d e. no_answer c.from_residual-in_err-term-in-Err.result _ c.from_residual-in_err-term-in-Err.ensures.0;
+      lists = no_answer c.from_residual-in_err-term-in-Err.result _ c.from_residual-in_err-term-in-Err.ensures.0;
+      fits = λ a b d e f h i j. fits_full c.from_residual-in_err-term-in-Err.result c.in_err-term-in-Err.field-0.0 _ c.from_residual-in_err-term-in-Err.ensures.0 c.from_residual-in_err-term-in-Err.ensures.1;
+      room = λ m n hm hn.
+          passed_on c.from_residual-in_err-term-in-Err.result (fault.Full c.in_err-term-in-Err.field-0.0)
+          (OfFull (λ full. free_of c.args.pool.now < term_bytes (length (monomial_times m n)))) c.from_residual-in_err-term-in-Err.ensures.0 c.from_residual-in_err-term-in-Err.ensures.1
+          (few g (goal.at.returns-in_err-term-in-Err g c).In_ok-product m n hm hn c.in_err-term-in-Err.ensures.room);
+      safe = let (m, n, hm, hn) = c.requires.monomials in
+          let s = c.in_ok-product.ensures.safe in
+          after_one s.kept (behind_new (placed_behind c.requires.sum c.requires.first c.requires.second c.in_ok-product.ensures.ok m n hm hn).ends front_same) (front_after front_same s.front)
+          (passed_full c.from_residual-in_err-term-in-Err.result c.in_err-term-in-Err.field-0.0 c.from_residual-in_err-term-in-Err.ensures.0 c.from_residual-in_err-term-in-Err.ensures.1 c.in_err-term-in-Err.ensures.safe);
+    }
 
-pub returns-in_err-replace-in-Ok-clause-room : goal.returns-in_err-replace-in-Ok-clause-room
-returns-in_err-replace-in-Ok-clause-room g c = λ m n hm hn.
-    passed_on c.from_residual-in_err-replace-in-Ok.result (fault.Full c.in_err-replace-in-Ok.field-0.0)
-    (OfFull (λ full. free_of c.args.pool.now < term_bytes (length (monomial_times m n)))) c.from_residual-in_err-replace-in-Ok.ensures.0 c.from_residual-in_err-replace-in-Ok.ensures.1
-    (few g (goal.at.returns-in_err-replace-in-Ok-clause-room g c).In_ok-product m n hm hn c.in_err-replace-in-Ok.ensures.room)
+pub returns-in_err-replace-in-Ok : goal.returns-in_err-replace-in-Ok
+returns-in_err-replace-in-Ok g c =
+    record {
+      ok = λ a b d e. no_answer c.from_residual-in_err-replace-in-Ok.result _ c.from_residual-in_err-replace-in-Ok.ensures.0;
+      lists = no_answer c.from_residual-in_err-replace-in-Ok.result _ c.from_residual-in_err-replace-in-Ok.ensures.0;
+      fits = λ a b d e f h i j. fits_full c.from_residual-in_err-replace-in-Ok.result c.in_err-replace-in-Ok.field-0.0 _ c.from_residual-in_err-replace-in-Ok.ensures.0 c.from_residual-in_err-replace-in-Ok.ensures.1;
+      room = λ m n hm hn.
+          passed_on c.from_residual-in_err-replace-in-Ok.result (fault.Full c.in_err-replace-in-Ok.field-0.0)
+          (OfFull (λ full. free_of c.args.pool.now < term_bytes (length (monomial_times m n)))) c.from_residual-in_err-replace-in-Ok.ensures.0 c.from_residual-in_err-replace-in-Ok.ensures.1
+          (few g (goal.at.returns-in_err-replace-in-Ok g c).In_ok-product m n hm hn c.in_err-replace-in-Ok.ensures.room);
+      safe = let s = c.in_err-replace-in-Ok.ensures.safe in
+          then_safe c.in_ok-product.ensures.safe.kept (replaced g (goal.at.returns-in_err-replace-in-Ok g c).In_ok-product s.front)
+          (passed_full c.from_residual-in_err-replace-in-Ok.result c.in_err-replace-in-Ok.field-0.0 c.from_residual-in_err-replace-in-Ok.ensures.0 c.from_residual-in_err-replace-in-Ok.ensures.1 s);
+    }
 
 -- ---- what fits
 
-pub returns-in_err-product-clause-fits : goal.returns-in_err-product-clause-fits
-returns-in_err-product-clause-fits g c = λ m n h l hm hn held k.
-    passed_on c.from_residual.result c.in_err-product.field-0.0 IsNoOverflow c.from_residual.ensures.0 c.from_residual.ensures.1
-    (c.in_err-product.ensures.fits m n h (subst (HasMonomial m) (sym (beside c.requires.sum c.requires.first).same) hm)
-    (subst (HasMonomial n) (sym (beside c.requires.sum c.requires.second).same) hn) held.exponents.0 (omega (arith, k)))
+pub returns-in_err-product : goal.returns-in_err-product
+returns-in_err-product g c =
+    record {
+      ok = λ a b d e. no_answer c.from_residual.result _ c.from_residual.ensures.0;
+      lists = no_answer c.from_residual.result _ c.from_residual.ensures.0;
+      fits = λ m n h l hm hn held k.
+          passed_on c.from_residual.result c.in_err-product.field-0.0 IsNoOverflow c.from_residual.ensures.0 c.from_residual.ensures.1
+          (c.in_err-product.ensures.fits m n h (subst (HasMonomial m) (sym (beside c.requires.sum c.requires.first).same) hm)
+          (subst (HasMonomial n) (sym (beside c.requires.sum c.requires.second).same) hn) held.exponents.0 (omega (arith, k)));
+      room = λ m n hm hn.
+          passed_on c.from_residual.result c.in_err-product.field-0.0
+          (OfFull (λ full. free_of c.args.pool.now < term_bytes (length (monomial_times m n)))) c.from_residual.ensures.0 c.from_residual.ensures.1
+          (c.in_err-product.ensures.room m n (subst (HasMonomial m) (sym (beside c.requires.sum c.requires.first).same) hm) (subst (HasMonomial n) (sym (beside c.requires.sum c.requires.second).same) hn));
+      safe = beside_all (passed c.from_residual.result c.in_err-product.field-0.0 c.from_residual.ensures.0 c.from_residual.ensures.1 c.in_err-product.ensures.safe);
+    }
 
-pub returns-in_err-total-in-Ok-clause-fits : goal.returns-in_err-total-in-Ok-clause-fits
-returns-in_err-total-in-Ok-clause-fits g c = λ m n h l hm hn held k.
-    contradiction (total_fits (given_told c.requires.sum) (summand (value_of c.args.coefficient) (monomial_times m n)) c.in-Ok.at
-    (within g (goal.at.returns-in_err-total-in-Ok-clause-fits g c).In-Ok) held k (value_of c.coefficient.result)
-    (c.coefficient.ensures ∙ ap coefficient_in (other g (goal.at.returns-in_err-total-in-Ok-clause-fits g c).After-child-other))) (c.in_err-total-in-Ok.ensures.refused.0 refl)
+pub returns-in_err-total-in-Ok : goal.returns-in_err-total-in-Ok
+returns-in_err-total-in-Ok g c =
+    record {
+      ok = λ a b d e. no_answer c.from_residual-in_err-total-in-Ok.result _ c.from_residual-in_err-total-in-Ok.ensures.0;
+      lists = no_answer c.from_residual-in_err-total-in-Ok.result _ c.from_residual-in_err-total-in-Ok.ensures.0;
+      fits = λ m n h l hm hn held k.
+          contradiction (total_fits (given_told c.requires.sum) (summand (value_of c.args.coefficient) (monomial_times m n)) c.in-Ok.at
+          (within g (goal.at.returns-in_err-total-in-Ok g c).In-Ok) held k (value_of c.coefficient.result)
+          (c.coefficient.ensures ∙ ap coefficient_in (other g (goal.at.returns-in_err-total-in-Ok g c).After-child-other))) (c.in_err-total-in-Ok.ensures.refused.0 refl);
+      room = λ a b d e. room_overflow c.from_residual-in_err-total-in-Ok.result c.in_err-total-in-Ok.field-0.0 _ c.from_residual-in_err-total-in-Ok.ensures.0 c.from_residual-in_err-total-in-Ok.ensures.1;
+      safe = let s = c.in_ok-product.ensures.safe in
+          overflowed c.from_residual-in_err-total-in-Ok.result c.in_err-total-in-Ok.field-0.0 c.from_residual-in_err-total-in-Ok.ensures.0 c.from_residual-in_err-total-in-Ok.ensures.1
+          (subst Overflows (sym c.in_err-total-in-Ok.ensures.named) (c.in_err-total-in-Ok.ensures.refused.0 refl)) (front_after front_same s.front) s.kept s.stands;
+    }
 
 pub of-left-requires-clause-expression : goal.of-left-requires-clause-expression
 of-left-requires-clause-expression g c = (beside c.requires.sum c.requires.first).expression

@@ -1,9 +1,10 @@
 use Rattle.expand_forms.proofs.Shared.{rules, ◌+◌, ◌<◌, ◌∙◌, ◌++◌, drop, ap, sym, subst, arith, value_of, size, normal, IsNoOverflow, sum_bytes, Polynomial, product, polynomial_of, row, IsExpanded}
-use Rattle.expand_forms.proofs.Shared.{free_of, OfFull, gives_rest, passed_on, full_as, IsExpression, plain, Forest, tree_of, tree_at, without_root, forest, behind_first, front_after_one}
+use Rattle.expand_forms.proofs.Shared.{free_of, OfFull, gives_rest, passed_on, full_as, IsExpression, plain, Forest, tree_of, tree_at, without_root, forest, behind_first}
 use Rattle.expand_forms.proofs.{Shared.{given_handed, given_rest, lists_listed, gathered_append, gathered_products, gathered_refl}, JoinLoops.{IsNextPart, IsNextTerm, joined_all, joined_lacks}}
 use Rattle.expand_forms.proofs.{JoinLoops.{joined_more, joined_none, next_part, next_term, part_few, part_held, place_read, terms_read}, Joins.{no_summands}, ListedTerms.{lists_beside}}
 use Rattle.expand_forms.proofs.{Rows.{next_coefficient, rows_next}, TermReadings.{beside}, joining.join_products.Given.{Over}, joining.join_products.Goals.{After-coefficient-factor}}
 use Rattle.calc_terms.proofs.FractionFacts.{zero_test as is_nonzero}
+use Rattle.expand_forms.proofs.Safety.{after_one, answered, no_answer, passed}
 use Rattle.expand_forms.proofs.joining.join_products.Goals as goal
 
 here : (g : Over) (c : After-coefficient-factor g)
@@ -57,34 +58,43 @@ join_row-requires g c =
     let x = here g at in
     (search rules, (j.stands, (gives_rest j.gives (λ t h. h.sum), (c.loop-at.invariant.lists, (is_nonzero _ (λ z. x.term.nonzero (sym (next_coefficient x c.coefficient-factor.ensures) ∙ z)), (x.expression, (subst (IsExpression c.args.b) r c.requires.second, (x.term, subst (λ (f : Forest). IsExpanded (plain (tree_at c.args.b f))) r c.requires.second_expanded))))))))
 
-pub returns-in_err-join_row-clause-front : goal.returns-in_err-join_row-clause-front
-returns-in_err-join_row-clause-front g c = front_after_one behind_first c.loop-at.invariant.joined.front c.join_row.ensures.front
-
 pub loop-at-preserved : goal.loop-at-preserved
 loop-at-preserved g c = record {
   lists = c.in_ok-join_row.ensures.lists;
   joined = joined_more c.loop-at.invariant.joined
-      (next g (goal.at.loop-at-preserved g c).After-coefficient-factor) c.in_ok-join_row.ensures.ok c.join_row.ensures.front c.in_ok-join_row.ensures.kept c.join_row.ensures.stands;
+      (next g (goal.at.loop-at-preserved g c).After-coefficient-factor) c.in_ok-join_row.ensures.ok c.join_row.ensures.safe.front c.in_ok-join_row.ensures.safe.kept c.join_row.ensures.safe.stands;
 }
 
-pub returns-clause-ok : goal.returns-clause-ok
-returns-clause-ok g c =
-    let o = without_root c.args.sum.now (forest c.args.pool.now) in
-    let many = terms_read c.requires.sum c.requires.first c.requires.first_expanded c.term_count-at-end.ensures in
-    joined_all c.loop-at.invariant.joined (ap (λ (v : Polynomial). product v (normal (polynomial_of (plain (tree_at c.args.b o)))))
-    (no_summands c.loop-at.at (normal (polynomial_of (plain (tree_at c.args.a o)))) (omega (arith, many, c.loop-at-test.false))))
+pub returns-in_err-join_row : goal.returns-in_err-join_row
+returns-in_err-join_row g c =
+    record {
+      ok = no_answer c.from_residual.result _ c.from_residual.ensures.0;
+      lists = no_answer c.from_residual.result _ c.from_residual.ensures.0;
+      fits = λ h l held k.
+          let at = (goal.at.returns-in_err-join_row g c).After-coefficient-factor in
+          passed_on c.from_residual.result c.in_err-join_row.field-0.0 IsNoOverflow c.from_residual.ensures.0 c.from_residual.ensures.1
+          (c.in_err-join_row.ensures.fits h l (part_held c.loop-at.invariant.joined (next g at) held) k);
+      room = λ ns n few.
+          let at = (goal.at.returns-in_err-join_row g c).After-coefficient-factor in
+          let j = c.loop-at.invariant.joined in
+          passed_on c.from_residual.result c.in_err-join_row.field-0.0
+          (OfFull (λ full. free_of c.args.pool.now + size (tree_of c.args.sum.now c.args.pool.now) < sum_bytes ns n)) c.from_residual.ensures.0 c.from_residual.ensures.1
+          (full_as c.in_err-join_row.field-0.0 (c.in_err-join_row.ensures.room ns n (part_few j (next g at) few))
+          (λ full short. joined_lacks (sum_bytes ns n) j c.requires.stands (given_handed c.requires.sum) short));
+      safe = let j = c.loop-at.invariant.joined in
+          after_one j.kept behind_first j.front (passed c.from_residual.result c.in_err-join_row.field-0.0 c.from_residual.ensures.0 c.from_residual.ensures.1 c.in_err-join_row.ensures.safe);
+    }
 
-pub returns-in_err-join_row-clause-room : goal.returns-in_err-join_row-clause-room
-returns-in_err-join_row-clause-room g c = λ ns n few.
-    let at = (goal.at.returns-in_err-join_row-clause-room g c).After-coefficient-factor in
-    let j = c.loop-at.invariant.joined in
-    passed_on c.from_residual.result c.in_err-join_row.field-0.0
-    (OfFull (λ full. free_of c.args.pool.now + size (tree_of c.args.sum.now c.args.pool.now) < sum_bytes ns n)) c.from_residual.ensures.0 c.from_residual.ensures.1
-    (full_as c.in_err-join_row.field-0.0 (c.in_err-join_row.ensures.room ns n (part_few j (next g at) few))
-    (λ full short. joined_lacks (sum_bytes ns n) j c.requires.stands (given_handed c.requires.sum) short))
-
-pub returns-in_err-join_row-clause-fits : goal.returns-in_err-join_row-clause-fits
-returns-in_err-join_row-clause-fits g c = λ h l held k.
-    let at = (goal.at.returns-in_err-join_row-clause-fits g c).After-coefficient-factor in
-    passed_on c.from_residual.result c.in_err-join_row.field-0.0 IsNoOverflow c.from_residual.ensures.0 c.from_residual.ensures.1
-    (c.in_err-join_row.ensures.fits h l (part_held c.loop-at.invariant.joined (next g at) held) k)
+pub returns : goal.returns
+returns g c =
+    record {
+      ok = let o = without_root c.args.sum.now (forest c.args.pool.now) in
+          let many = terms_read c.requires.sum c.requires.first c.requires.first_expanded c.term_count-at-end.ensures in
+          joined_all c.loop-at.invariant.joined (ap (λ (v : Polynomial). product v (normal (polynomial_of (plain (tree_at c.args.b o)))))
+          (no_summands c.loop-at.at (normal (polynomial_of (plain (tree_at c.args.a o)))) (omega (arith, many, c.loop-at-test.false))));
+      lists = c.loop-at.invariant.lists;
+      fits = λ a b d e. tt;
+      room = λ a b d. tt;
+      safe = let j = c.loop-at.invariant.joined in
+          answered j.front j.kept j.stands;
+    }

@@ -4,6 +4,7 @@ use Rattle.expand_forms.proofs.{Shared.{factors_most}, AddedTrees.{adds_beside, 
 use Rattle.expand_forms.proofs.{Merged.{merged_more, merged_none}, TermReadings.{drop_length, drop_monomial, has_count}, merging.place_factors.Goals.{In-Some, In_ok-_factor}}
 use Rattle.expand_forms.specs.declared.factors.Factor.{Factor as Read}
 use Rattle.tree_handles.specs.declared.fault.NumberFault.TheVariants as fault
+use Rattle.expand_forms.proofs.Safety.{after, answered, fits_full, no_answer, overflowed, passed_full, room_overflow}
 use Rattle.expand_forms.proofs.merging.place_factors.Goals as goal
 
 pub loop-next-init : goal.loop-next-init
@@ -68,7 +69,7 @@ pub overflow_add-many : goal.overflow_add-many
 overflow_add-many c =
     let (m, n, hm, hn) = c.requires.monomials in
     let h = next (goal.at.overflow_add-many c).In-Some m n hm hn in
-    record { fits = omega (arith, few_merged c.in_ok-_factor.ensures.stands (merged_more (c.loop-next.invariant.merged m n hm hn) c.in-Some.next h (c.in_ok-_factor.ensures.ok h.factor h.read))) }
+    record { fits = omega (arith, few_merged c.in_ok-_factor.ensures.safe.stands (merged_more (c.loop-next.invariant.merged m n hm hn) c.in-Some.next h (c.in_ok-_factor.ensures.ok h.factor h.read))) }
 
 pub loop-next-smaller : goal.loop-next-smaller
 loop-next-smaller c =
@@ -91,7 +92,7 @@ following-first-requires c =
     let new = (more (goal.at.following-first-requires c).In_ok-_factor m n hm hn).adds in
     let x = adds_beside new c.requires.first in
     record {
-      stands = c.place_factor.ensures.stands;
+      stands = c.place_factor.ensures.safe.stands;
       expression = x.expression;
       factors = factors_beside new c.requires.first c.requires.factors;
       monomial = (m, subst (HasMonomial m) (sym x.same) hm);
@@ -106,7 +107,7 @@ following-second-requires c =
     let new = (more (goal.at.following-second-requires c).In_ok-_factor m n hm hn).adds in
     let x = adds_beside new c.requires.second in
     record {
-      stands = c.place_factor.ensures.stands;
+      stands = c.place_factor.ensures.safe.stands;
       expression = x.expression;
       factors = factors_beside new c.requires.second c.of-right.ensures;
       monomial = (n, subst (HasMonomial n) (sym x.same) hn);
@@ -119,38 +120,56 @@ loop-next-preserved c = record {
   first = c.following-first.ensures;
   second = c.following-second.ensures;
   merged = more (goal.at.loop-next-preserved c).In_ok-_factor;
-  front = front_after c.loop-next.invariant.front c.place_factor.ensures.front;
-  kept = kept_after c.loop-next.invariant.kept c.in_ok-_factor.ensures.kept;
-  stands = c.place_factor.ensures.stands;
+  front = front_after c.loop-next.invariant.front c.place_factor.ensures.safe.front;
+  kept = kept_after c.loop-next.invariant.kept c.in_ok-_factor.ensures.safe.kept;
+  stands = c.place_factor.ensures.safe.stands;
 }
 
-pub returns-in_err-_factor-clause-front : goal.returns-in_err-_factor-clause-front
-returns-in_err-_factor-clause-front c = front_after c.loop-next.invariant.front c.place_factor.ensures.front
-
-pub returns-clause-ok : goal.returns-clause-ok
-returns-clause-ok c = λ m n hm hn.
-    let w = c.loop-next.invariant.merged m n hm hn in
-    let goes = c.in_ok-next.ensures.next (drop c.loop-next.i m) (drop c.loop-next.j n) (drop_monomial c.loop-next.i m hm.monomial) (drop_monomial c.loop-next.j n hn.monomial)
-    (head_beside c.loop-next.i c.loop-next.first w.adds c.requires.first c.loop-next.invariant.first hm)
-    (head_beside c.loop-next.j c.loop-next.second w.adds c.requires.second c.loop-next.invariant.second hn) in
-    let (e, k) = all_gone c.in_ok-next.field-0 goes c.in_default.not-Some in
-    let all = merged_all w e k in
-    (w.many ∙ ap (λ (x : Monomial). length x) all, subst (λ (x : Monomial). AddsTrees (factor_trees x) (forest c.args.pool.now) (forest c.loop-next.pool)) all w.adds)
+pub returns : goal.returns
+returns c =
+    record {
+      ok = λ m n hm hn.
+          let w = c.loop-next.invariant.merged m n hm hn in
+          let goes = c.in_ok-next.ensures.next (drop c.loop-next.i m) (drop c.loop-next.j n) (drop_monomial c.loop-next.i m hm.monomial) (drop_monomial c.loop-next.j n hn.monomial)
+          (head_beside c.loop-next.i c.loop-next.first w.adds c.requires.first c.loop-next.invariant.first hm)
+          (head_beside c.loop-next.j c.loop-next.second w.adds c.requires.second c.loop-next.invariant.second hn) in
+          let (e, k) = all_gone c.in_ok-next.field-0 goes c.in_default.not-Some in
+          let all = merged_all w e k in
+          (w.many ∙ ap (λ (x : Monomial). length x) all, subst (λ (x : Monomial). AddsTrees (factor_trees x) (forest c.args.pool.now) (forest c.loop-next.pool)) all w.adds);
+      fits = λ a b d e f h i. tt;
+      room = λ a b d e. tt;
+      safe = let i = c.loop-next.invariant in
+          answered i.front i.kept i.stands;
+    }
 
 -- ---- few bytes, and exponents that fit
 
-pub returns-in_err-_factor-clause-room : goal.returns-in_err-_factor-clause-room
-returns-in_err-_factor-clause-room c = λ m n hm hn.
-    let i = c.loop-next.invariant in
-    let w = i.merged m n hm hn in
-    passed_on c.from_residual-in_err-_factor.result (fault.Full c.in_err-_factor.field-0.0)
-    (OfFull (λ full. free_of c.args.pool.now < factor_bytes * length (monomial_times m n))) c.from_residual-in_err-_factor.ensures.0 c.from_residual-in_err-_factor.ensures.1
-    (omega (arith, adds_free c.requires.stands i.stands i.kept w.adds, factors_most w.done, c.in_err-_factor.ensures.room, merged_length w (next (goal.at.returns-in_err-_factor-clause-room c).In-Some m n hm hn)))
+pub returns-in_err-_factor : goal.returns-in_err-_factor
+returns-in_err-_factor c =
+    record {
+      ok = λ a b d e. no_answer c.from_residual-in_err-_factor.result _ c.from_residual-in_err-_factor.ensures.0;
+      fits = λ a b d e f h i. fits_full c.from_residual-in_err-_factor.result c.in_err-_factor.field-0.0 _ c.from_residual-in_err-_factor.ensures.0 c.from_residual-in_err-_factor.ensures.1;
+      room = λ m n hm hn.
+          let i = c.loop-next.invariant in
+          let w = i.merged m n hm hn in
+          passed_on c.from_residual-in_err-_factor.result (fault.Full c.in_err-_factor.field-0.0)
+          (OfFull (λ full. free_of c.args.pool.now < factor_bytes * length (monomial_times m n))) c.from_residual-in_err-_factor.ensures.0 c.from_residual-in_err-_factor.ensures.1
+          (omega (arith, adds_free c.requires.stands i.stands i.kept w.adds, factors_most w.done, c.in_err-_factor.ensures.room, merged_length w (next (goal.at.returns-in_err-_factor c).In-Some m n hm hn)));
+      safe = let i = c.loop-next.invariant in
+          after i.kept i.front (passed_full c.from_residual-in_err-_factor.result c.in_err-_factor.field-0.0 c.from_residual-in_err-_factor.ensures.0 c.from_residual-in_err-_factor.ensures.1 c.in_err-_factor.ensures.safe);
+    }
 
-pub returns-in_err-next-clause-fits : goal.returns-in_err-next-clause-fits
-returns-in_err-next-clause-fits c = λ m n k hm hn x l.
-    let w = c.loop-next.invariant.merged m n hm hn in
-    let rest = later_exponents k w.done (monomial_times (drop c.loop-next.i m) (drop c.loop-next.j n)) (subst (HasExponents k) (sym w.split) x) in
-    absurd (c.in_err-next.ensures.fits (drop c.loop-next.i m) (drop c.loop-next.j n) k (drop_monomial c.loop-next.i m hm.monomial) (drop_monomial c.loop-next.j n hn.monomial)
-    (head_beside c.loop-next.i c.loop-next.first w.adds c.requires.first c.loop-next.invariant.first hm)
-    (head_beside c.loop-next.j c.loop-next.second w.adds c.requires.second c.loop-next.invariant.second hn) rest l)
+pub returns-in_err-next : goal.returns-in_err-next
+returns-in_err-next c =
+    record {
+      ok = λ a b d e. no_answer c.from_residual.result _ c.from_residual.ensures.0;
+      fits = λ m n k hm hn x l.
+          let w = c.loop-next.invariant.merged m n hm hn in
+          let rest = later_exponents k w.done (monomial_times (drop c.loop-next.i m) (drop c.loop-next.j n)) (subst (HasExponents k) (sym w.split) x) in
+          absurd (c.in_err-next.ensures.fits (drop c.loop-next.i m) (drop c.loop-next.j n) k (drop_monomial c.loop-next.i m hm.monomial) (drop_monomial c.loop-next.j n hn.monomial)
+          (head_beside c.loop-next.i c.loop-next.first w.adds c.requires.first c.loop-next.invariant.first hm)
+          (head_beside c.loop-next.j c.loop-next.second w.adds c.requires.second c.loop-next.invariant.second hn) rest l);
+      room = λ a b d e. room_overflow c.from_residual.result c.in_err-next.field-0.0 _ c.from_residual.ensures.0 c.from_residual.ensures.1;
+      safe = let i = c.loop-next.invariant in
+          overflowed c.from_residual.result c.in_err-next.field-0.0 c.from_residual.ensures.0 c.from_residual.ensures.1 c.in_err-next.ensures.overflow i.front i.kept i.stands;
+    }

@@ -2,6 +2,7 @@ use Rattle.expand_forms.proofs.Shared.{◌∙◌, ◌<◌, ap, subst, sym, IsLis
 use Rattle.expand_forms.proofs.{Shared.{tree_of, AreReady, few_names}, PowersOfSums.{all_ready}, node.expand_node.Goals.{Then-expand_values}}
 use Rattle.expansions.specs.Named.{names_of}
 use Rattle.tree_handles.specs.declared.fault.NumberFault.TheVariants as fault
+use Rattle.expand_forms.proofs.Safety.{answer_of, fits_full, no_answer, passed_full}
 use Rattle.expand_forms.proofs.node.expand_node.Goals as goal
 
 pub expand_values-requires : goal.expand_values-requires
@@ -28,14 +29,25 @@ place_listed-requires c = record {
   few = c.expand_values.ensures.few c.if-expand_values.true;
 }
 
-pub returns-in_err-place_listed-clause-room : goal.returns-in_err-place_listed-clause-room
-returns-in_err-place_listed-clause-room c = λ whole n h l.
-    let t = tree_of c.args.tree c.args.pool.now in
-    let list = listed (goal.at.returns-in_err-place_listed-clause-room c).Then-expand_values in
-    passed_on c.from_residual.result (fault.Full c.in_err-place_listed.field-0.0)
-    (OfFull (λ full. free_of c.args.pool.now < node_bytes (names whole) n)) c.from_residual.ensures.0 c.from_residual.ensures.1
-    (c.in_err-place_listed.ensures.room (polynomial_of t) (names whole) n list (few_names whole t n h l))
+pub returns-in_err-place_listed : goal.returns-in_err-place_listed
+returns-in_err-place_listed c =
+    record {
+      ok = no_answer c.from_residual.result _ c.from_residual.ensures.0;
+      fits = λ a b d. fits_full c.from_residual.result c.in_err-place_listed.field-0.0 _ c.from_residual.ensures.0 c.from_residual.ensures.1;
+      room = λ whole n h l.
+          let t = tree_of c.args.tree c.args.pool.now in
+          let list = listed (goal.at.returns-in_err-place_listed c).Then-expand_values in
+          passed_on c.from_residual.result (fault.Full c.in_err-place_listed.field-0.0)
+          (OfFull (λ full. free_of c.args.pool.now < node_bytes (names whole) n)) c.from_residual.ensures.0 c.from_residual.ensures.1
+          (c.in_err-place_listed.ensures.room (polynomial_of t) (names whole) n list (few_names whole t n h l));
+      safe = passed_full c.from_residual.result c.in_err-place_listed.field-0.0 c.from_residual.ensures.0 c.from_residual.ensures.1 c.in_err-place_listed.ensures.safe;
+    }
 
-pub returns-then-expand_values-clause-ok : goal.returns-then-expand_values-clause-ok
-returns-then-expand_values-clause-ok c =
-    c.in_ok-place_listed.ensures.ok (polynomial_of (tree_of c.args.tree c.args.pool.now)) (listed (goal.at.returns-then-expand_values-clause-ok c).Then-expand_values)
+pub returns-then-expand_values : goal.returns-then-expand_values
+returns-then-expand_values c =
+    record {
+      ok = c.in_ok-place_listed.ensures.ok (polynomial_of (tree_of c.args.tree c.args.pool.now)) (listed (goal.at.returns-then-expand_values c).Then-expand_values);
+      fits = λ a b d. tt;
+      room = λ a b d e. tt;
+      safe = answer_of c.in_ok-place_listed.ensures.safe;
+    }

@@ -1,8 +1,9 @@
 use Rattle.expand_forms.proofs.Shared.{rules, ◌≡◌, ◌<◌, ◌≤◌, ◌+◌, ◌∙◌, ◌++◌, drop, length, ap, sym, subst, arith, Tree, size, polynomial_of, value_of, row, IsExpanded, IsTerm, AreExpanded}
-use Rattle.expand_forms.proofs.Shared.{has_polynomial_root, scaled, gives_rest, IsExpression, children_of, plain, Forest, tree_of, tree_at, without_root, forest, behind_first, front_after_one}
+use Rattle.expand_forms.proofs.Shared.{has_polynomial_root, scaled, gives_rest, IsExpression, children_of, plain, Forest, tree_of, tree_at, without_root, forest, behind_first}
 use Rattle.expand_forms.proofs.Shared.{given_rest, given_handed, sum_bytes, free_of, OfFull, passed_on, full_as, IsNoOverflow, drop_all, has_parts, parts_of, total, gathered_append, gathered_is}
 use Rattle.expand_forms.proofs.{Shared.{gathered_refl, gathered_trans, few_as, few_append}, JoinLoops.{joined_none, IsNextPart, joined_all, joined_lacks, joined_more, part_few, part_held}}
 use Rattle.expand_forms.proofs.{PowersOfSums.{all_ready}, NodeParts.{one_term, part_row}, TermReadings.{beside}, Within.{IsWithin, within}, node.join_parts.Goals.{After-part_at-part}}
+use Rattle.expand_forms.proofs.Safety.{after_one, answered, no_answer, passed}
 use Rattle.expand_forms.proofs.node.join_parts.Goals as goal
 
 pub part_count-at-end-requires : goal.part_count-at-end-requires
@@ -72,32 +73,41 @@ join_row-requires c =
     let second = subst (IsExpression i) r (part_within at).expression in
     (search rules, (j.stands, (gives_rest j.gives (λ t h. h.sum), (c.loop-at.invariant.lists, (c.part_at-part.ensures.nonzero, (first, (second, (term, expanded))))))))
 
-pub returns-in_err-join_row-clause-front : goal.returns-in_err-join_row-clause-front
-returns-in_err-join_row-clause-front c = front_after_one behind_first c.loop-at.invariant.joined.front c.join_row.ensures.front
-
 pub loop-at-preserved : goal.loop-at-preserved
 loop-at-preserved c = record {
   lists = c.in_ok-join_row.ensures.lists;
   joined = joined_more c.loop-at.invariant.joined
-      (next (goal.at.loop-at-preserved c).After-part_at-part) c.in_ok-join_row.ensures.ok c.join_row.ensures.front c.in_ok-join_row.ensures.kept c.join_row.ensures.stands;
+      (next (goal.at.loop-at-preserved c).After-part_at-part) c.in_ok-join_row.ensures.ok c.join_row.ensures.safe.front c.in_ok-join_row.ensures.safe.kept c.join_row.ensures.safe.stands;
 }
 
-pub returns-clause-ok : goal.returns-clause-ok
-returns-clause-ok c =
-    let t = plain (tree_at c.args.id (without_root c.args.sum.now (forest c.args.pool.now))) in
-    let then = beside c.requires.sum c.requires.expression in
-    joined_all c.loop-at.invariant.joined
-    (ap total (drop_all c.loop-at.at (parts_of t) (omega (arith, c.part_count-at-end.ensures, ap (λ (u : Tree). length (parts_of u)) then.same, c.loop-at-test.false))))
+pub returns-in_err-join_row : goal.returns-in_err-join_row
+returns-in_err-join_row c =
+    record {
+      ok = no_answer c.from_residual.result _ c.from_residual.ensures.0;
+      lists = no_answer c.from_residual.result _ c.from_residual.ensures.0;
+      fits = λ h l held k.
+          passed_on c.from_residual.result c.in_err-join_row.field-0.0 IsNoOverflow c.from_residual.ensures.0 c.from_residual.ensures.1
+          (c.in_err-join_row.ensures.fits h l (part_held c.loop-at.invariant.joined (next (goal.at.returns-in_err-join_row c).After-part_at-part) held) k);
+      room = λ ns k n hs ht.
+          let j = c.loop-at.invariant.joined in
+          let all = part_few j (next (goal.at.returns-in_err-join_row c).After-part_at-part) (few_as (few_append ht hs) (let e : n + k ≤ k + n = omega arith in e)) in
+          passed_on c.from_residual.result c.in_err-join_row.field-0.0
+          (OfFull (λ full. free_of c.args.pool.now + size (tree_of c.args.sum.now c.args.pool.now) < sum_bytes ns (k + n))) c.from_residual.ensures.0 c.from_residual.ensures.1
+          (full_as c.in_err-join_row.field-0.0 (c.in_err-join_row.ensures.room ns (k + n) all) (λ full short. joined_lacks (sum_bytes ns (k + n)) j c.requires.stands (given_handed c.requires.sum) short));
+      safe = let j = c.loop-at.invariant.joined in
+          after_one j.kept behind_first j.front (passed c.from_residual.result c.in_err-join_row.field-0.0 c.from_residual.ensures.0 c.from_residual.ensures.1 c.in_err-join_row.ensures.safe);
+    }
 
-pub returns-in_err-join_row-clause-room : goal.returns-in_err-join_row-clause-room
-returns-in_err-join_row-clause-room c = λ ns k n hs ht.
-    let j = c.loop-at.invariant.joined in
-    let all = part_few j (next (goal.at.returns-in_err-join_row-clause-room c).After-part_at-part) (few_as (few_append ht hs) (let e : n + k ≤ k + n = omega arith in e)) in
-    passed_on c.from_residual.result c.in_err-join_row.field-0.0
-    (OfFull (λ full. free_of c.args.pool.now + size (tree_of c.args.sum.now c.args.pool.now) < sum_bytes ns (k + n))) c.from_residual.ensures.0 c.from_residual.ensures.1
-    (full_as c.in_err-join_row.field-0.0 (c.in_err-join_row.ensures.room ns (k + n) all) (λ full short. joined_lacks (sum_bytes ns (k + n)) j c.requires.stands (given_handed c.requires.sum) short))
-
-pub returns-in_err-join_row-clause-fits : goal.returns-in_err-join_row-clause-fits
-returns-in_err-join_row-clause-fits c = λ h l held k.
-    passed_on c.from_residual.result c.in_err-join_row.field-0.0 IsNoOverflow c.from_residual.ensures.0 c.from_residual.ensures.1
-    (c.in_err-join_row.ensures.fits h l (part_held c.loop-at.invariant.joined (next (goal.at.returns-in_err-join_row-clause-fits c).After-part_at-part) held) k)
+pub returns : goal.returns
+returns c =
+    record {
+      ok = let t = plain (tree_at c.args.id (without_root c.args.sum.now (forest c.args.pool.now))) in
+          let then = beside c.requires.sum c.requires.expression in
+          joined_all c.loop-at.invariant.joined
+          (ap total (drop_all c.loop-at.at (parts_of t) (omega (arith, c.part_count-at-end.ensures, ap (λ (u : Tree). length (parts_of u)) then.same, c.loop-at-test.false))));
+      lists = c.loop-at.invariant.lists;
+      fits = λ a b d e. tt;
+      room = λ a b d e f. tt;
+      safe = let j = c.loop-at.invariant.joined in
+          answered j.front j.kept j.stands;
+    }

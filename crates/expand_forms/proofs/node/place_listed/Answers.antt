@@ -1,6 +1,7 @@
-use Rattle.expand_forms.proofs.Shared.{◌<◌, inl, List, length, ap, refl, subst, sym, arith, rules, Name, Term, IsListOf, Polynomial, behind_first, free_of, front_after, front_at, front_same}
+use Rattle.expand_forms.proofs.Shared.{kept_after, ◌<◌, inl, List, length, ap, refl, subst, sym, arith, Name, Term, IsListOf, Polynomial, behind_first, free_of, front_after, front_at, front_same}
 use Rattle.expand_forms.proofs.{Shared.{front_without, given_other, gives_as, gives_without, node_bytes, owned, passed_on}, node.place_listed.Goals.{After-deref_mut}}
 use Rattle.expansions.specs.Named.{names_of}
+use Rattle.expand_forms.proofs.Safety.{beside_all_placing, no_answer, passed_placing, placed}
 use Rattle.expand_forms.proofs.node.place_listed.Goals as goal
 
 -- the terms that are placed
@@ -11,7 +12,7 @@ listed c v l =
 
 pub place_terms-requires : goal.place_terms-requires
 place_terms-requires c = record {
-  stands = search rules;
+  stands = c.requires.stands;
   list = (c.requires.list.0, listed (goal.at.place_terms-requires c).After-deref_mut c.requires.list.0 c.requires.list.1);
   few = omega (arith, ap length c.deref_mut.ensures.value, c.requires.few);
 }
@@ -21,20 +22,25 @@ release-requires-clause-releasable c =
     let given = c.in_ok-answer.ensures.ok c.requires.list.0 (listed (goal.at.release-requires-clause-releasable c).After-deref_mut c.requires.list.0 c.requires.list.1) in
     inl (given_other given c.requires.handed).root
 
-pub returns-in_err-answer-clause-front : goal.returns-in_err-answer-clause-front
-returns-in_err-answer-clause-front c = front_after front_same c.place_terms.ensures.front
+pub returns-in_err-answer : goal.returns-in_err-answer
+returns-in_err-answer c =
+    record {
+      ok = λ a b. no_answer c.from_residual.result _ c.from_residual.ensures.0;
+      room = λ v ns n l h.
+          passed_on c.from_residual.result c.in_err-answer.field-0.0 (λ full. free_of c.args.pool.now < node_bytes ns n) c.from_residual.ensures.0 c.from_residual.ensures.1
+          (omega (arith, c.in_err-answer.ensures.room v ns n (listed (goal.at.returns-in_err-answer c).After-deref_mut v l) h));
+      safe = beside_all_placing (passed_placing c.from_residual.result c.in_err-answer.field-0.0 c.from_residual.ensures.0 c.from_residual.ensures.1 c.in_err-answer.ensures.safe);
+    }
 
-pub returns-in_err-answer-clause-room : goal.returns-in_err-answer-clause-room
-returns-in_err-answer-clause-room c = λ v ns n l h.
-    passed_on c.from_residual.result c.in_err-answer.field-0.0 (λ full. free_of c.args.pool.now < node_bytes ns n) c.from_residual.ensures.0 c.from_residual.ensures.1
-    (omega (arith, c.in_err-answer.ensures.room v ns n (listed (goal.at.returns-in_err-answer-clause-room c).After-deref_mut v l) h))
-
-pub returns-clause-ok : goal.returns-clause-ok
-returns-clause-ok c = λ v l.
-    let given = c.in_ok-answer.ensures.ok v (listed (goal.at.returns-clause-ok c).After-deref_mut v l) in
-    gives_as (gives_without c.args.tree given c.requires.handed.root (c.release.ensures.owned (owned (given_other given c.requires.handed)))) refl (λ t e. e)
-
-pub returns-clause-front : goal.returns-clause-front
-returns-clause-front c =
-    let given = c.in_ok-answer.ensures.ok c.requires.list.0 (listed (goal.at.returns-clause-front c).After-deref_mut c.requires.list.0 c.requires.list.1) in
-    front_at (front_without behind_first (front_after front_same c.place_terms.ensures.front)) (c.release.ensures.owned (owned (given_other given c.requires.handed)))
+pub returns : goal.returns
+returns c =
+    record {
+      ok = λ v l.
+          let given = c.in_ok-answer.ensures.ok v (listed (goal.at.returns c).After-deref_mut v l) in
+          gives_as (gives_without c.args.tree given c.requires.handed.root (c.release.ensures.owned (owned (given_other given c.requires.handed)))) refl (λ t e. e);
+      room = λ a b d e f. tt;
+      safe = let s = c.in_ok-answer.ensures.safe in
+          let given = c.in_ok-answer.ensures.ok c.requires.list.0 (listed (goal.at.returns c).After-deref_mut c.requires.list.0 c.requires.list.1) in
+          placed (front_at (front_without behind_first (front_after front_same s.front)) (c.release.ensures.owned (owned (given_other given c.requires.handed))))
+          (kept_after s.kept c.release.ensures.kept) c.release.ensures.stands;
+    }

@@ -1,4 +1,4 @@
-use Rattle.expand_forms.proofs.Shared.{rules, ◌≡◌, ◌<◌, ◌+◌, ◌-◌, ◌∙◌, ℕ, ap, refl, sym, subst, arith, ◌≤◌, ◌*◌, length, AreExpanded, Tree, count, has_polynomial_root, mult, names, one_value}
+use Rattle.expand_forms.proofs.Shared.{◌≡◌, ◌<◌, ◌+◌, ◌-◌, ◌∙◌, ℕ, ap, refl, sym, subst, arith, ◌≤◌, ◌*◌, length, AreExpanded, Tree, count, has_polynomial_root, mult, names, one_value}
 use Rattle.expand_forms.proofs.Shared.{expanded, product_of, polynomial_of, IsExpanded, gives_rest, kept_after, IsExpression, children_of, nth, plain, Forest, tree_at, without_root, forest}
 use Rattle.expand_forms.proofs.Shared.{behind_new, front_after_one, front_same, given_handed, given_rest, given_told, gives_as, node_bytes, sum_bytes, free_of, OfFull, passed_on, full_as, Polynomial}
 use Rattle.expand_forms.proofs.Shared.{given_free, IsHeld, has_factors, multiplied, number_refused, answer_few, answer_size, terms_rise, product_length, tree_monomials, answer_held, held_product}
@@ -6,6 +6,7 @@ use Rattle.expand_forms.proofs.{NodeAnswers.{empty_product, next_product, produc
 use Rattle.expand_forms.proofs.{NodeChildren.{expanded_nth}, Nodes.{from}, TermReadings.{beside}, Within.{IsWithin, within}, NodeRooms.{expanded_from, rest_product, some_product}}
 use Rattle.expand_forms.proofs.{NodeBits.{together_next}, node.place_products.Goals.{After-factor_id}}
 use Rattle.tree_handles.specs.declared.fault.NumberFault.TheVariants as fault
+use Rattle.expand_forms.proofs.Safety.{after_one, answered, fits_full, no_answer, refused}
 use Rattle.expand_forms.proofs.node.place_products.Goals as goal
 
 pub factor_number-left-requires : goal.factor_number-left-requires
@@ -53,7 +54,7 @@ pub times-requires : goal.times-requires
 times-requires c =
     let ts = multiplied (plain (tree_at c.args.id (forest c.args.pool.now))) in
     record {
-      stands = search rules;
+      stands = c.loop-left.invariant.stands;
       second = given_handed c.loop-left.invariant.given;
       first = subst (IsExpression c.factor_id.result) (sym (given_rest c.loop-left.invariant.given)) (factor_within (goal.at.times-requires c).After-factor_id).expression;
       first_expanded = let j = c.loop-left.invariant in subst (λ (f : Forest). IsExpanded (plain (tree_at c.factor_id.result f))) (sym (given_rest j.given))
@@ -74,9 +75,9 @@ loop-left-preserved c =
       given = gives_as c.in-Ok.ensures.ok r (λ t e. next_product n ts (omega (arith, j.within, c.loop-left-test.true))
           ((λ i. plain (tree_at c.factor_id.result (r i))) ∙ factor_is (goal.at.loop-left-preserved c).After-factor_id) told e);
       within = omega (arith, j.within);
-      front = front_after_one (behind_new j.given.ends front_same) j.front c.times.ensures.front;
-      kept = kept_after j.kept c.in-Ok.ensures.kept;
-      stands = c.in-Ok.ensures.stands;
+      front = front_after_one (behind_new j.given.ends front_same) j.front c.times.ensures.safe.front;
+      kept = kept_after j.kept c.in-Ok.ensures.safe.kept;
+      stands = c.in-Ok.ensures.safe.stands;
     }
 
 pub returns-in-Err : goal.returns-in-Err
@@ -85,11 +86,8 @@ returns-in-Err c =
     let at = c.loop-left.left - 1 in
     let next : c.loop-left.left ≡ at + 1 = omega (arith, c.loop-left-test.true) in
     record {
-      ok = search rules;
-      front = front_after_one (behind_new j.given.ends front_same) j.front c.times.ensures.front;
-      kept = search rules;
-      faults = search rules;
-      caused = search rules;
+      ok = tt;
+      safe = after_one j.kept (behind_new j.given.ends front_same) j.front c.in-Err.ensures.safe;
       fits = λ h l x k. let inv = c.loop-left.invariant in let ts = multiplied (plain (tree_at c.args.id (forest c.args.pool.now))) in let
           (i, j, p, q, y, z, m, n) = together_next at ts
           (omega (arith, inv.within, c.loop-left-test.true)) x in let child = (λ i. plain (tree_at c.factor_id.result (given_rest inv.given i))) ∙ factor_is
@@ -101,21 +99,32 @@ returns-in-Err c =
           (from c.loop-left.left ts) in let child = (λ i. plain (tree_at c.factor_id.result (given_rest j.given i)))
           ∙ factor_is (goal.at.returns-in-Err c).After-factor_id in let some = some_product (from c.loop-left.left ts)
           (expanded_from c.loop-left.left ts (multiplied_expanded t c.requires.children)) in let one = few_factor at h child in let rest = few_rest c.loop-left.left h in let monomials = tree_monomials (mult (from c.loop-left.left ts)) in let lacks = c.in-Err.ensures.room ns (length (polynomial_of (plain (tree_at c.factor_id.result (without_root c.loop-left.product (forest c.loop-left.pool)))))) (length v) one (answer_few monomials (given_told j.given) rest some) in let most = answer_size monomials (given_told j.given) rest some in let all : length (product_of ts) ≤ n = omega (arith, l, ap (λ (x : Polynomial). length x) (multiplied_product t c.requires.factors)) in let whole_product : length (polynomial_of (plain (tree_at c.factor_id.result (without_root c.loop-left.product (forest c.loop-left.pool))))) * length v ≡ length (product_of (from at ts)) = ap (λ (u : Tree). length (polynomial_of u) * length v) child ∙ ap (λ (k : ℕ). length (polynomial_of (nth at ts)) * length (product_of (from k ts))) next ∙ sym (product_length (polynomial_of (nth at ts)) (product_of (from (at + 1) ts))) ∙ sym (ap (λ (x : Polynomial). length x) (product_from at ts (omega (arith, j.within, c.loop-left-test.true)))) in let free = given_free c.requires.stands j.stands j.kept j.given in full_as c.in-Err.fault lacks (λ full few. omega (arith, free, most, terms_rise ns (length v) n (omega (arith, rest_product c.loop-left.left ts (multiplied_expanded t c.requires.children), all)), terms_rise ns (length (product_of (from at ts))) n (omega (arith, rest_product at ts (multiplied_expanded t c.requires.children), all)), ap (λ (k : ℕ). sum_bytes ns k) whole_product, few));
-      stands = search rules;
     }
-
-pub returns-clause-ok : goal.returns-clause-ok
-returns-clause-ok c =
-    let t = plain (tree_at c.args.id (forest c.args.pool.now)) in
-    let none : c.loop-left.left ≡ 0 = omega (arith, c.loop-left-test.false) in
-    gives_as c.loop-left.invariant.given refl (λ u e. e ∙ ap (λ (k : ℕ). expanded (product_of (from k (multiplied t)))) none ∙ ap expanded (multiplied_product t c.requires.factors))
 
 -- ---- few bytes
 
-pub returns-in_err-product-clause-room : goal.returns-in_err-product-clause-room
-returns-in_err-product-clause-room c = λ whole n h l.
-    passed_on c.from_residual.result (fault.Full c.in_err-product.field-0.0)
-    (OfFull (λ full. free_of c.args.pool.now < node_bytes (names whole) n)) c.from_residual.ensures.0 c.from_residual.ensures.1
-    (omega (arith, number_refused c.whole.result c.in_err-product.ensures.full))
-
 -- ---- what fits
+
+pub returns-in_err-product : goal.returns-in_err-product
+returns-in_err-product c =
+    record {
+      ok = no_answer c.from_residual.result _ c.from_residual.ensures.0;
+      fits = λ a b d e. fits_full c.from_residual.result c.in_err-product.field-0.0 _ c.from_residual.ensures.0 c.from_residual.ensures.1;
+      room = λ whole n h l.
+          passed_on c.from_residual.result (fault.Full c.in_err-product.field-0.0)
+          (OfFull (λ full. free_of c.args.pool.now < node_bytes (names whole) n)) c.from_residual.ensures.0 c.from_residual.ensures.1
+          (omega (arith, number_refused c.whole.result c.in_err-product.ensures.full));
+      safe = refused c.from_residual.result c.in_err-product.field-0.0 c.from_residual.ensures.0 c.from_residual.ensures.1 c.in_err-product.ensures.full c.in_err-product.ensures.stands;
+    }
+
+pub returns : goal.returns
+returns c =
+    record {
+      ok = let t = plain (tree_at c.args.id (forest c.args.pool.now)) in
+          let none : c.loop-left.left ≡ 0 = omega (arith, c.loop-left-test.false) in
+          gives_as c.loop-left.invariant.given refl (λ u e. e ∙ ap (λ (k : ℕ). expanded (product_of (from k (multiplied t)))) none ∙ ap expanded (multiplied_product t c.requires.factors));
+      fits = λ a b d e. tt;
+      room = λ a b d e. tt;
+      safe = let j = c.loop-left.invariant in
+          answered j.front j.kept j.stands;
+    }

@@ -28,9 +28,9 @@ returns-then-not-is_polynomial t c =
 
 pub loop-child-preserved : goal.loop-child-preserved
 loop-child-preserved t c =
+    let more : suc (length c.loop-child.yielded) ≡ length (c.loop-child.yielded ++ c.in-Some.child ∷ []) = omega (arith, length-append c.loop-child.yielded (c.in-Some.child ∷ [])) in
     let n = next_child c.requires.stands c.requires.expression c.loop-child.invariant.ids c.in-Some.ensures.steps in
     let ts = children_of (plain (tree_at c.args.tree (forest c.args.pool.now))) in
-    let more : suc (length c.loop-child.yielded) ≡ length (c.loop-child.yielded ++ c.in-Some.child ∷ []) = omega (arith, length-append c.loop-child.yielded (c.in-Some.child ∷ [])) in
     let this : is_polynomial (nth (length c.loop-child.yielded) ts) ≡ true = ap is_polynomial (sym n.tree) ∙ sym c.is_polynomial.ensures ∙ c.if-not-is_polynomial.false in
     record {
       ids = n.left-are ∙ ap (λ (k : ℕ). root_ids (rest_trees k (kids_of c.args.tree (forest c.args.pool.now)))) more;

@@ -4,6 +4,7 @@ use Rattle.expand_forms.proofs.Shared.{has_power_of_sum, is_power_of_sum, MayLac
 use Rattle.expand_forms.proofs.{Shared.{children_told, front_again, keeps_after, live}, Nodes.{from}, PowersOfSums.{none_behind, one_more_behind, over_expanded, over_set, raised_behind}}
 use Rattle.tree_handles.proofs.SmallLaws.{replaced_count as count_set}
 use Rattle.expand_forms.proofs.{PowersOfSums.{set_children}, powers_of_sums.raise_powers.Goals.{After-child_id}}
+use Rattle.expand_forms.proofs.Safety.{answered, no_answer, passed, then_safe}
 use Rattle.expand_forms.proofs.powers_of_sums.raise_powers.Goals as goal
 
 pub children-left-requires-clause-live : goal.children-left-requires-clause-live
@@ -84,8 +85,8 @@ loop-left-preserved c =
     let v = polynomial_of (nth (n k) (children_of (now k))) in
     let below = ap children_of ok.tree ∙ set_children o.whole (now k) (n k) (expanded v) (i.over o.whole o.taken o.over) (within k) in
     record {
-      stands = c.in_ok-raise_power.ensures.stands;
-      kept = keeps_after _ _ _ i.kept c.in_ok-raise_power.ensures.kept;
+      stands = c.in_ok-raise_power.ensures.safe.stands;
+      kept = keeps_after _ _ _ i.kept c.in_ok-raise_power.ensures.safe.kept;
       changed = changes_after i.changed (changes_as ok (sym ok.tree));
       over = λ whole p x. subst (IsOverReady whole) (sym ok.tree) (over_set whole (now k) (n k) (i.over whole p x) (within k) h);
       within = omega (arith, within k, ap count below, count_set (n k) (expanded v) (children_of (now k)));
@@ -108,26 +109,24 @@ returns c =
     let raised = subst (λ (k : ℕ). has_power_of_sum (from k (children_of (tree_of c.args.tree c.loop-left.pool))) ≡ false) none i.raised in
     record {
       ok = λ whole p o. changes_last i.changed c.move_last.ensures.last (over_expanded (i.over whole p o) raised);
-      front = changes_last_front i.changed c.move_last.ensures.last;
-      kept = keeps_after _ _ _ i.kept c.move_last.ensures.kept;
-      faults = tt;
-      caused = tt;
+      safe = answered (changes_last_front i.changed c.move_last.ensures.last) (keeps_after _ _ _ i.kept c.move_last.ensures.kept) c.move_last.ensures.stands;
       fits = λ whole p o. tt;
       room = λ whole p o. tt;
-      stands = c.move_last.ensures.stands;
     }
 
-pub returns-in_err-raise_power-clause-front : goal.returns-in_err-raise_power-clause-front
-returns-in_err-raise_power-clause-front c = front_again (changes_front c.loop-left.invariant.changed) c.raise_power.ensures.front
-
-pub returns-in_err-raise_power-clause-fits : goal.returns-in_err-raise_power-clause-fits
-returns-in_err-raise_power-clause-fits c = λ whole p o.
-    passed_on c.from_residual.result c.in_err-raise_power.field-0.0 (OfOverflow (λ v. 124 < most_bits whole)) c.from_residual.ensures.0 c.from_residual.ensures.1
-    (c.in_err-raise_power.ensures.fits whole p (c.loop-left.invariant.over whole p o))
-
-pub returns-in_err-raise_power-clause-room : goal.returns-in_err-raise_power-clause-room
-returns-in_err-raise_power-clause-room c = λ whole p o.
-    let i = c.loop-left.invariant in
-    let free = changes_free c.requires.stands i.stands i.kept c.requires.handed i.changed in
-    passed_on c.from_residual.result c.in_err-raise_power.field-0.0 (OfFull (λ full. MayLack whole (free_of c.args.pool.now + size (tree_of c.args.tree c.args.pool.now)))) c.from_residual.ensures.0 c.from_residual.ensures.1
-    (full_as c.in_err-raise_power.field-0.0 (c.in_err-raise_power.ensures.room whole p (i.over whole p o)) (λ full l. omega (arith, l, free)))
+pub returns-in_err-raise_power : goal.returns-in_err-raise_power
+returns-in_err-raise_power c =
+    record {
+      ok = λ a b d. no_answer c.from_residual.result _ c.from_residual.ensures.0;
+      fits = λ whole p o.
+          passed_on c.from_residual.result c.in_err-raise_power.field-0.0 (OfOverflow (λ v. 124 < most_bits whole)) c.from_residual.ensures.0 c.from_residual.ensures.1
+          (c.in_err-raise_power.ensures.fits whole p (c.loop-left.invariant.over whole p o));
+      room = λ whole p o.
+          let i = c.loop-left.invariant in
+          let free = changes_free c.requires.stands i.stands i.kept c.requires.handed i.changed in
+          passed_on c.from_residual.result c.in_err-raise_power.field-0.0 (OfFull (λ full. MayLack whole (free_of c.args.pool.now + size (tree_of c.args.tree c.args.pool.now)))) c.from_residual.ensures.0 c.from_residual.ensures.1
+          (full_as c.in_err-raise_power.field-0.0 (c.in_err-raise_power.ensures.room whole p (i.over whole p o)) (λ full l. omega (arith, l, free)));
+      safe = let i = c.loop-left.invariant in
+          let s = c.in_err-raise_power.ensures.safe in
+          then_safe i.kept (front_again (changes_front i.changed) s.front) (passed c.from_residual.result c.in_err-raise_power.field-0.0 c.from_residual.ensures.0 c.from_residual.ensures.1 s);
+    }

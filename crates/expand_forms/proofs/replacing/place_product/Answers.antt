@@ -1,6 +1,7 @@
-use Rattle.expand_forms.proofs.Shared.{rules, ◌<◌, ◌+◌, ◌∙◌, length, refl, sym, arith, value_of, Monomial, term_bytes, free_of, passed_on, forest, front_end, front_same, AreRead, node_free}
+use Rattle.expand_forms.proofs.Shared.{front_after, kept_after, ◌<◌, ◌+◌, ◌∙◌, length, refl, sym, arith, value_of, Monomial, term_bytes, free_of, passed_on, forest, front_end, front_same, AreRead, node_free}
 use Rattle.expand_forms.proofs.{Shared.{number_refused}, AddedTrees.{adds_free, adopts, can_adopt}, PlacedFactors.{IsLed, IsPlaced, led_all, led_none, led_number}}
 use Rattle.expand_forms.proofs.replacing.place_product.Goals.{In_ok-placed, Joined-not-is_one, then-not-is_one+in_ok-_number, else-not-is_one}
+use Rattle.expand_forms.proofs.Safety.{after_placing, no_answer, passed_placing, placed as all_placed, refused_placing}
 use Rattle.expand_forms.proofs.replacing.place_product.Goals as goal
 
 -- the coefficient
@@ -23,33 +24,50 @@ adopt-requires c =
     let (m, h) = c.requires.monomial in
     let p = placed (goal.at.adopt-requires c).In_ok-placed m h in
     let a = can_adopt c.in_ok-product.ensures.ok p.adds p.many in
-    record { stands = search rules; root = a.root; within = a.within }
+    record { stands = c.in_ok-placed.ensures.safe.stands; root = a.root; within = a.within }
 
-pub returns-clause-ok : goal.returns-clause-ok
-returns-clause-ok c = λ m h.
-    let p = placed (goal.at.returns-clause-ok c).In_ok-placed m h in
-    adopts c.in_ok-product.ensures.ok p.adds p.many refl c.adopt.ensures.forest
+pub returns : goal.returns
+returns c =
+    record {
+      ok = λ m h.
+          let p = placed (goal.at.returns c).In_ok-placed m h in
+          adopts c.in_ok-product.ensures.ok p.adds p.many refl c.adopt.ensures.forest;
+      room = tt;
+      safe = let (m, h) = c.requires.monomial in
+          let p = placed (goal.at.returns c).In_ok-placed m h in
+          let l = led (goal.at.returns c).Joined-not-is_one in
+          all_placed (front_end (adopts c.in_ok-product.ensures.ok p.adds p.many refl c.adopt.ensures.forest).ends front_same)
+          (kept_after (kept_after c.in_ok-product.ensures.kept l.kept) (kept_after c.in_ok-placed.ensures.safe.kept c.adopt.ensures.kept)) c.adopt.ensures.stands;
+    }
 
-pub returns-clause-front : goal.returns-clause-front
-returns-clause-front c =
-    let (m, h) = c.requires.monomial in
-    let p = placed (goal.at.returns-clause-front c).In_ok-placed m h in
-    front_end (adopts c.in_ok-product.ensures.ok p.adds p.many refl c.adopt.ensures.forest).ends front_same
+pub returns-in_err-product-clause-safe : goal.returns-in_err-product-clause-safe
+returns-in_err-product-clause-safe c = refused_placing c.from_residual.result c.in_err-product.field-0.0 c.from_residual.ensures.0 c.from_residual.ensures.1 c.in_err-product.ensures.full c.in_err-product.ensures.stands
 
 -- ---- few bytes
 
-pub returns-in_err-_number-clause-room : goal.returns-in_err-_number-clause-room
-returns-in_err-_number-clause-room c =
-    let free = node_free c.requires.stands c.in_ok-product.ensures.stands c.in_ok-product.ensures.kept c.in_ok-product.ensures.ok in
-    passed_on c.from_residual-in_err-_number.result c.in_err-_number.field-0.0
-    (λ full. free_of c.args.pool.now < term_bytes (length c.args.factors.now)) c.from_residual-in_err-_number.ensures.0 c.from_residual-in_err-_number.ensures.1
-    (omega (arith, free, number_refused c.args.coefficient c.in_err-_number.ensures.full))
+pub returns-in_err-_number : goal.returns-in_err-_number
+returns-in_err-_number c =
+    record {
+      ok = λ a b. no_answer c.from_residual-in_err-_number.result _ c.from_residual-in_err-_number.ensures.0;
+      room = let free = node_free c.requires.stands c.in_ok-product.ensures.stands c.in_ok-product.ensures.kept c.in_ok-product.ensures.ok in
+          passed_on c.from_residual-in_err-_number.result c.in_err-_number.field-0.0
+          (λ full. free_of c.args.pool.now < term_bytes (length c.args.factors.now)) c.from_residual-in_err-_number.ensures.0 c.from_residual-in_err-_number.ensures.1
+          (omega (arith, free, number_refused c.args.coefficient c.in_err-_number.ensures.full));
+      safe = after_placing c.in_ok-product.ensures.kept c.node.ensures.front
+          (refused_placing c.from_residual-in_err-_number.result c.in_err-_number.field-0.0 c.from_residual-in_err-_number.ensures.0 c.from_residual-in_err-_number.ensures.1 c.in_err-_number.ensures.full c.in_err-_number.ensures.stands);
+    }
 
-pub returns-in_err-placed-clause-room : goal.returns-in_err-placed-clause-room
-returns-in_err-placed-clause-room c =
-    let l = led (goal.at.returns-in_err-placed-clause-room c).Joined-not-is_one in
-    let free = node_free c.requires.stands c.in_ok-product.ensures.stands c.in_ok-product.ensures.kept c.in_ok-product.ensures.ok in
-    let left = adds_free c.in_ok-product.ensures.stands l.stands l.kept l.adds in
-    passed_on c.from_residual-in_err-placed.result c.in_err-placed.field-0.0
-    (λ full. free_of c.args.pool.now < term_bytes (length c.args.factors.now)) c.from_residual-in_err-placed.ensures.0 c.from_residual-in_err-placed.ensures.1
-    (omega (arith, free, left, l.most, c.in_err-placed.ensures.room))
+pub returns-in_err-placed : goal.returns-in_err-placed
+returns-in_err-placed c =
+    record {
+      ok = λ a b. no_answer c.from_residual-in_err-placed.result _ c.from_residual-in_err-placed.ensures.0;
+      room = let l = led (goal.at.returns-in_err-placed c).Joined-not-is_one in
+          let free = node_free c.requires.stands c.in_ok-product.ensures.stands c.in_ok-product.ensures.kept c.in_ok-product.ensures.ok in
+          let left = adds_free c.in_ok-product.ensures.stands l.stands l.kept l.adds in
+          passed_on c.from_residual-in_err-placed.result c.in_err-placed.field-0.0
+          (λ full. free_of c.args.pool.now < term_bytes (length c.args.factors.now)) c.from_residual-in_err-placed.ensures.0 c.from_residual-in_err-placed.ensures.1
+          (omega (arith, free, left, l.most, c.in_err-placed.ensures.room));
+      safe = let l = led (goal.at.returns-in_err-placed c).Joined-not-is_one in
+          after_placing (kept_after c.in_ok-product.ensures.kept l.kept) (front_after c.node.ensures.front l.front)
+          (passed_placing c.from_residual-in_err-placed.result c.in_err-placed.field-0.0 c.from_residual-in_err-placed.ensures.0 c.from_residual-in_err-placed.ensures.1 c.in_err-placed.ensures.safe);
+    }
