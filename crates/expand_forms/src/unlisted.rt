@@ -1,7 +1,7 @@
 //! Why the terms of a polynomial are not listed.
 
 /// What does not fit into a list of terms, so that other means have to serve.
-#[derive(Clone, Copy, Debug)]
+#[derive(Clone, Copy)]
 pub(crate) enum Unlisted {
     /// There are more names than a packed monomial has.
     Names,

@@ -1,8 +1,8 @@
-use Rattle.expand_forms.proofs.Shared.{inl, rules, kept_after, kept_same, ◌≡◌, ◌<◌, ◌∙◌, Bool, ap, refl, subst, sym, if◌then◌else◌, is_zero_fraction, value_of, add, count, is_mult, more, none, Lists, term_tree, summand}
+use Rattle.expand_forms.proofs.Shared.{passed_on, inl, rules, kept_after, kept_same, ◌≡◌, ◌<◌, ◌∙◌, Bool, ap, refl, subst, sym, if◌then◌else◌, is_zero_fraction, value_of, add, count, is_mult, more, none, Lists, term_tree, summand}
 use Rattle.expand_forms.proofs.Shared.{removed, children_of, inserted, plain, Forest, tree_of, root_tree, without_root, behind_first, behind_later, behind_new, front_after_one, front_after_two}
 use Rattle.expand_forms.proofs.Shared.{front_at, front_same, front_without, given_handed, given_rest, given_root, given_same, given_told, gives_as, owned, lists_behind}
 use Rattle.expand_forms.proofs.{ListedTerms.{lists_before}, Sums.{sum_still}}
-use Rattle.expand_forms.proofs.Safety.{passed_placing, placed, then_placing}
+use Rattle.expand_forms.proofs.Safety.{no_answer, passed_placing, placed, then_placing}
 use Rattle.expand_forms.proofs.adding.replace.Goals as goal
 
 pub remove_child-requires : goal.remove_child-requires
@@ -65,10 +65,15 @@ returns g c =
           (front_after_one (behind_later behind_first) front_same s.front) c.exchange_child.ensures.front) (kept_after s.kept c.exchange_child.ensures.kept) c.exchange_child.ensures.stands;
     }
 
-pub returns-in_err-term-clause-safe : goal.returns-in_err-term-clause-safe
-returns-in_err-term-clause-safe g c =
+pub returns-in_err-term : goal.returns-in_err-term
+returns-in_err-term g c =
     let s = c.in_err-term.ensures.safe in
-    then_placing (kept_same c.args.pool.now) (front_after_one (behind_later behind_first) front_same s.front) (passed_placing c.from_residual.result c.in_err-term.field-0.0 c.from_residual.ensures.0 c.from_residual.ensures.1 s)
+    record {
+      ok = λ m e. no_answer c.from_residual.result _ c.from_residual.ensures.0;
+      lists = no_answer c.from_residual.result _ c.from_residual.ensures.0;
+      room = passed_on c.from_residual.result c.in_err-term.field-0.0 _ c.from_residual.ensures.0 c.from_residual.ensures.1 c.in_err-term.ensures.room;
+      safe = then_placing (kept_same c.args.pool.now) (front_after_one (behind_later behind_first) front_same s.front) (passed_placing c.from_residual.result c.in_err-term.field-0.0 c.from_residual.ensures.0 c.from_residual.ensures.1 s);
+    }
 
 pub release-requires-clause-releasable : goal.release-requires-clause-releasable
 release-requires-clause-releasable g c = inl (given_root c.requires.product.1)

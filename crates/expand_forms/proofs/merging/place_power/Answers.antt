@@ -19,8 +19,14 @@ returns c =
           (kept_after (kept_after c.in_ok-power.ensures.kept c.in_ok-_base.ensures.kept) (kept_after c.in_ok-_exponent.ensures.kept c.adopt.ensures.kept)) c.adopt.ensures.stands;
     }
 
-pub returns-in_err-power-clause-safe : goal.returns-in_err-power-clause-safe
-returns-in_err-power-clause-safe c = refused_placing c.from_residual.result c.in_err-power.field-0.0 c.from_residual.ensures.0 c.from_residual.ensures.1 c.in_err-power.ensures.full c.in_err-power.ensures.stands
+pub returns-in_err-power : goal.returns-in_err-power
+returns-in_err-power c =
+    let few : free_of c.args.pool.now < 8 = refused_below c.in_err-power.ensures.full in
+    record {
+      ok = no_answer c.from_residual.result _ c.from_residual.ensures.0;
+      room = passed_on c.from_residual.result c.in_err-power.field-0.0 (λ full. free_of c.args.pool.now < factor_bytes) c.from_residual.ensures.0 c.from_residual.ensures.1 (omega (arith, few));
+      safe = refused_placing c.from_residual.result c.in_err-power.field-0.0 c.from_residual.ensures.0 c.from_residual.ensures.1 c.in_err-power.ensures.full c.in_err-power.ensures.stands;
+    }
 
 -- ---- few bytes
 

@@ -1,7 +1,7 @@
-use Rattle.expand_forms.proofs.Shared.{given_root, kept_after, ◌≡◌, ◌≤◌, ◌∙◌, ap, refl, sym, subst, product_tree, value_of, Tree, count, is_mult, mult, many_factors, expression, seen, led_by, children_of}
+use Rattle.expand_forms.proofs.Shared.{passed_on, given_root, kept_after, ◌≡◌, ◌≤◌, ◌∙◌, ap, refl, sym, subst, product_tree, value_of, Tree, count, is_mult, mult, many_factors, expression, seen, led_by, children_of}
 use Rattle.expand_forms.proofs.Shared.{tree_of, behind_first, behind_new, front_after_one, front_same, front_without, given_handed, given_rest, given_told, gives_as, live}
 use Rattle.expand_forms.proofs.TermReadings.{led_some, led_term}
-use Rattle.expand_forms.proofs.Safety.{passed_placing, placed}
+use Rattle.expand_forms.proofs.Safety.{no_answer, passed_placing, placed}
 use Rattle.expand_forms.proofs.monomials.completed.Goals as goal
 
 pub children-requires-clause-live : goal.children-requires-clause-live
@@ -29,8 +29,12 @@ returns-then-children-eq1 c =
           (kept_after s.kept c.unwrapped.ensures.kept) c.unwrapped.ensures.stands;
     }
 
-pub returns-in_err-led-clause-safe : goal.returns-in_err-led-clause-safe
-returns-in_err-led-clause-safe c = passed_placing c.from_residual.result c.in_err-led.field-0.0 c.from_residual.ensures.0 c.from_residual.ensures.1 c.in_err-led.ensures.safe
+pub returns-in_err-led : goal.returns-in_err-led
+returns-in_err-led c = record {
+  ok = λ m e. no_answer c.from_residual.result _ c.from_residual.ensures.0;
+  room = passed_on c.from_residual.result c.in_err-led.field-0.0 _ c.from_residual.ensures.0 c.from_residual.ensures.1 c.in_err-led.ensures.room;
+  safe = passed_placing c.from_residual.result c.in_err-led.field-0.0 c.from_residual.ensures.0 c.from_residual.ensures.1 c.in_err-led.ensures.safe;
+}
 
 pub returns : goal.returns
 returns c =

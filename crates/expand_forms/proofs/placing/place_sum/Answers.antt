@@ -1,4 +1,4 @@
-use Rattle.expand_forms.proofs.Shared.{◌<◌, ◌+◌, ◌∙◌, length, refl, sym, ap, arith, eq-eqb, eqb-true, num, free_of, number_bytes, sum_bytes, passed_on, refusal_as, gives_as, front_end, front_same}
+use Rattle.expand_forms.proofs.Shared.{refused_below, ◌<◌, ◌+◌, ◌∙◌, length, refl, sym, ap, arith, eq-eqb, eqb-true, num, free_of, number_bytes, sum_bytes, passed_on, refusal_as, gives_as, front_end, front_same}
 use Rattle.expand_forms.proofs.{Shared.{kept_after, if_ok_map, node_free, zero_value}, AddedTrees.{can_adopt, adopts}, PlacedTerms.{all_count, next_lacks, sum_more, sum_none, sum_one}}
 use Rattle.expansions.specs.Named.{names_of}
 use Rattle.expand_forms.proofs.Safety.{after_placing, no_answer, one_placed, passed_placing, placed, refused_placing}
@@ -40,8 +40,15 @@ returns c =
 pub returns-then-is_empty-clause-safe : goal.returns-then-is_empty-clause-safe
 returns-then-is_empty-clause-safe c = one_placed _ c.number.result c.number.ensures.kept c.number.ensures.full c.number.ensures.front c.number.ensures.stands
 
-pub returns-in_err-sum-clause-safe : goal.returns-in_err-sum-clause-safe
-returns-in_err-sum-clause-safe c = refused_placing c.from_residual.result c.in_err-sum.field-0.0 c.from_residual.ensures.0 c.from_residual.ensures.1 c.in_err-sum.ensures.full c.in_err-sum.ensures.stands
+pub returns-in_err-sum : goal.returns-in_err-sum
+returns-in_err-sum c =
+    let few : free_of c.args.pool.now < 8 = refused_below c.in_err-sum.ensures.full in
+    record {
+      ok = no_answer c.from_residual.result _ c.from_residual.ensures.0;
+      room = λ ns m h. passed_on c.from_residual.result c.in_err-sum.field-0.0
+          (λ full. free_of c.args.pool.now < number_bytes + sum_bytes ns (length c.args.terms.now)) c.from_residual.ensures.0 c.from_residual.ensures.1 (omega (arith, few));
+      safe = refused_placing c.from_residual.result c.in_err-sum.field-0.0 c.from_residual.ensures.0 c.from_residual.ensures.1 c.in_err-sum.ensures.full c.in_err-sum.ensures.stands;
+    }
 
 pub returns-in_err-placed : goal.returns-in_err-placed
 returns-in_err-placed c =

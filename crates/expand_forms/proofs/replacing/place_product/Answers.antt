@@ -1,4 +1,4 @@
-use Rattle.expand_forms.proofs.Shared.{front_after, kept_after, ◌<◌, ◌+◌, ◌∙◌, length, refl, sym, arith, value_of, Monomial, term_bytes, free_of, passed_on, forest, front_end, front_same, AreRead, node_free}
+use Rattle.expand_forms.proofs.Shared.{refused_below, front_after, kept_after, ◌<◌, ◌+◌, ◌∙◌, length, refl, sym, arith, value_of, Monomial, term_bytes, free_of, passed_on, forest, front_end, front_same, AreRead, node_free}
 use Rattle.expand_forms.proofs.{Shared.{number_refused}, AddedTrees.{adds_free, adopts, can_adopt}, PlacedFactors.{IsLed, IsPlaced, led_all, led_none, led_number}}
 use Rattle.expand_forms.proofs.replacing.place_product.Goals.{In_ok-placed, Joined-not-is_one, then-not-is_one+in_ok-_number, else-not-is_one}
 use Rattle.expand_forms.proofs.Safety.{after_placing, no_answer, passed_placing, placed as all_placed, refused_placing}
@@ -40,8 +40,15 @@ returns c =
           (kept_after (kept_after c.in_ok-product.ensures.kept l.kept) (kept_after c.in_ok-placed.ensures.safe.kept c.adopt.ensures.kept)) c.adopt.ensures.stands;
     }
 
-pub returns-in_err-product-clause-safe : goal.returns-in_err-product-clause-safe
-returns-in_err-product-clause-safe c = refused_placing c.from_residual.result c.in_err-product.field-0.0 c.from_residual.ensures.0 c.from_residual.ensures.1 c.in_err-product.ensures.full c.in_err-product.ensures.stands
+pub returns-in_err-product : goal.returns-in_err-product
+returns-in_err-product c =
+    let few : free_of c.args.pool.now < 8 = refused_below c.in_err-product.ensures.full in
+    record {
+      ok = λ m h. no_answer c.from_residual.result _ c.from_residual.ensures.0;
+      room = passed_on c.from_residual.result c.in_err-product.field-0.0
+          (λ full. free_of c.args.pool.now < term_bytes (length c.args.factors.now)) c.from_residual.ensures.0 c.from_residual.ensures.1 (omega (arith, few));
+      safe = refused_placing c.from_residual.result c.in_err-product.field-0.0 c.from_residual.ensures.0 c.from_residual.ensures.1 c.in_err-product.ensures.full c.in_err-product.ensures.stands;
+    }
 
 -- ---- few bytes
 

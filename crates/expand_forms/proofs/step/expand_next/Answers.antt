@@ -116,5 +116,10 @@ returns-then-expand_values c =
       safe = answer_of c.in_ok-place_listed.ensures.safe;
     }
 
-pub returns-in_err-raised-clause-safe : goal.returns-in_err-raised-clause-safe
-returns-in_err-raised-clause-safe c = passed c.from_residual-in_err-raised.result c.in_err-raised.field-0.0 c.from_residual-in_err-raised.ensures.0 c.from_residual-in_err-raised.ensures.1 c.in_err-raised.ensures.safe
+pub returns-in_err-raised : goal.returns-in_err-raised
+returns-in_err-raised c = record {
+  ok = λ whole p o. no_answer c.from_residual-in_err-raised.result _ c.from_residual-in_err-raised.ensures.0;
+  fits = λ whole p o. passed_on c.from_residual-in_err-raised.result c.in_err-raised.field-0.0 _ c.from_residual-in_err-raised.ensures.0 c.from_residual-in_err-raised.ensures.1 (c.in_err-raised.ensures.fits whole p o);
+  room = λ whole p o. passed_on c.from_residual-in_err-raised.result c.in_err-raised.field-0.0 _ c.from_residual-in_err-raised.ensures.0 c.from_residual-in_err-raised.ensures.1 (c.in_err-raised.ensures.room whole p o);
+  safe = passed c.from_residual-in_err-raised.result c.in_err-raised.field-0.0 c.from_residual-in_err-raised.ensures.0 c.from_residual-in_err-raised.ensures.1 c.in_err-raised.ensures.safe;
+}
