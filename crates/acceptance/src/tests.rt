@@ -1,4 +1,5 @@
 mod boxed_breakers;
+mod edges;
 mod fixtures;
 mod product_steps;
 mod program_rows;
@@ -10,3 +11,4 @@ mod sessions;
 mod silent_breakers;
 mod small_faces;
 mod small_pools;
+mod words;

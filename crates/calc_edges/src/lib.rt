@@ -16,6 +16,3 @@ pub use mem_source::MemSource;
 pub use sink::{Sink, write_all};
 pub use source::{Failed, Source};
 pub use std_edges::{StdSink, StdSource};
-
-#[cfg(test)]
-mod tests;

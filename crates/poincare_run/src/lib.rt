@@ -11,6 +11,3 @@ mod words;
 
 pub use generated::session_from;
 pub use top::run;
-
-#[cfg(test)]
-mod tests;

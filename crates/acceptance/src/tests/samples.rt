@@ -7,6 +7,6 @@ use table::SAMPLES;
 
 #[test]
 fn samples_are_answered(rt: HostRuntime) -> Result<(), Fail> {
-    assert_eq!(rt; first_other(rt.alloc(), SAMPLES)?, None);
+    assert_eq!(rt; first_other(rt.alloc(), SAMPLES, 4096)?, None);
     Ok(())
 }

@@ -56,6 +56,9 @@ $ --pool 128
 $ --pool=0064
 1+1+1+1 = ! full needed 16 free 0
 
+$ --pool 00000000000000000064
+1+1+1+1 = ! full needed 16 free 0
+
 $ --pool 524280
 1+2+3 = 6
 
@@ -162,6 +165,17 @@ $ --interrupt 0
 1 = ! interrupted
 1 = 1
 
+$ --interrupt=3
+1 = 1
+1 = 1
+1 = 1
+1 = ! interrupted
+1 = 1
+
+$ --interrupt=3
+1+2+3 = ! interrupted
+1+2+3 = 6
+
 $ --interrupt=4 --pool=64000
 1+2+3 = 6
 7 = ! interrupted
@@ -197,6 +211,7 @@ $ --draw --pool 2000
 5→x = 5
 | 5
 2+ = ! syntax
+:draw = 5
 
 $ --draw
 x = x
@@ -304,6 +319,9 @@ $ --pool 1024 --gen 1
 | lines 2000 shown 1750 stored 250 undef 0 refused 0 bytes 27383
 
 $ --draw --gen 1
+| lines 2000 shown 1750 stored 250 undef 0 refused 0 bytes 27383
+
+$ --draw --gen=1 --pool=1024
 | lines 2000 shown 1750 stored 250 undef 0 refused 0 bytes 27383
 
 ";

@@ -1,8 +1,5 @@
 //! Words that are a form of the command line, and words that are none.
-
-use super::two_breakers;
-use crate::run;
-use calc_edges::{MemSink, MemSource};
+use crate::tests::scripts::{Edges, Script, ends_so, words_in};
 use std::alloc::{AllocError, Global};
 use std::test::Fail;
 
@@ -66,7 +63,7 @@ x,--pool=64
 -d
 --draws";
 
-/// Rows of words for which the first read is asked.
+/// Rows of words for which the first read is asked for.
 const ACCEPTED: &str = "\
 --pool=64
 --pool,64
@@ -81,34 +78,30 @@ const ACCEPTED: &str = "\
 --draw,--interrupt,1,--pool=72
 --interrupt=7,--draw,--pool,64";
 
-/// The words of a row.
-fn words_in(alloc: Global, row: &str) -> Result<Vec<String>, AllocError> {
-    let mut words = Vec::new(alloc);
-    for word in row.split(',') {
-        words.push(String::from_str(alloc, word)?)?;
-    }
-    Ok(words)
-}
+/// Nothing can be read, or written.
+const SHUT: Edges = Edges {
+    piece: 1,
+    room: 0,
+    failing_read: 1,
+    failing_write: 0,
+};
 
-/// The status of a run whose first read fails.
-fn status_of(alloc: Global, row: &str) -> Result<u8, AllocError> {
-    let words = words_in(alloc, row)?;
-    let mut source = MemSource::new(Vec::new(alloc), 1, [1u64].to_vec(alloc)?);
-    let mut sink = MemSink::new(alloc, 0, 1, Vec::new(alloc))?;
-    let status = run(
-        alloc,
-        words.as_slice(),
-        &mut source,
-        &mut sink,
-        two_breakers(alloc)?,
-    );
-    Ok(status)
+/// Whether a run with the words of a row, whose first read fails, ends with a status.
+fn has_status(alloc: Global, row: &str, status: u8) -> Result<bool, AllocError> {
+    let script = Script {
+        words: words_in(alloc, row, ',')?,
+        input: Vec::new(alloc),
+        edges: SHUT,
+        status,
+        output: Vec::new(alloc),
+    };
+    ends_so(alloc, script)
 }
 
 /// The place of the first row whose words have another status.
 fn first_other(alloc: Global, table: &str, status: u8) -> Result<Option<usize>, AllocError> {
     for (place, row) in table.lines().enumerate() {
-        if status_of(alloc, row)? != status {
+        if !has_status(alloc, row, status)? {
             return Ok(Some(place));
         }
     }
@@ -116,13 +109,8 @@ fn first_other(alloc: Global, table: &str, status: u8) -> Result<Option<usize>, 
 }
 
 #[test]
-fn other_words_are_refused(rt: HostRuntime) -> Result<(), Fail> {
+fn words_are_refused_or_accepted_in_any_order(rt: HostRuntime) -> Result<(), Fail> {
     assert_eq!(rt; first_other(rt.alloc(), REFUSED, 2)?, None);
-    Ok(())
-}
-
-#[test]
-fn words_are_accepted_in_any_order(rt: HostRuntime) -> Result<(), Fail> {
     assert_eq!(rt; first_other(rt.alloc(), ACCEPTED, 3)?, None);
     Ok(())
 }
