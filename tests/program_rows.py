@@ -27,6 +27,10 @@ BYTES = [
     (f"1\n{MINUS * 63}1\n{MINUS * 64}1\n", "1\n-1\n! deep\n"),
     (f"{'1' * 1024}\n{'1' * 1025}\n", "! number 1\n! long\n"),
     (f"{' ' * 1024}\n{' ' * 1025}\n", "! long\n"),
+    (f"{MINUS * 1023}1\n{MINUS * 1022}1+\n", "! deep\n! syntax\n"),
+    (f"{'(' * 511}1{')' * 511}\n{'(' * 1023}1\n{'(' * 500}1{')' * 501}\n", "1\n! syntax\n! syntax\n"),
+    ("1\r2\n", "! character 2\n"),
+    (b"\xe2\x88\n1+\xff\nx\xc2\n", "! character 1\n! character 3\n! character 2\n"),
 ]
 
 REFUSED = [
@@ -62,7 +66,8 @@ def session_of(rows):
 
 
 def written(words, text):
-    done = subprocess.run([PROGRAM, *words], input=text.encode(), capture_output=True)
+    given = text if isinstance(text, bytes) else text.encode()
+    done = subprocess.run([PROGRAM, *words], input=given, capture_output=True)
     return done.returncode, done.stdout.decode(), done.stderr.decode()
 
 

@@ -1,6 +1,7 @@
 mod boxed_breakers;
 mod edges;
 mod fixtures;
+mod pictures;
 mod product_steps;
 mod program_rows;
 mod reduced_lines;
@@ -8,6 +9,7 @@ mod round_trips;
 mod samples;
 mod scripts;
 mod sessions;
+mod shapes;
 mod silent_breakers;
 mod small_faces;
 mod small_pools;

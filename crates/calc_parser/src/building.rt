@@ -162,6 +162,3 @@ fn place_leaf(pool: &mut Pool, what: What) -> Result<Handle, Full>
         _ => node(pool, Kind::Undef),
     }
 }
-
-#[cfg(test)]
-mod tests;

@@ -101,6 +101,3 @@ fn stored(arrow: What, last: What) -> Option<Name>
         _ => None,
     }
 }
-
-#[cfg(test)]
-mod tests;

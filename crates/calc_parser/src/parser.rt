@@ -138,6 +138,3 @@ fn boxed_numbers(alloc: Global) -> Result<Box<ArrayVec<u32, STEP_LIMIT>>, AllocE
     let numbers = Box::new(alloc, ArrayVec::new())?;
     Ok(numbers)
 }
-
-#[cfg(test)]
-mod tests;

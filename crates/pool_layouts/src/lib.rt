@@ -21,6 +21,3 @@ pub use laws::{
 pub use laying::layout_of;
 pub use picture::{rows, write_row};
 pub use serial::write_serial;
-
-#[cfg(test)]
-mod tests;

@@ -8,12 +8,13 @@ use breakers::{Breaker, CountBreaker, Watch};
 use calc_parser::{build, check};
 use calc_terms::Kind;
 use calc_tokens::{Tokens, scan};
+use line_text::{Text, write_tree};
 use node_order::compare;
 use node_pool::Pool;
 use reduce_port::{ReduceFault, Reducer};
 use std::alloc::{AllocError, Global};
 use std::cmp::Ordering;
-use tree_handles::{Handle, kind};
+use tree_handles::{Handle, kind, tree_bytes};
 
 /// The bytes of a pool in which there is room enough.
 pub const SIZE: u32 = 16_384;
@@ -82,4 +83,19 @@ pub fn is_tree_of(alloc: Global, pool: &mut Pool, answer: &Handle, text: &[u8]) 
         Some(tree) => compare(pool, answer.id(), tree.id()) == Ordering::Equal,
         None => false,
     }
+}
+
+/// The text of a tree as it stands, in twice its bytes; none of a tree of more than 1,024 bytes.
+pub fn written(alloc: Global, pool: &Pool, tree: &Handle) -> Result<Text, AllocError>
+    requires stands { Stands pool.now }
+    requires handed { IsHanded tree.now (forest pool.now) }
+{
+    let id = tree.id();
+    let bytes = tree_bytes(pool, id);
+    if bytes > 1024 {
+        return Text::open(alloc, 0);
+    }
+    let mut text = Text::open(alloc, 2 * bytes)?;
+    write_tree(pool, id, &mut text);
+    Ok(text)
 }

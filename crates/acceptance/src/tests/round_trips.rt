@@ -1,39 +1,17 @@
 //! Trees of a table are written, and their texts are read and built again.
-ghost use Rattle.calc_language.specs.Texts.{IsWritable};
-ghost use Rattle.tree_handles.specs.Expressions.{plain};
-ghost use Rattle.tree_handles.specs.Handed.{IsHanded};
-ghost use Rattle.tree_handles.specs.Roots.{root_tree};
-ghost use Rattle.tree_handles.specs.Standing.{Stands, forest};
-
-use super::fixtures::is_tree_of;
-use line_text::{Text, write_text};
-use node_pool::Pool;
-use std::alloc::{AllocError, Global};
+use super::fixtures::{is_tree_of, written};
+use std::alloc::Global;
 use std::process::Abort;
 use std::test::Fail;
-use tree_handles::{Handle, open_pool, tree_bytes};
+use tree_handles::open_pool;
 use tree_shapes::{Pair, Shape, Single, grow};
-
-/// The text of a tree, in twice its bytes.
-fn written(rt: &impl Abort, alloc: Global, pool: &Pool, tree: &Handle) -> Result<Text, AllocError>
-    requires stands { Stands pool.now }
-    requires handed { IsHanded tree.now (forest pool.now) }
-    requires writable { IsWritable (plain (root_tree tree.now (forest pool.now))) }
-{
-    let id = tree.id();
-    let bytes = tree_bytes(pool, id);
-    assert!(rt; bytes <= 1024);
-    let mut text = Text::open(alloc, 2 * bytes)?;
-    write_text(pool, id, &mut text);
-    Ok(text)
-}
 
 /// Writes the tree of a shape, compares its text, and reads it again.
 fn round_trip(rt: &impl Abort, alloc: Global, shape: &Shape, expected: &str) -> Result<(), Fail> {
     assert!(rt; shape.is_writable(), "{expected}");
     let mut pool = open_pool(alloc, 1024)?;
     let tree = grow(&mut pool, shape)?;
-    let text = written(rt, alloc, &pool, &tree)?;
+    let text = written(alloc, &pool, &tree)?;
     assert_eq!(rt; text.bytes(), expected.as_bytes(), "{expected}");
     assert!(rt;
         is_tree_of(alloc, &mut pool, &tree, text.bytes()),

@@ -1,16 +1,15 @@
-//! Layouts of lines, drawn and written, and how they are refused.
-ghost use Rattle.std.specs.Prelude.{◌≡◌, ◌≤◌};
-ghost use Rattle.tree_handles.specs.Standing.{Stands};
+//! Trees of lines as they were read, their layouts written in one line, and the pictures of these, worked by hand.
+ghost use Rattle.std.specs.Prelude.{◌≤◌};
+ghost use Rattle.pool_layouts.specs.Drawings.{IsLayout};
+ghost use Rattle.tree_handles.specs.Standing.{Stands, forest};
 
-use crate::{Drafter, layout_of, rows, write_row, write_serial};
-use calc_parser::{build, check};
-use calc_terms::Rat;
-use calc_tokens::{Tokens, scan};
+use super::fixtures::{SIZE, read};
 use line_text::Text;
-use node_pool::{Full, Pool};
+use node_pool::Pool;
+use pool_layouts::{Drafter, layout_of, rows, write_row, write_serial};
 use std::alloc::{AllocError, Global};
 use std::test::Fail;
-use tree_handles::{number, open_pool};
+use tree_handles::{Handle, open_pool, tree_bytes};
 use unicode_width::UnicodeWidthStr;
 
 /// A line, the serial text of its layout, and the rows of its picture.
@@ -76,97 +75,77 @@ x×(-y)^2 = x×(-y)^(2)|      2|x×(-y)\n\
 x×--y = x×--y|x×--y\n\
 (x^(y/z))^(1/2) = (x^(((y)/(z))))^(((1)/(2)))|( y)1|( -)-|( z)2|(x )";
 
-/// How the layout of the greatest number is refused beside it, where it is.
-fn refused(pool: &mut Pool, drafter: &mut Drafter) -> Option<Full>
-    requires stands { Stands pool.old }
-    requires served { pool.old.size ≤ drafter.old.pool_size }
-    ensures { Stands pool.new }
+/// Appends the serial text of a layout; whether there was room for it.
+fn push_serial(pool: &Pool, layout: &Handle, text: &mut Text) -> bool
+    requires stands { Stands pool.now }
+    requires layout { IsLayout layout.now (forest pool.now) }
 {
-    let Ok(greatest) = number(pool, Rat::whole(i128::MAX)) else {
-        return None;
-    };
-    layout_of(pool, greatest.id(), drafter).err()
-}
-
-/// Appends the serial text of a line's layout and the rows of its picture; whether all of it was written.
-fn draw(alloc: Global, pool: &mut Pool, line: &[u8], text: &mut Text) -> bool
-    requires { Stands pool.old }
-    ensures { Stands pool.new }
-{
-    if line.len() > 1024 {
+    let id = layout.id();
+    if text.spare() / 2 < tree_bytes(pool, id) {
         return false;
     }
-    let Ok(mut tokens) = Tokens::open(alloc) else {
-        return false;
-    };
-    let Ok(()) = scan(&mut tokens, line) else {
-        return false;
-    };
-    let Ok(_) = check(&tokens) else {
-        return false;
-    };
-    let Ok(face) = build(pool, &tokens) else {
+    write_serial(pool, id, text);
+    true
+}
+
+/// Appends the rows of a picture, each behind a bar; whether there was room for them.
+fn push_rows(pool: &Pool, layout: &Handle, drafter: &mut Drafter, text: &mut Text) -> bool
+    requires stands { Stands pool.now }
+    requires layout { IsLayout layout.now (forest pool.now) }
+    requires served { pool.now.size ≤ drafter.old.pool_size }
+{
+    let id = layout.id();
+    for row in 0..rows(pool, id, drafter) {
+        if text.spare() / 2 <= tree_bytes(pool, id) {
+            return false;
+        }
+        text.push(b"|");
+        write_row(pool, id, row, drafter, text);
+    }
+    true
+}
+
+/// Appends the serial text of a line's layout and the rows of its picture; whether all of it was.
+fn draw(alloc: Global, pool: &mut Pool, line: &[u8], text: &mut Text) -> bool
+    requires { Stands pool.old }
+{
+    let Some(face) = read(alloc, pool, line) else {
         return false;
     };
     let Ok(mut drafter) = Drafter::open(alloc, pool.size()) else {
         return false;
     };
-    let Ok(placed) = layout_of(pool, face.id(), &mut drafter) else {
+    let Ok(layout) = layout_of(pool, face.id(), &mut drafter) else {
         return false;
     };
-    let layout = placed.id();
-    if text.spare() / 2 < pool.size() {
-        return false;
-    }
-    write_serial(pool, layout, text);
-    for row in 0..rows(pool, layout, &mut drafter) {
-        if text.spare() / 2 <= pool.size() {
-            return false;
-        }
-        text.push(b"|");
-        write_row(pool, layout, row, &mut drafter, text);
-    }
-    true
+    push_serial(pool, &layout, text) && push_rows(pool, &layout, &mut drafter, text)
 }
 
-#[test]
-fn a_layout_that_finds_no_room(rt: HostRuntime) -> Result<(), Fail> {
-    let mut pool = open_pool(rt.alloc(), 64)?;
-    let full = Full {
-        needed: 40,
-        free: 24,
-    };
-    let mut drafter = Drafter::open(rt.alloc(), 64)?;
-    assert_eq!(rt; refused(&mut pool, &mut drafter), Some(full));
-    Ok(())
+/// Whether a line is drawn so.
+fn is_drawn(alloc: Global, line: &str, drawing: &str) -> Result<bool, AllocError> {
+    let mut pool = open_pool(alloc, SIZE)?;
+    let mut text = Text::open(alloc, SIZE)?;
+    Ok(draw(alloc, &mut pool, line.as_bytes(), &mut text) && text.bytes() == drawing.as_bytes())
 }
 
-/// What is drawn of a line in the smallest pool that has room for it.
-fn drawn(alloc: Global, line: &[u8]) -> Result<Option<Text>, AllocError> {
-    for step in 0..600u32 {
-        let mut pool = open_pool(alloc, 64 + 8 * step)?;
-        let mut text = Text::open(alloc, 16_384)?;
-        if draw(alloc, &mut pool, line, &mut text) {
-            return Ok(Some(text));
+/// Whether each character of a text takes one column.
+fn is_narrow(text: &str) -> bool {
+    text.width() == text.chars().count()
+}
+
+/// The place of the first row whose line is drawn otherwise, or has a wide character.
+fn first_other(alloc: Global, table: &str) -> Result<Option<usize>, AllocError> {
+    for (place, row) in table.lines().enumerate() {
+        let (line, drawing) = row.split_once(" = ").unwrap_or((row, ""));
+        if !is_drawn(alloc, line, drawing)? || !is_narrow(drawing) {
+            return Ok(Some(place));
         }
     }
     Ok(None)
 }
 
 #[test]
-fn serial_texts_and_pictures(rt: HostRuntime) -> Result<(), Fail> {
-    for (place, face) in FACES.lines().enumerate() {
-        match face.split_once(" = ") {
-            Some((line, wanted)) => match drawn(rt.alloc(), line.as_bytes())? {
-                Some(text) => {
-                    assert_eq!(rt; text.bytes(), wanted.as_bytes(), "face {place}");
-                    // Each character takes one column.
-                    assert_eq!(rt; wanted.width(), wanted.chars().count(), "face {place}");
-                }
-                None => assert!(rt; false, "face {place} finds no room"),
-            },
-            None => assert!(rt; false, "face {place}"),
-        }
-    }
+fn trees_are_drawn(rt: HostRuntime) -> Result<(), Fail> {
+    assert_eq!(rt; first_other(rt.alloc(), FACES)?, None);
     Ok(())
 }
