@@ -1,23 +1,19 @@
 //! Trees of a table are written, and their texts are read and built again.
 use super::fixtures::{is_tree_of, written};
-use std::alloc::Global;
-use std::process::Abort;
+use std::alloc::{AllocError, Global};
 use std::test::Fail;
 use tree_handles::open_pool;
 use tree_shapes::{Pair, Shape, Single, grow};
 
-/// Writes the tree of a shape, compares its text, and reads it again.
-fn round_trip(rt: &impl Abort, alloc: Global, shape: &Shape, expected: &str) -> Result<(), Fail> {
-    assert!(rt; shape.is_writable(), "{expected}");
+/// Whether the tree of a shape has a text, and is read again from it.
+fn is_read_again(alloc: Global, shape: &Shape, text: &str) -> Result<bool, AllocError> {
     let mut pool = open_pool(alloc, 1024)?;
-    let tree = grow(&mut pool, shape)?;
-    let text = written(alloc, &pool, &tree)?;
-    assert_eq!(rt; text.bytes(), expected.as_bytes(), "{expected}");
-    assert!(rt;
-        is_tree_of(alloc, &mut pool, &tree, text.bytes()),
-        "{expected}"
-    );
-    Ok(())
+    let Ok(tree) = grow(&mut pool, shape) else {
+        return Ok(false);
+    };
+    let found = written(alloc, &pool, &tree)?;
+    let same = shape.is_writable() && found.bytes() == text.as_bytes();
+    Ok(same && is_tree_of(alloc, &mut pool, &tree, found.bytes()))
 }
 
 const A: Shape<'static> = Shape::Name(b"a");
@@ -104,7 +100,8 @@ fn each_tree_is_read_again_from_its_text(rt: HostRuntime) -> Result<(), Fail> {
     for (around, row) in AROUND.iter().zip(TEXTS.lines()) {
         assert_eq!(rt; row.split(' ').count(), CHILDREN.len(), "{row}");
         for (child, text) in CHILDREN.iter().zip(row.split(' ')) {
-            round_trip(&rt, rt.alloc(), &around.over(child, &C), text)?;
+            let shape = around.over(child, &C);
+            assert!(rt; is_read_again(rt.alloc(), &shape, text)?, "{text}");
         }
     }
     Ok(())
@@ -112,14 +109,14 @@ fn each_tree_is_read_again_from_its_text(rt: HostRuntime) -> Result<(), Fail> {
 
 #[test]
 fn leaves_are_read_again(rt: HostRuntime) -> Result<(), Fail> {
-    round_trip(&rt, rt.alloc(), &Shape::Name(b"x1Y2z3W"), "x1Y2z3W")?;
-    round_trip(&rt, rt.alloc(), &Shape::Undef, "undef")?;
-    round_trip(&rt, rt.alloc(), &Shape::Number(0), "0")?;
-    round_trip(
-        &rt,
-        rt.alloc(),
-        &Shape::Number(u64::MAX),
-        "18446744073709551615",
-    )?;
+    let leaves = [
+        (Shape::Name(b"x1Y2z3W"), "x1Y2z3W"),
+        (Shape::Undef, "undef"),
+        (Shape::Number(0), "0"),
+        (Shape::Number(u64::MAX), "18446744073709551615"),
+    ];
+    for (leaf, text) in leaves {
+        assert!(rt; is_read_again(rt.alloc(), &leaf, text)?, "{text}");
+    }
     Ok(())
 }
