@@ -1,18 +1,38 @@
 //! Trees of a table are written, and their texts are read and built again.
+ghost use Rattle.std.specs.Prelude.{◌≡◌, IfSome};
+ghost use Rattle.tree_handles.specs.Handed.{Gives};
+ghost use Rattle.tree_handles.specs.Standing.{Stands, forest};
+
 use super::fixtures::{is_tree_of, written};
+use node_pool::Pool;
 use std::alloc::{AllocError, Global};
 use std::test::Fail;
-use tree_handles::open_pool;
+use tree_handles::{Handle, open_pool};
 use tree_shapes::{Pair, Shape, Single, grow};
+
+/// The tree of a shape that a line can hold, which becomes the last one.
+fn grown(pool: &mut Pool, shape: &Shape) -> Option<Handle>
+    requires stands { Stands pool.old }
+    ensures gives { IfSome result (λ h. Gives (forest pool.old) (forest pool.new) h (λ t. t ≡ t)) }
+    ensures stands { Stands pool.new }
+{
+    if !shape.is_writable() {
+        return None;
+    }
+    let Ok(tree) = grow(pool, shape) else {
+        return None;
+    };
+    Some(tree)
+}
 
 /// Whether the tree of a shape has a text, and is read again from it.
 fn is_read_again(alloc: Global, shape: &Shape, text: &str) -> Result<bool, AllocError> {
     let mut pool = open_pool(alloc, 1024)?;
-    let Ok(tree) = grow(&mut pool, shape) else {
+    let Some(tree) = grown(&mut pool, shape) else {
         return Ok(false);
     };
     let found = written(alloc, &pool, &tree)?;
-    let same = shape.is_writable() && found.bytes() == text.as_bytes();
+    let same = found.bytes() == text.as_bytes();
     Ok(same && is_tree_of(alloc, &mut pool, &tree, found.bytes()))
 }
 
