@@ -3,8 +3,8 @@
 
     tests/program_rows.py [PROGRAM]
 
-The rows that the gate runs stand in `crates/acceptance/src/tests/program_rows/table.rt` and are read from there. Below are
-those for which it takes a process: bytes that are no rows of a text, words that are refused, and a hundred lines of all kinds.
+The rows that the gate runs stand in `crates/acceptance/src/tests/program_rows` and are read from there. Below are those for
+which it takes a process: bytes that are no rows of a text, words that are refused, and a hundred lines of all kinds.
 """
 import re
 import subprocess
@@ -12,7 +12,7 @@ import sys
 
 from asked import PROGRAM, TOP, every, run
 
-TABLE = TOP / "crates" / "acceptance" / "src" / "tests" / "program_rows" / "table.rt"
+TABLES = TOP / "crates" / "acceptance" / "src" / "tests" / "program_rows"
 USAGE = "usage: poincare [--pool N] [--interrupt K] [--draw] [--gen N]\n"
 MINUS = "-"
 
@@ -44,9 +44,10 @@ REFUSED = [
 
 def tables():
     """The rows of the gate: each session's words, input and output."""
-    for text in re.findall(r'&str = "\\\n(.*?)\n";', TABLE.read_text(), re.DOTALL):
-        for block in text.strip("\n").split("\n\n"):
-            yield session_of(block.split("\n"))
+    for file in sorted(TABLES.glob("*.rt")):
+        for text in re.findall(r'&str = "\\\n(.*?)\n";', file.read_text(), re.DOTALL):
+            for block in text.strip("\n").split("\n\n"):
+                yield session_of(block.split("\n"))
 
 
 def session_of(rows):

@@ -65,29 +65,3 @@ impl Breaker for CountBreaker {
         self.trips > 0
     }
 }
-
-#[cfg(test)]
-mod tests {
-    use super::*;
-
-    #[test]
-    fn trips_once_each_time_it_is_armed(rt: HostRuntime) {
-        let mut breaker = CountBreaker::new();
-        assert!(rt; breaker.arms() && !breaker.spent());
-        for (armed, answers) in [
-            (None, [false, false, false]),
-            (Some(0), [true, false, false]),
-            (Some(2), [false, false, true]),
-            (Some(3), [false, false, false]),
-            (None, [true, false, false]),
-        ] {
-            if let Some(k) = armed {
-                breaker.arm(k);
-            }
-            for answer in answers {
-                assert_eq!(rt; breaker.poll(), answer, "armed with {armed:?}");
-            }
-        }
-        assert!(rt; breaker.spent());
-    }
-}

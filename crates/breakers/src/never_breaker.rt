@@ -41,16 +41,3 @@ impl Breaker for NeverBreaker {
         false
     }
 }
-
-#[cfg(test)]
-mod tests {
-    use super::*;
-
-    #[test]
-    fn never_trips(rt: HostRuntime) {
-        let mut breaker = NeverBreaker::new();
-        breaker.arm(0);
-        assert!(rt; !breaker.poll() && !breaker.poll());
-        assert!(rt; !breaker.arms() && !breaker.spent());
-    }
-}

@@ -60,31 +60,3 @@ impl Breaker for SilentBreaker {
         self.trips > 0
     }
 }
-
-#[cfg(test)]
-mod tests {
-    use super::*;
-    use std::test::Fail;
-
-    #[test]
-    fn trips_at_the_polls_of_its_list(rt: HostRuntime) -> Result<(), Fail> {
-        // The list, and which of the first five polls trip.
-        for (at, answers) in [
-            ([0u64, 0], [false; 5]),
-            ([1, 1], [true, false, false, false, false]),
-            ([4, 2], [false, true, false, true, false]),
-            ([5, 6], [false, false, false, false, true]),
-        ] {
-            let mut breaker = SilentBreaker::new(at.to_vec(rt.alloc())?);
-            breaker.arm(0);
-            assert!(rt; !breaker.arms() && !breaker.spent(), "{at:?}");
-            let mut tripped = false;
-            for answer in answers {
-                assert_eq!(rt; breaker.poll(), answer, "{at:?}");
-                tripped = tripped || answer;
-                assert_eq!(rt; breaker.spent(), tripped, "{at:?}");
-            }
-        }
-        Ok(())
-    }
-}

@@ -405,6 +405,3 @@ fn close_up(buffer: &mut Buffer, places: &mut Places, at: u32, end: u32, gone: u
     let used = buffer.used();
     note_block(places, buffer, at, used);
 }
-
-#[cfg(test)]
-mod tests;

@@ -21,6 +21,3 @@ pub use overflow::{Op, Overflow};
 pub use powers::pow;
 pub use reciprocal::{invert, neg};
 pub use square_root::isqrt;
-
-#[cfg(test)]
-mod tests;

@@ -143,6 +143,3 @@ fn fill(block: &mut Block<Global>, len: usize)
         i += 1;
     }
 }
-
-#[cfg(test)]
-mod tests;

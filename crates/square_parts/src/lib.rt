@@ -9,6 +9,3 @@ mod splitting;
 
 pub use classes::alike;
 pub use splitting::split;
-
-#[cfg(test)]
-mod tests;

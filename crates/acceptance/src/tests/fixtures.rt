@@ -1,13 +1,16 @@
 //! What the tests share: pools, breakers, and the trees of lines.
 ghost use Rattle.std.specs.Prelude.{◌≡◌, IfOk, IfSome};
+ghost use Rattle.node_pool.specs.State.{IsPoolSize};
 ghost use Rattle.tree_handles.specs.Handed.{IsHanded, Gives};
 ghost use Rattle.tree_handles.specs.Standing.{Stands, forest};
 
 use beautify::Faces;
 use breakers::{Breaker, CountBreaker, Watch};
 use calc_parser::{build, check};
+use calc_session::{LineAnswer, Refusal, Session};
 use calc_terms::Kind;
 use calc_tokens::{Tokens, scan};
+use deep_reduce::DeepReducer;
 use line_text::{Text, write_tree};
 use node_order::compare;
 use node_pool::Pool;
@@ -98,4 +101,41 @@ pub fn written(alloc: Global, pool: &Pool, tree: &Handle) -> Result<Text, AllocE
     let mut text = Text::open(alloc, 2 * bytes)?;
     write_tree(pool, id, &mut text);
     Ok(text)
+}
+
+/// A session whose pool has so many bytes. This and the next four say nothing of what they do, so that what calls them is
+/// proved under few clauses; and a session is given to `close` at the one end of a function, since to drop what has so many
+/// parts is proved anew at each place where it may happen.
+pub fn opened(alloc: Global, size: u32) -> Result<Session, AllocError>
+    requires { IsPoolSize size }
+{
+    Session::open(alloc, size)
+}
+
+/// Drops a session.
+pub fn close(session: Session) {
+    let _dropped = session;
+}
+
+/// The answer to a line.
+pub fn answered<B: Breaker>(session: &mut Session, watch: &mut Watch<B>, line: &str) -> LineAnswer {
+    session.line(&DeepReducer, watch, line.as_bytes())
+}
+
+/// Whether what was told last is this text.
+pub fn has_text(session: &Session, text: &str) -> bool {
+    session.text() == text.as_bytes()
+}
+
+/// The bytes of a session's pool.
+pub fn pool_bytes(alloc: Global, session: &Session) -> Result<Vec<u8>, AllocError> {
+    session.pool().bytes().to_vec(alloc)
+}
+
+/// The place of the breaker that stopped a line.
+pub fn stopped_by(answer: LineAnswer) -> Option<u32> {
+    match answer {
+        LineAnswer::Refused(Refusal::Interrupted { by }) => Some(by),
+        _ => None,
+    }
 }

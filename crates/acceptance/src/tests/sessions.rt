@@ -1,9 +1,9 @@
 //! Sessions of several lines: stored names, commands and interruptions.
 mod tables;
 
+use super::fixtures::{answered, close, has_text, opened};
 use breakers::{CountBreaker, Watch};
 use calc_session::Session;
-use deep_reduce::DeepReducer;
 use std::alloc::{AllocError, Global};
 use std::test::Fail;
 use tables::SESSIONS;
@@ -23,28 +23,35 @@ fn is_answered(
     line: &str,
     text: &str,
 ) -> bool {
-    session.line(&DeepReducer, watch, line.as_bytes());
+    answered(session, watch, line);
     watch.sweep();
-    session.text() == text.as_bytes()
+    has_text(session, text)
+}
+
+/// Whether the rows are answered by their texts.
+fn are_answered(session: &mut Session, watch: &mut Watch<CountBreaker>, rows: &str) -> bool {
+    for row in rows.lines() {
+        let (line, text) = row.split_once(" = ").unwrap_or((row, ""));
+        if !is_answered(session, watch, line, text) {
+            return false;
+        }
+    }
+    true
 }
 
 /// Whether the rows of a session are answered by their texts.
-fn are_answered(alloc: Global, rows: &str) -> Result<bool, AllocError> {
-    let mut session = Session::open(alloc, 32768)?;
+fn is_session(alloc: Global, rows: &str) -> Result<bool, AllocError> {
     let mut watch = two_breakers(alloc)?;
-    for row in rows.lines() {
-        let (line, text) = row.split_once(" = ").unwrap_or((row, ""));
-        if !is_answered(&mut session, &mut watch, line, text) {
-            return Ok(false);
-        }
-    }
-    Ok(true)
+    let mut session = opened(alloc, 32_768)?;
+    let answered = are_answered(&mut session, &mut watch, rows);
+    close(session);
+    Ok(answered)
 }
 
 /// The place of the first session whose rows are not answered by their texts.
 fn first_other(alloc: Global, table: &str) -> Result<Option<usize>, AllocError> {
     for (place, rows) in table.split("\n\n").enumerate() {
-        if !are_answered(alloc, rows)? {
+        if !is_session(alloc, rows)? {
             return Ok(Some(place));
         }
     }

@@ -57,16 +57,19 @@ fn bytes_of_face<R: Reducer>(
     }
 }
 
+/// Whether the face of a line's answer takes so many bytes.
+fn takes(alloc: Global, line: &str, bytes: &str) -> Result<bool, AllocError> {
+    let mut pool = open_pool(alloc, SIZE)?;
+    let mut watch = armed(alloc, u64::MAX)?;
+    let found = bytes_of_face(alloc, &DeepReducer, &mut pool, line.as_bytes(), &mut watch);
+    Ok(found.is_some() && found == bytes.parse().ok())
+}
+
 /// The place of the first row whose face takes other bytes.
 fn first_other(alloc: Global, table: &str) -> Result<Option<usize>, AllocError> {
     for (place, row) in table.lines().enumerate() {
-        let Some((line, bytes)) = row.split_once(" = ") else {
-            return Ok(Some(place));
-        };
-        let mut pool = open_pool(alloc, SIZE)?;
-        let mut watch = armed(alloc, u64::MAX)?;
-        let found = bytes_of_face(alloc, &DeepReducer, &mut pool, line.as_bytes(), &mut watch);
-        if found.is_none() || found != bytes.parse().ok() {
+        let (line, bytes) = row.split_once(" = ").unwrap_or((row, ""));
+        if !takes(alloc, line, bytes)? {
             return Ok(Some(place));
         }
     }

@@ -4,9 +4,10 @@ mod tables;
 ghost use Rattle.std.specs.Prelude.{◌≤◌};
 ghost use Rattle.node_pool.specs.State.{IsPoolSize};
 
+use super::fixtures::{answered, close, has_text, opened, pool_bytes};
 use breakers::{NeverBreaker, Watch};
 use calc_session::{LineAnswer, Refusal, Session};
-use deep_reduce::DeepReducer;
+use node_pool::Full;
 use std::alloc::{AllocError, Global};
 use std::test::Fail;
 use tables::{CALCULATED, JOINED, REDUCED, ROOMS, SHOWN};
@@ -21,31 +22,50 @@ enum Outcome {
     Other,
 }
 
-/// The first answer of a session whose pool has so many bytes.
+/// Whether an answer is that a node needs more bytes than are free, and the pool has counted that as its only refusal. That
+/// a derivative is too large is known before the pool is asked.
+fn is_full(session: &Session, answer: LineAnswer, line: &str) -> bool {
+    let LineAnswer::Refused(Refusal::Full { needed, free }) = answer else {
+        return false;
+    };
+    let counted = is_counted(session, Full { needed, free });
+    needed > free && (counted || line.starts_with(":diff"))
+}
+
+/// Whether this is the only refusal that a session's pool has counted.
+fn is_counted(session: &Session, full: Full) -> bool {
+    let pool = session.pool();
+    pool.refusals() == 1 && pool.last_refused() == full
+}
+
+/// What becomes of a line.
+fn outcome_in(
+    alloc: Global,
+    session: &mut Session,
+    line: &str,
+    text: &str,
+) -> Result<Outcome, AllocError> {
+    let mut watch = Watch::<NeverBreaker>::new(Vec::new(alloc));
+    let before = pool_bytes(alloc, session)?;
+    let answer = answered(session, &mut watch, line);
+    let after = pool_bytes(alloc, session)?;
+    if has_text(session, text) {
+        Ok(Outcome::Answered)
+    } else if is_full(session, answer, line) && before.as_slice() == after.as_slice() {
+        Ok(Outcome::Full)
+    } else {
+        Ok(Outcome::Other)
+    }
+}
+
+/// What becomes of the first line of a session whose pool has so many bytes.
 fn outcome_of(alloc: Global, line: &str, text: &str, size: u32) -> Result<Outcome, AllocError>
     requires { IsPoolSize size }
 {
-    let mut session = Session::open(alloc, size)?;
-    let mut watch = Watch::<NeverBreaker>::new(Vec::new(alloc));
-    let before = session.pool().bytes().to_vec(alloc)?;
-    let answer = session.line(&DeepReducer, &mut watch, line.as_bytes());
-    let found = match answer {
-        LineAnswer::Refused(Refusal::Full { needed, free }) => {
-            if needed > free && session.pool().bytes() == before.as_slice() {
-                Outcome::Full
-            } else {
-                Outcome::Other
-            }
-        }
-        _ => {
-            if session.text() == text.as_bytes() {
-                Outcome::Answered
-            } else {
-                Outcome::Other
-            }
-        }
-    };
-    Ok(found)
+    let mut session = opened(alloc, size)?;
+    let found = outcome_in(alloc, &mut session, line, text);
+    close(session);
+    found
 }
 
 /// The least size from which on a line is answered, where it is Full at each smaller one.

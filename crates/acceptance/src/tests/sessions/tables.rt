@@ -125,6 +125,31 @@ x+x = ! overflow 85070591730234615865843651857942052864+850705917302346158658436
 1 = ! interrupted
 1 = 1
 
+:after 5 = after 5
+7 = 7
+:after 0 = after 0
+7 = ! interrupted
+7 = 7
+:after 2 = after 2
+7 = 7
+:after 3 = after 3
+7 = 7
+7 = 7
+7 = 7
+7 = ! interrupted
+7 = 7
+:after 0 = no breaker
+
+√(ka+kb+kc+kd+ke+kf+kg+kh+ki+kj+kk+kl+km+kn+ko+kp+kq+kr+ks+kt)+√(aa+ab+ac+ad+ae+af+ag+ah+ai+aj+ak+al+am+an+ao+ap+aq+ar+as+at) = √(aa+ab+ac+ad+ae+af+ag+ah+ai+aj+ak+al+am+an+ao+ap+aq+ar+as+at)+√(ka+kb+kc+kd+ke+kf+kg+kh+ki+kj+kk+kl+km+kn+ko+kp+kq+kr+ks+kt)
+√(ka+kb+kc+kd+ke+kf+kg+kh+ki+kj+kk+kl+km+kn+ko+kp+kq+kr+ks+kt)+√(aa+ab+ac+ad+ae+af+ag+ah+ai+aj+ak+al+am+an+ao+ap+aq+ar+as+at+au+av+aw+ax+ay) = √(aa+ab+ac+ad+ae+af+ag+ah+ai+aj+ak+al+am+an+ao+ap+aq+ar+as+at+au+av+aw+ax+ay)+√(ka+kb+kc+kd+ke+kf+kg+kh+ki+kj+kk+kl+km+kn+ko+kp+kq+kr+ks+kt)
+√(ka+kb+kc+kd+ke+kf+kg+kh+ki+kj+kk+kl+km+kn+ko+kp+kq+kr+ks+kt+ku+kv+kw+kx+ky)+√(aa+ab+ac+ad+ae+af+ag+ah+ai+aj+ak+al+am+an+ao+ap+aq+ar+as+at) = √(aa+ab+ac+ad+ae+af+ag+ah+ai+aj+ak+al+am+an+ao+ap+aq+ar+as+at)+√(ka+kb+kc+kd+ke+kf+kg+kh+ki+kj+kk+kl+km+kn+ko+kp+kq+kr+ks+kt+ku+kv+kw+kx+ky)
+√(ka+kb+kc+kd+ke+kf+kg+kh+ki+kj+kk+kl+km+kn+ko+kp+kq+kr+ks+kt)+√(aa+ab+ac+ad+ae+af+ag+ah) = √(aa+ab+ac+ad+ae+af+ag+ah)+√(ka+kb+kc+kd+ke+kf+kg+kh+ki+kj+kk+kl+km+kn+ko+kp+kq+kr+ks+kt)
+√(ka+kb+kc+kd+ke+kf+kg+kh)+√(aa+ab+ac+ad+ae+af+ag+ah+ai+aj+ak+al+am+an+ao+ap+aq+ar+as+at) = √(aa+ab+ac+ad+ae+af+ag+ah+ai+aj+ak+al+am+an+ao+ap+aq+ar+as+at)+√(ka+kb+kc+kd+ke+kf+kg+kh)
+√(ka+kb+kc+kd+ke+kf+kg+kh+ki+kj+kk+kl+km+kn+ko+kp+kq+kr+ks+kt)+√(aa+ab+ac) = √(aa+ab+ac)+√(ka+kb+kc+kd+ke+kf+kg+kh+ki+kj+kk+kl+km+kn+ko+kp+kq+kr+ks+kt)
+√(ka+kb+kc)+√(aa+ab+ac+ad+ae+af+ag+ah+ai+aj+ak+al+am+an+ao+ap+aq+ar+as+at) = √(aa+ab+ac+ad+ae+af+ag+ah+ai+aj+ak+al+am+an+ao+ap+aq+ar+as+at)+√(ka+kb+kc)
+7 = 7
+:pool = pool 16/32768 nodes 1 trees 1
+
 :after 007 = after 7
 :after 18446744073709551615 = after 18446744073709551615
 :after 18446744073709551616 = ! command
