@@ -1,13 +1,14 @@
-//! Divisors and roots of whole numbers that no line reaches, and the order of rationals at 0.
-ghost use Rattle.std.specs.Prelude.{◌≡◌};
-
+//! Divisors and roots of whole numbers that no line reaches, and the order of 0 among rationals.
 use calc_terms::Rat;
 use rational128::{compare, gcd, isqrt};
 use std::cmp::Ordering;
 use std::test::Fail;
 
 /// Two numbers and their greatest common divisor.
-const DIVISORS: [[u128; 3]; 12] = [
+const DIVISORS: [[u128; 3]; 15] = [
+    [0, 0, 0],
+    [0, 5, 5],
+    [5, 0, 5],
     [0, u128::MAX, u128::MAX],
     [u128::MAX, 0, u128::MAX],
     [1, u128::MAX, 1],

@@ -146,6 +146,11 @@ $ --pool 64
 170141183460469231731687303715884105727 = 170141183460469231731687303715884105727
 :layout = ! full needed 40 free 24
 
+$ --pool 64
+a+b→x = a+b
+x = ! full needed 40 free 8
+:pool = pool 40/64 nodes 3 trees 1
+
 $ --pool 128
 9 = 9
 
