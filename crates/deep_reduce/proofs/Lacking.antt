@@ -17,6 +17,19 @@ lacks_as f k h = full_as f k (λ full l. h l)
 pub result_lacks : {A : Type 0} {n m a b : ℕ} (r : Result A NumberFault) → IfErr r (LacksBelow n a) → (a < n → b < m) → IfErr r (LacksBelow m b)
 result_lacks r k h = refusal_as r k (λ f l. lacks_as f l h)
 
+-- as many bytes are at hand, and what needs them needs no less
+pub short_at : {a b n : ℕ} → a ≡ b → a < n → b < n
+short_at e l = omega (arith, e, l)
+
+pub short_within : {a n m : ℕ} → n ≤ m → a < n → a < m
+short_within h l = omega (arith, h, l)
+
+pub short_as : {a b n m : ℕ} → a ≡ b → n ≤ m → a < n → b < m
+short_as e h l = omega (arith, e, h, l)
+
+pub short_beside : (free : ℕ) {n : ℕ} {t u : Tree} → t ≡ u → free + size u < n → free + size t < n
+short_beside free e l = omega (arith, ap size e, l)
+
 -- a product that counts less needs less
 pub fewer_needs : (h k m : ℕ) → h ≤ k → product_room h m ≤ product_room k m
 fewer_needs h k m l = omega (arith, scaled h k m l)

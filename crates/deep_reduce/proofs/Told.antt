@@ -56,7 +56,7 @@ pub record IsRationalPower (t : Tree) : Type 0 where
   pub rationals : are_rationals (children_of t) ≡ true
   pub no_half : is_half_num (exponent_in t) ≡ false
 
-half_no_whole : (e : Tree) → is_half_num e ≡ true → is_whole_num e ≡ false
+pub half_no_whole : (e : Tree) → is_half_num e ≡ true → is_whole_num e ≡ false
 half_no_whole e h = false_from_ne_true (is_whole_num e) (λ w. contrary h (whole_no_half e w))
 
 -- a power by half of an odd whole number has no plain value

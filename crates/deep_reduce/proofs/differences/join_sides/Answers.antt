@@ -56,8 +56,16 @@ returns c =
       leaves = search rules;
     }
 
-pub returns-in_err-both-clause-room : goal.returns-in_err-both-clause-room
-returns-in_err-both-clause-room c = λ gs ns k s.
-    passed_on c.from_residual.result (fault.Full c.in_err-both.field-0.0) _ c.from_residual.ensures.0 c.from_residual.ensures.1
-    (joined_lacks c.args.connective gs _ _ (free_of c.args.pool.now) c.requires.left_reduced c.requires.right_reduced s
-    (subst (λ (k : Kind). free_of c.args.pool.now < size_of_payload (bare k)) c.kind.ensures (refused_below c.in_err-both.ensures.full)))
+pub returns-in_err-both : goal.returns-in_err-both
+returns-in_err-both c =
+    let f = c.from_residual in
+    record {
+      ok = search rules;
+      overflow = search rules;
+      front = c.node_over_two.ensures.front;
+      room = λ gs ns k s. passed_on f.result (fault.Full c.in_err-both.field-0.0) _ f.ensures.0 f.ensures.1
+          (joined_lacks c.args.connective gs _ _ (free_of c.args.pool.now) c.requires.left_reduced c.requires.right_reduced s
+          (subst (λ (k : Kind). free_of c.args.pool.now < size_of_payload (bare k)) c.kind.ensures (refused_below c.in_err-both.ensures.full)));
+      bits = λ h l k few. search rules;
+      leaves = search rules;
+    }

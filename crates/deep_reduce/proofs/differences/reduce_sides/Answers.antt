@@ -21,13 +21,20 @@ fit c q e =
 pub has_undefined_child-requires-clause-expression : goal.has_undefined_child-requires-clause-expression
 has_undefined_child-requires-clause-expression c = expression c.id.ensures c.requires.stands c.requires.handed
 
-pub returns-then-has_undefined_child-clause-ok : goal.returns-then-has_undefined_child-clause-ok
-returns-then-has_undefined_child-clause-ok c =
+pub returns-then-has_undefined_child : goal.returns-then-has_undefined_child
+returns-then-has_undefined_child c =
     let t : Tree = tree_of c.args.node c.args.pool.now in
     let some =
     sym (c.has_undefined_child.ensures ∙ ap (λ (t : Tree). has_undef (children_of t)) (seen c.id.ensures c.requires.stands c.requires.handed))
     ∙ c.if-has_undefined_child.true in
-    gives_as c.undefined.ensures.gives refl (λ u e. subst (IsNodeAnswer t) (sym e) (undefined_answer t some))
+    record {
+      ok = gives_as c.undefined.ensures.gives refl (λ u e. subst (IsNodeAnswer t) (sym e) (undefined_answer t some));
+      overflow = tt;
+      front = c.undefined.ensures.front;
+      room = λ gs ns n h calm z. tt;
+      bits = λ h l held few. tt;
+      leaves = search rules;
+    }
 
 pub turn-requires : goal.turn-requires
 turn-requires c =

@@ -44,17 +44,21 @@ summed c = changes_as (c.fill.ensures.changed _ _ _ (hole_stays c.in_ok-sum.ensu
 pub move_last-requires-clause-root : goal.move_last-requires-clause-root
 move_last-requires-clause-root c = (summed (goal.at.move_last-requires-clause-root c).After-fill).handed.root
 
-pub returns-clause-ok : goal.returns-clause-ok
-returns-clause-ok c =
+pub returns : goal.returns
+returns c =
     let told = exponent_told c.requires.power c.open_child-hole.ensures.child in
     let sum = c.in_ok-sum.ensures in
     let v : Tree = tree_of c.in_ok-sum.sum c.reduce_sum.new.pool in
-    changes_last (summed (goal.at.returns-clause-ok c).After-fill) c.move_last.ensures.last (record {
-      exponent = v;
-      sum = subst (λ (t : Tree). IsSumAnswer (children_of t) v) told (given_told sum.ok);
-      bounds = subst (λ (t : Tree). KeepsSumBounds (children_of t) v) told sum.bounds;
-      is = refl;
-    })
-
-pub returns-clause-front : goal.returns-clause-front
-returns-clause-front c = changes_last_front (summed (goal.at.returns-clause-front c).After-fill) c.move_last.ensures.last
+    let p = summed (goal.at.returns c).After-fill in
+    record {
+      ok = changes_last p c.move_last.ensures.last (record {
+        exponent = v;
+        sum = subst (λ (t : Tree). IsSumAnswer (children_of t) v) told (given_told sum.ok);
+        bounds = subst (λ (t : Tree). KeepsSumBounds (children_of t) v) told sum.bounds;
+        is = refl;
+      });
+      front = changes_last_front p c.move_last.ensures.last;
+      room = λ gs s. tt;
+      bits = λ h l s few. tt;
+      leaves = search rules;
+    }

@@ -41,18 +41,22 @@ rooted c = changes_as (c.fill.ensures.changed _ _ _ (hole_stays c.in_ok-reduced.
 pub move_last-requires-clause-root : goal.move_last-requires-clause-root
 move_last-requires-clause-root c = (rooted (goal.at.move_last-requires-clause-root c).After-fill).handed.root
 
-pub returns-clause-ok : goal.returns-clause-ok
-returns-clause-ok c =
+pub returns : goal.returns
+returns c =
     let told = base_told c.requires.power c.open_child-hole.ensures.child in
     let root = c.in_ok-reduced.ensures in
     let v : Tree = tree_of c.in_ok-reduced.reduced c.reduce_root.new.pool in
-    changes_last (rooted (goal.at.returns-clause-ok c).After-fill) c.move_last.ensures.last (record {
-      root = v;
-      answer = subst (λ (x : Tree). IsRootAnswer (argument_of x) v) told (given_told root.ok);
-      spanned = λ gs s. root.spanned gs (subst (SpansTree gs) (sym told) s);
-      measured = subst (λ (x : Tree). IfRational (argument_of x) (λ q. int_is_negative q.num ≡ false → IsNoLargerThanRoot q (value v))) told root.measured;
-      is = refl;
-    })
-
-pub returns-clause-front : goal.returns-clause-front
-returns-clause-front c = changes_last_front (rooted (goal.at.returns-clause-front c).After-fill) c.move_last.ensures.last
+    let p = rooted (goal.at.returns c).After-fill in
+    record {
+      ok = changes_last p c.move_last.ensures.last (record {
+        root = v;
+        answer = subst (λ (x : Tree). IsRootAnswer (argument_of x) v) told (given_told root.ok);
+        spanned = λ gs s. root.spanned gs (subst (SpansTree gs) (sym told) s);
+        measured = subst (λ (x : Tree). IfRational (argument_of x) (λ q. int_is_negative q.num ≡ false → IsNoLargerThanRoot q (value v))) told root.measured;
+        is = refl;
+      });
+      front = changes_last_front p c.move_last.ensures.last;
+      room = tt;
+      bits = λ h l k few. tt;
+      leaves = search rules;
+    }

@@ -1,17 +1,24 @@
 use Rattle.deep_reduce.proofs.Shared.{◌≡◌, Some, rules, refl, sym, subst, arith, Gives, Rewrites, Tree, numerator, gives_itself, IsHeldAsPowerOf, IsFactorHeld, argument_of, forest, free_of}
 use Rattle.deep_reduce.proofs.Shared.{replaced_free, passed_on, refusal_as, rewritten, without_root, keeps_after, base_in, exponent_in, tree_of, gives_as, given_handed, given_told, half_no_whole}
 use Rattle.deep_reduce.proofs.{Shared.{if_ok_both}, Arms.{is_done, is_again, any_fault, any_refusal, misfit_fault, half_defined}, Children.{gives_next, front_next}, HalfPowers.{IsHalfStep, half_step}}
-use Rattle.deep_reduce.proofs.{HalfPowers.{half_ready, half_last, last_exponent, rooted_held, half_after, step_finds_none, base_finds_none, last_step, last_finds_none}, Lacking.{lacks_as}}
+use Rattle.deep_reduce.proofs.{HalfPowers.{half_ready, half_last, last_exponent, rooted_held, half_after, step_finds_none, base_finds_none, last_step, last_finds_none}, Lacking.{lacks_as, short_at}}
 use Rattle.deep_reduce.proofs.{Opened.{power_finished}, halves.reduce_half_power.Goals.{In-Again}}
 use Rattle.node_bounds.proofs.HeldRoots.{half_fits}
 use Rattle.deep_reduce.proofs.halves.reduce_half_power.Goals as goal
 
-pub returns-in-Done-clause-ok : goal.returns-in-Done-clause-ok
-returns-in-Done-clause-ok c =
+pub returns-in-Done : goal.returns-in-Done
+returns-in-Done c =
     let b : Tree = base_in (tree_of c.args.power c.args.pool.now) in
     let e : Tree = exponent_in (tree_of c.args.power c.args.pool.now) in
     let d = is_done c.args.power c.args.pool.now c.power_step.new.pool c.in-Done.is c.in_ok-answer.ensures.ok in
-    gives_as d.1 refl (λ t a. power_finished b e t d.0 a (λ n q. half_no_whole e n c.requires.half q))
+    record {
+      ok = gives_as d.1 refl (λ t a. power_finished b e t d.0 a (λ n q. half_no_whole e n c.requires.half q));
+      defined = tt;
+      front = c.power_step.ensures.front;
+      room = λ gs z. tt;
+      bits = λ h l z a few more. tt;
+      leaves = search rules;
+    }
 
 -- the power after one step
 again : (c : In-Again) → Gives (without_root c.args.power (forest c.args.pool.now)) (forest c.power_step.new.pool) c.in-Again.tree
@@ -72,24 +79,23 @@ returns-in_ok-rooted-in-Again c =
           let x = last_step gs z s k in
           let kept = keeps_after _ _ _ c.in_ok-answer.ensures.kept c.in_ok-rooted-in-Again.ensures.leaves.kept in
           let moved = replaced_free c.requires.stands c.in_ok-rooted-in-Again.ensures.leaves.stands kept c.requires.handed both in
-          refusal_as c.last_step.result (c.last_step.ensures.room gs x.spanned x.whole) (λ f q. lacks_as f (last_finds_none gs (free_of c.reduce_base.new.pool) f x q) (λ l. omega (arith, l, moved)));
+          refusal_as c.last_step.result (c.last_step.ensures.room gs x.spanned x.whole) (λ f q. lacks_as f (last_finds_none gs (free_of c.reduce_base.new.pool) f x q) (λ l. short_at moved l));
       bits = λ h l z a few more. c.last_step.ensures.bits n h l exponent (λ d. rooted_held c.requires.base s k z d a) more;
       leaves = search rules;
     }
 
 -- ---- operations that do not fit
 
-pub returns-in_err-answer-clause-defined : goal.returns-in_err-answer-clause-defined
-returns-in_err-answer-clause-defined c = passed_on c.from_residual.result c.in_err-answer.field-0.0 _ c.from_residual.ensures.0 c.from_residual.ensures.1
-    (misfit_fault (tree_of c.args.power c.args.pool.now) c.in_err-answer.field-0.0 c.requires.power c.in_err-answer.ensures.overflow)
-
-pub returns-in_err-answer-clause-room : goal.returns-in_err-answer-clause-room
-returns-in_err-answer-clause-room c = λ gs s. passed_on c.from_residual.result c.in_err-answer.field-0.0 _ c.from_residual.ensures.0 c.from_residual.ensures.1
-    (step_finds_none gs (tree_of c.args.power c.args.pool.now) (free_of c.args.pool.now) c.in_err-answer.field-0.0 c.requires.base s (c.in_err-answer.ensures.root_room c.requires.half))
-
-pub returns-in_err-answer-clause-bits : goal.returns-in_err-answer-clause-bits
-returns-in_err-answer-clause-bits c = λ h l z a few more.
-    let b : Tree = base_in (tree_of c.args.power c.args.pool.now) in
-    let e : Tree = exponent_in (tree_of c.args.power c.args.pool.now) in
-    passed_on c.from_residual.result c.in_err-answer.field-0.0 _ c.from_residual.ensures.0 c.from_residual.ensures.1
-    (half_fits b e c.in_err-answer.field-0.0 c.requires.half c.in_err-answer.ensures.overflow)
+pub returns-in_err-answer : goal.returns-in_err-answer
+returns-in_err-answer c =
+    let t : Tree = tree_of c.args.power c.args.pool.now in
+    let f = c.from_residual in
+    let x = c.in_err-answer in
+    record {
+      ok = search rules;
+      defined = passed_on f.result x.field-0.0 _ f.ensures.0 f.ensures.1 (misfit_fault t x.field-0.0 c.requires.power x.ensures.overflow);
+      front = c.power_step.ensures.front;
+      room = λ gs s. passed_on f.result x.field-0.0 _ f.ensures.0 f.ensures.1 (step_finds_none gs t (free_of c.args.pool.now) x.field-0.0 c.requires.base s (x.ensures.root_room c.requires.half));
+      bits = λ h l z a few more. passed_on f.result x.field-0.0 _ f.ensures.0 f.ensures.1 (half_fits (base_in t) (exponent_in t) x.field-0.0 c.requires.half x.ensures.overflow);
+      leaves = search rules;
+    }

@@ -8,8 +8,9 @@ use Rattle.deep_reduce.proofs.Arms.{is_finished, is_gathered, is_at, is_few, is_
 use Rattle.deep_reduce.proofs.Children.{exponent_told, exponent_set, factor_set, gives_next, front_next, exponent_seen, with_product, without_product, taken_falls, two_sides, handed_within}
 use Rattle.deep_reduce.proofs.Falls.{joint_falls, two_falls, next_two_falls, pairs_fall, product_falls, power_falls, rewritten_falls, powers_fall, ready_product_falls, exponent_falls}
 use Rattle.deep_reduce.proofs.{Falls.{ready_power_falls, one_power_falls}, Finished.{product_of_powers, ready_product, transparent_children, ready_power, power_lifted, power_of_kind}}
-use Rattle.deep_reduce.proofs.Lacking.{lacks_as, result_lacks, handed_on, joint_sum_lacks, joint_power_short, joint_at_spans, joint_ready, next_bytes, step_lacks, power_refused, power_result}
+use Rattle.deep_reduce.proofs.Lacking.{lacks_as, result_lacks, short_as, short_at, short_beside, handed_on, joint_sum_lacks, joint_power_short, joint_at_spans, joint_ready, next_bytes, step_lacks, power_refused, power_result}
 use Rattle.deep_reduce.proofs.{Lacking.{ready_product as ready_for_product, ready_power as ready_for_power, ready_exponent, ready_part}, Measures.{few_factors, below_measure}}
+use Rattle.deep_reduce.proofs.Told.{half_no_whole as half_is_not_whole}
 use Rattle.deep_reduce.proofs.{Opened.{opened, power_after, power_finished}, Rows.{IsPowerOf, none_reduced, next_power, next_within, next_of, next_told, next_reduced, all_reduced}, Settled.{joint_at}}
 use Rattle.deep_reduce.proofs.Settled.{ready_joint, ready_summed, pair_joined, settled_less, settled_within, less_gathered, less_next, gathered_product, some_pair, product_after, product_finished}
 use Rattle.std.proofs.Common.{IfSome, Err}
@@ -21,17 +22,25 @@ use Rattle.deep_reduce.proofs.whole.+reduction.Goals as goal
 
 -- ---- reduce_product
 
-pub reduce_product-returns-in-Done-clause-ok : goal.reduce_product-returns-in-Done-clause-ok
-reduce_product-returns-in-Done-clause-ok t c =
+pub reduce_product-returns-in-Done : goal.reduce_product-returns-in-Done
+reduce_product-returns-in-Done t c =
     let ts : Trees = children_of (tree_of c.args.product c.args.pool.now) in
+    let g = is_finished c.args.product c.args.pool.now c.gather_factors.new.pool c.in-Done.is c.in_ok-answer.ensures.done in
     let b = is_bounded c.args.product c.args.pool.now c.gather_factors.new.pool c.in-Done.is c.in_ok-answer.ensures.bounds in
-    gives_as (gives_itself (is_finished c.args.product c.args.pool.now c.gather_factors.new.pool c.in-Done.is c.in_ok-answer.ensures.done)) refl
-    (λ u f. product_finished ts u c.requires.reduced f.0 (subst (KeepsProductBounds ts) (sym f.1) b))
-
-pub reduce_product-returns-in-Done-clause-joined : goal.reduce_product-returns-in-Done-clause-joined
-reduce_product-returns-in-Done-clause-joined t c =
-    let f = given_told (is_finished c.args.product c.args.pool.now c.gather_factors.new.pool c.in-Done.is c.in_ok-answer.ensures.done) in
-    record { us = children_of (tree_of c.args.product c.args.pool.now); joins = joins_none; finished = f }
+    record {
+      ok = gives_as (gives_itself g) refl (λ u f. product_finished ts u c.requires.reduced f.0 (subst (KeepsProductBounds ts) (sym f.1) b));
+      joined = record { us = ts; joins = joins_none; finished = given_told g };
+      written = λ d n. (given_told g).written d;
+      rationals = search rules;
+      defined = tt;
+      front = c.gather_factors.ensures.front;
+      kept = c.in_ok-answer.ensures.kept;
+      faults = tt;
+      caused = tt;
+      room = λ gs ns k s. tt;
+      bits = λ h l a few. tt;
+      stands = c.gather_factors.ensures.stands;
+    }
 
 pub reduce_product-join_pairs-requires : goal.reduce_product-join_pairs-requires
 reduce_product-join_pairs-requires t c =
@@ -45,31 +54,31 @@ reduce_product-join_pairs-requires t c =
       ),
     )
 
-pub reduce_product-returns-in_err-joined-in-Joined-clause-defined : goal.reduce_product-returns-in_err-joined-in-Joined-clause-defined
-reduce_product-returns-in_err-joined-in-Joined-clause-defined t c =
-    let j = given_told (is_gathered c.args.product c.args.pool.now c.gather_factors.new.pool c.in-Joined.is c.in_ok-answer.ensures.gathered) in
-    passed_on c.from_residual-in_err-joined-in-Joined.result c.in_err-joined-in-Joined.field-0.0 _ c.from_residual-in_err-joined-in-Joined.ensures.0 c.from_residual-in_err-joined-in-Joined.ensures.1
-    (any_fault c.in_err-joined-in-Joined.field-0.0 _ j.joinable.defined)
-
-pub reduce_product-returns-in_err-joined-in-Joined-clause-front : goal.reduce_product-returns-in_err-joined-in-Joined-clause-front
-reduce_product-returns-in_err-joined-in-Joined-clause-front t c =
-    front_next (is_gathered c.args.product c.args.pool.now c.gather_factors.new.pool c.in-Joined.is c.in_ok-answer.ensures.gathered) c.gather_factors.ensures.front c.join_pairs.ensures.front
-
-pub reduce_product-returns-in_err-joined-in-Joined-clause-room : goal.reduce_product-returns-in_err-joined-in-Joined-clause-room
-reduce_product-returns-in_err-joined-in-Joined-clause-room t c = λ gs ns k s.
+pub reduce_product-returns-in_err-joined-in-Joined : goal.reduce_product-returns-in_err-joined-in-Joined
+reduce_product-returns-in_err-joined-in-Joined t c =
     let g = is_gathered c.args.product c.args.pool.now c.gather_factors.new.pool c.in-Joined.is c.in_ok-answer.ensures.gathered in
     let u : Tree = tree_of c.in-Joined.product c.gather_factors.new.pool in
     let hands = gathered_hands c.args.product c.args.pool.now c.gather_factors.new.pool c.in-Joined.is c.in_ok-answer.ensures.gathered c.in_ok-answer.ensures.joined_bounds in
-    let x = handed_on (tree_of c.args.product c.args.pool.now) u c.requires.product (product_words u (gathered_product _ _ (given_told g))) hands gs ns k s in
-    passed_on c.from_residual-in_err-joined-in-Joined.result c.in_err-joined-in-Joined.field-0.0 _ c.from_residual-in_err-joined-in-Joined.ensures.0 c.from_residual-in_err-joined-in-Joined.ensures.1
-    (lacks_as c.in_err-joined-in-Joined.field-0.0 (c.in_err-joined-in-Joined.ensures.room gs ns x.calm x.spanned)
-    (λ l. omega (arith, l, x.needs, replaced_free c.requires.stands c.in_ok-answer.ensures.stands c.in_ok-answer.ensures.kept c.requires.handed g)))
-
-pub reduce_product-returns-in_err-joined-in-Joined-clause-bits : goal.reduce_product-returns-in_err-joined-in-Joined-clause-bits
-reduce_product-returns-in_err-joined-in-Joined-clause-bits t c = λ h l a few.
-    let hands = gathered_hands c.args.product c.args.pool.now c.gather_factors.new.pool c.in-Joined.is c.in_ok-answer.ensures.gathered c.in_ok-answer.ensures.joined_bounds in
-    passed_on c.from_residual-in_err-joined-in-Joined.result c.in_err-joined-in-Joined.field-0.0 _ c.from_residual-in_err-joined-in-Joined.ensures.0 c.from_residual-in_err-joined-in-Joined.ensures.1
-    (c.in_err-joined-in-Joined.ensures.bits h l (hands.held h l a) few)
+    let f = c.from_residual-in_err-joined-in-Joined in
+    let e = c.in_err-joined-in-Joined in
+    record {
+      ok = search rules;
+      joined = search rules;
+      written = search rules;
+      rationals = search rules;
+      defined = passed_on f.result e.field-0.0 _ f.ensures.0 f.ensures.1 (any_fault e.field-0.0 _ (given_told g).joinable.defined);
+      front = front_next g c.gather_factors.ensures.front c.join_pairs.ensures.front;
+      kept = search rules;
+      faults = search rules;
+      caused = search rules;
+      room = λ gs ns k s.
+          let x = handed_on (tree_of c.args.product c.args.pool.now) u c.requires.product (product_words u (gathered_product _ _ (given_told g))) hands gs ns k s in
+          passed_on f.result e.field-0.0 _ f.ensures.0 f.ensures.1
+          (lacks_as e.field-0.0 (e.ensures.room gs ns x.calm x.spanned)
+          (λ l. short_as (replaced_free c.requires.stands c.in_ok-answer.ensures.stands c.in_ok-answer.ensures.kept c.requires.handed g) x.needs l));
+      bits = λ h l a few. passed_on f.result e.field-0.0 _ f.ensures.0 f.ensures.1 (e.ensures.bits h l (hands.held h l a) few);
+      stands = search rules;
+    }
 
 pub reduce_product-reduce_product-requires : goal.reduce_product-reduce_product-requires
 reduce_product-reduce_product-requires t c =
@@ -99,7 +108,7 @@ reduce_product-returns-in_ok-joined-in-Joined t c =
           let x = handed_on (tree_of c.args.product c.args.pool.now) v c.requires.product l.is l.hands_on gs ns k s in
           let kept = keeps_after _ _ _ c.in_ok-answer.ensures.kept c.in_ok-joined-in-Joined.ensures.leaves.kept in
           result_lacks c.reduce_product.result (c.reduce_product.ensures.room gs ns x.calm x.spanned)
-          (λ m. omega (arith, m, x.needs, replaced_free c.requires.stands c.in_ok-joined-in-Joined.ensures.leaves.stands kept c.requires.handed next));
+          (λ m. short_as (replaced_free c.requires.stands c.in_ok-joined-in-Joined.ensures.leaves.stands kept c.requires.handed next) x.needs m);
       bits = λ h m a few. c.reduce_product.ensures.bits h m (l.hands_on.held h m a) few;
       stands = search rules;
     }
@@ -150,22 +159,31 @@ join_pairs-loop-next-preserved t c =
       front = front_next g i.front c.join_two-in-Some.ensures.front;
     }
 
-pub join_pairs-returns-in-Err-clause-front : goal.join_pairs-returns-in-Err-clause-front
-join_pairs-returns-in-Err-clause-front t c = front_next c.loop-next.invariant.given c.loop-next.invariant.front c.join_two-in-Some.ensures.front
-
-pub join_pairs-returns-in_err-joined-clause-room : goal.join_pairs-returns-in_err-joined-clause-room
-join_pairs-returns-in_err-joined-clause-room t c = λ gs ns k s.
-    passed_on c.from_residual.result c.in_err-joined.field-0.0 _ c.from_residual.ensures.0 c.from_residual.ensures.1 (c.in_err-joined.ensures.room gs ns k s)
-
-pub join_pairs-returns-in-Err-clause-room : goal.join_pairs-returns-in-Err-clause-room
-join_pairs-returns-in-Err-clause-room t c = λ gs ns k s.
+pub join_pairs-returns-in-Err : goal.join_pairs-returns-in-Err
+join_pairs-returns-in-Err t c =
     let i = c.loop-next.invariant in
     let l = given_told i.given in
-    let x = handed_on (tree_of c.args.product c.args.pool.now) (tree_of c.loop-next.joined c.loop-next.pool) c.requires.product l.is l.hands_on gs ns k s in
-    lacks_as c.in-Err.fault (c.in-Err.ensures.room gs ns x.calm x.spanned) (λ l. omega (arith, l, x.needs, replaced_free c.requires.stands i.stands i.kept c.requires.handed i.given))
+    record {
+      ok = tt;
+      front = front_next i.given i.front c.join_two-in-Some.ensures.front;
+      room = λ gs ns k s.
+          let x = handed_on (tree_of c.args.product c.args.pool.now) (tree_of c.loop-next.joined c.loop-next.pool) c.requires.product l.is l.hands_on gs ns k s in
+          lacks_as c.in-Err.fault (c.in-Err.ensures.room gs ns x.calm x.spanned) (λ m. short_as (replaced_free c.requires.stands i.stands i.kept c.requires.handed i.given) x.needs m);
+      bits = λ h m a few. c.in-Err.ensures.bits h m (l.hands_on.held h m a) few;
+      leaves = search rules;
+    }
 
-pub join_pairs-returns-in-Err-clause-bits : goal.join_pairs-returns-in-Err-clause-bits
-join_pairs-returns-in-Err-clause-bits t c = λ h l a few. c.in-Err.ensures.bits h l ((given_told c.loop-next.invariant.given).hands_on.held h l a) few
+pub join_pairs-returns-in_err-joined : goal.join_pairs-returns-in_err-joined
+join_pairs-returns-in_err-joined t c =
+    let f = c.from_residual in
+    let e = c.in_err-joined in
+    record {
+      ok = search rules;
+      front = c.join_two.ensures.front;
+      room = λ gs ns k s. passed_on f.result e.field-0.0 _ f.ensures.0 f.ensures.1 (e.ensures.room gs ns k s);
+      bits = λ h l a few. passed_on f.result e.field-0.0 _ f.ensures.0 f.ensures.1 (e.ensures.bits h l a few);
+      leaves = search rules;
+    }
 
 -- ---- join_two
 
@@ -189,17 +207,24 @@ join_two-returns t c =
       room = λ gs ns k s.
           let w = product_words u c.requires.product in
           result_lacks c.reduce_joint.result (c.reduce_joint.ensures.room gs ns ts from (subst (IsCalmAtZero ns) w k) (subst (SpansTree gs) w s))
-          (λ l. omega (arith, l, replaced_free c.requires.stands c.in_ok-joined.ensures.stands c.in_ok-joined.ensures.kept c.requires.handed g));
+          (λ l. short_at (replaced_free c.requires.stands c.in_ok-joined.ensures.stands c.in_ok-joined.ensures.kept c.requires.handed g) l);
       bits = λ h l a few. c.reduce_joint.ensures.bits h l ts from a few;
       leaves = search rules;
     }
 
-pub join_two-returns-in_err-joined-clause-room : goal.join_two-returns-in_err-joined-clause-room
-join_two-returns-in_err-joined-clause-room t c = λ gs ns k s.
+pub join_two-returns-in_err-joined : goal.join_two-returns-in_err-joined
+join_two-returns-in_err-joined t c =
     let u : Tree = tree_of c.args.product c.args.pool.now in
     let w = product_words u c.requires.product in
-    passed_on c.from_residual.result (fault.Full c.in_err-joined.field-0.0) _ c.from_residual.ensures.0 c.from_residual.ensures.1
-    (omega (arith, joint_lacks gs (children_of u) (free_of c.args.pool.now) c.requires.reduced (subst (SpansTree gs) w s).1 c.in_err-joined.ensures.room, ap size w))
+    record {
+      ok = search rules;
+      within = search rules;
+      front = c.join_neighbours.ensures.front;
+      room = λ gs ns k s. passed_on c.from_residual.result (fault.Full c.in_err-joined.field-0.0) _ c.from_residual.ensures.0 c.from_residual.ensures.1
+          (short_beside (free_of c.args.pool.now) w (joint_lacks gs (children_of u) (free_of c.args.pool.now) c.requires.reduced (subst (SpansTree gs) w s).1 c.in_err-joined.ensures.room));
+      bits = λ h l a few. passed_on c.from_residual.result (fault.Full c.in_err-joined.field-0.0) _ c.from_residual.ensures.0 c.from_residual.ensures.1 tt;
+      leaves = search rules;
+    }
 
 -- ---- reduce_joint
 
@@ -283,29 +308,45 @@ reduce_joint-move_last-requires-clause-root t c =
     let g = gives_next c.in_ok-power.ensures.ok c.in_ok-factor.ensures.ok (λ u x. x) in
     (c.fill.ensures.changed _ _ _ (hole_stays g c.open_child-hole.ensures.hole)).handed.root
 
-pub reduce_joint-returns-clause-ok : goal.reduce_joint-returns-clause-ok
-reduce_joint-returns-clause-ok t c =
+pub reduce_joint-returns : goal.reduce_joint-returns
+reduce_joint-returns t c =
     let g = gives_next c.in_ok-power.ensures.ok c.in_ok-factor.ensures.ok (λ u x. x) in
     let v : Tree = tree_of c.in_ok-factor.factor c.reduce_power.new.pool in
-    let p = changes_as (c.fill.ensures.changed _ _ _ (hole_stays g c.open_child-hole.ensures.hole)) (factor_set (tree_of c.args.product c.args.pool.now) c.args.at v c.requires.product) in
+    let changed = c.fill.ensures.changed _ _ _ (hole_stays g c.open_child-hole.ensures.hole) in
+    let p = changes_as changed (factor_set (tree_of c.args.product c.args.pool.now) c.args.at v c.requires.product) in
     let s = subst (λ (x : Tree). IsSummed (base_in x) (children_of (exponent_in x)) (tree_of c.in_ok-power.power c.sum_exponent.new.pool)) (given_told c.open_child-hole.ensures.child) (given_told c.in_ok-power.ensures.ok) in
     let answer = subst (λ (x : Tree). IsReducedPower (base_in x) (exponent_in x) v) s.is (given_told c.in_ok-factor.ensures.ok) in
-    changes_last p c.move_last.ensures.last (record { exponent = s.exponent; sum = s.sum; bounds = s.bounds; factor = v; answer = answer; is = refl })
-
-pub reduce_joint-returns-clause-front : goal.reduce_joint-returns-clause-front
-reduce_joint-returns-clause-front t c =
-    let g = gives_next c.in_ok-power.ensures.ok c.in_ok-factor.ensures.ok (λ u x. x) in
-    changes_last_front (c.fill.ensures.changed _ _ _ (hole_stays g c.open_child-hole.ensures.hole)) c.move_last.ensures.last
+    record {
+      ok = changes_last p c.move_last.ensures.last (record { exponent = s.exponent; sum = s.sum; bounds = s.bounds; factor = v; answer = answer; is = refl });
+      front = changes_last_front changed c.move_last.ensures.last;
+      room = λ gs ns ts k q x. tt;
+      bits = λ h l ts k a few. tt;
+      leaves = search rules;
+    }
 
 -- ---- reduce_power
 
-pub reduce_power-returns-in-Done-clause-ok : goal.reduce_power-returns-in-Done-clause-ok
-reduce_power-returns-in-Done-clause-ok t c =
+pub reduce_power-returns-in-Done : goal.reduce_power-returns-in-Done
+reduce_power-returns-in-Done t c =
+    let b : Tree = base_in (tree_of c.args.power c.args.pool.now) in
+    let e : Tree = exponent_in (tree_of c.args.power c.args.pool.now) in
     let d = is_done c.args.power c.args.pool.now c.power_step.new.pool c.in-Done.is c.in_ok-answer.ensures.ok in
-    gives_as (gives_itself d.1) refl
-    (λ u a. power_finished (base_in (tree_of c.args.power c.args.pool.now)) (exponent_in (tree_of c.args.power c.args.pool.now)) u d.0 a.0
-    (λ n q. subst (IsHeldAsPowerOf n (base_in (tree_of c.args.power c.args.pool.now))) (sym a.1)
-    (is_held c.power_step.new.pool c.in-Done.is n (base_in (tree_of c.args.power c.args.pool.now)) (c.in_ok-answer.ensures.held n q))))
+    record {
+      ok = gives_as (gives_itself d.1) refl (λ u a. power_finished b e u d.0 a.0
+          (λ n q. subst (IsHeldAsPowerOf n b) (sym a.1) (is_held c.power_step.new.pool c.in-Done.is n b (c.in_ok-answer.ensures.held n q))));
+      rationals = search rules;
+      defined = tt;
+      front = c.power_step.ensures.front;
+      kept = c.in_ok-answer.ensures.kept;
+      faults = tt;
+      caused = tt;
+      room = λ gs ns k s w. tt;
+      root_room = λ gs h s. tt;
+      others = λ w h. refl;
+      bits = λ n h l q a few. tt;
+      root_bits = λ h l q z a few more. tt;
+      stands = c.power_step.ensures.stands;
+    }
 
 pub reduce_power-reduce_rewritten-requires : goal.reduce_power-reduce_rewritten-requires
 reduce_power-reduce_rewritten-requires t c =
@@ -331,7 +372,7 @@ reduce_power-returns-in-Again t c =
       caused = search rules;
       room = λ gs ns k s e.
           result_lacks c.reduce_rewritten.result (c.reduce_rewritten.ensures.room gs ns _ _ r (subst (IsCalmAtZero ns) c.requires.power k) (subst (SpansTree gs) c.requires.power s))
-          (λ l. omega (arith, l, replaced_free c.requires.stands c.in_ok-answer.ensures.stands c.in_ok-answer.ensures.kept c.requires.handed g));
+          (λ l. short_at (replaced_free c.requires.stands c.in_ok-answer.ensures.stands c.in_ok-answer.ensures.kept c.requires.handed g) l);
       root_room = λ gs h s. contrary h n;
       others = λ e h. contrary r.whole e;
       bits = λ m h l q a few. c.reduce_rewritten.ensures.bits _ _ m h l r q a few;
@@ -339,22 +380,48 @@ reduce_power-returns-in-Again t c =
       stands = search rules;
     }
 
-pub reduce_power-returns-then-has_half_exponent-clause-root_room : goal.reduce_power-returns-then-has_half_exponent-clause-root_room
-reduce_power-returns-then-has_half_exponent-clause-root_room t c = λ gs h s. c.reduce_half_power.ensures.room gs s
+pub reduce_power-returns-then-has_half_exponent : goal.reduce_power-returns-then-has_half_exponent
+reduce_power-returns-then-has_half_exponent t c =
+    let e : Tree = exponent_in (tree_of c.args.power c.args.pool.now) in
+    let half = sym c.has_half_exponent.ensures ∙ c.if-has_half_exponent.true in
+    let x = c.reduce_half_power.ensures in
+    record {
+      ok = x.ok;
+      rationals = λ p q h. contrary half h;
+      defined = x.defined;
+      front = x.front;
+      kept = x.leaves.kept;
+      faults = x.leaves.faults;
+      caused = x.leaves.caused;
+      room = λ gs ns k s w. contrary w (half_is_not_whole e half);
+      root_room = λ gs h s. x.room gs s;
+      others = λ w h. contrary half h;
+      bits = λ n h l q a few. half_no_whole e n half q;
+      root_bits = λ h l q z a few more. x.bits h l z a few more;
+      stands = x.leaves.stands;
+    }
 
-pub reduce_power-returns-in_err-answer-clause-room : goal.reduce_power-returns-in_err-answer-clause-room
-reduce_power-returns-in_err-answer-clause-room t c = λ gs ns k s w.
-    passed_on c.from_residual.result c.in_err-answer.field-0.0 _ c.from_residual.ensures.0 c.from_residual.ensures.1
-    (step_lacks gs (tree_of c.args.power c.args.pool.now) (free_of c.args.pool.now) c.in_err-answer.field-0.0 (c.in_err-answer.ensures.room gs s w))
-
-pub reduce_power-returns-in_err-answer-clause-defined : goal.reduce_power-returns-in_err-answer-clause-defined
-reduce_power-returns-in_err-answer-clause-defined t c =
-    passed_on c.from_residual.result c.in_err-answer.field-0.0 _ c.from_residual.ensures.0 c.from_residual.ensures.1
-    (misfit_fault (tree_of c.args.power c.args.pool.now) c.in_err-answer.field-0.0 c.requires.power c.in_err-answer.ensures.overflow)
-
-pub reduce_power-returns-then-has_half_exponent-clause-bits : goal.reduce_power-returns-then-has_half_exponent-clause-bits
-reduce_power-returns-then-has_half_exponent-clause-bits t c =
-    λ n h l q a few. half_no_whole (exponent_in (tree_of c.args.power c.args.pool.now)) n (sym c.has_half_exponent.ensures ∙ c.if-has_half_exponent.true) q
+pub reduce_power-returns-in_err-answer : goal.reduce_power-returns-in_err-answer
+reduce_power-returns-in_err-answer t c =
+    let n = sym c.has_half_exponent.ensures ∙ c.if-has_half_exponent.false in
+    let f = c.from_residual in
+    let e = c.in_err-answer in
+    record {
+      ok = search rules;
+      rationals = search rules;
+      defined = passed_on f.result e.field-0.0 _ f.ensures.0 f.ensures.1 (misfit_fault (tree_of c.args.power c.args.pool.now) e.field-0.0 c.requires.power e.ensures.overflow);
+      front = c.power_step.ensures.front;
+      kept = search rules;
+      faults = search rules;
+      caused = search rules;
+      room = λ gs ns k s w. passed_on f.result e.field-0.0 _ f.ensures.0 f.ensures.1
+          (step_lacks gs (tree_of c.args.power c.args.pool.now) (free_of c.args.pool.now) e.field-0.0 (e.ensures.room gs s w));
+      root_room = λ gs h s. contrary h n;
+      others = search rules;
+      bits = λ m h l q a few. passed_on f.result e.field-0.0 _ f.ensures.0 f.ensures.1 (e.ensures.bits m q h l a few);
+      root_bits = λ h l q z a few more. contrary q n;
+      stands = search rules;
+    }
 
 -- ---- reduce_rewritten
 
@@ -382,7 +449,7 @@ reduce_rewritten-returns-in_ok-product-in-Mult t c =
       room = λ gs ns b e r k s.
           let x = ready_for_product gs ns b e u v m r k s (given_told g) in
           result_lacks c.reduce_product.result (c.reduce_product.ensures.room gs ns x.calm x.spanned)
-          (λ l. omega (arith, x.lacks _ l, replaced_free c.requires.stands c.in_ok-product-in-Mult.ensures.leaves.stands c.in_ok-product-in-Mult.ensures.leaves.kept c.requires.handed g));
+          (λ l. short_at (replaced_free c.requires.stands c.in_ok-product-in-Mult.ensures.leaves.stands c.in_ok-product-in-Mult.ensures.leaves.kept c.requires.handed g) (x.lacks _ l));
       bits = λ b e n h l r q a few.
           product_fits (children_of v) c.reduce_product.result
           (λ d. c.reduce_product.ensures.bits (raised_high n h l) (raised_low n h l) (powers_ready b e u v n h l m r (given_told g) q a d) few) c.reduce_product.ensures.defined;
@@ -429,21 +496,29 @@ reduce_rewritten-returns-in_ok-power-in_default t c =
       };
     }
 
-pub reduce_rewritten-returns-in_err-product-in-Mult-clause-room : goal.reduce_rewritten-returns-in_err-product-in-Mult-clause-room
-reduce_rewritten-returns-in_err-product-in-Mult-clause-room t c = λ gs ns b e r k s.
-    passed_on c.from_residual.result c.in_err-product-in-Mult.field-0.0 _ c.from_residual.ensures.0 c.from_residual.ensures.1 (c.in_err-product-in-Mult.ensures.room gs ns b e r k s)
+pub reduce_rewritten-returns-in_err-product-in-Mult : goal.reduce_rewritten-returns-in_err-product-in-Mult
+reduce_rewritten-returns-in_err-product-in-Mult t c =
+    let f = c.from_residual in
+    let e = c.in_err-product-in-Mult in
+    record {
+      ok = search rules;
+      front = c.reduce_powers.ensures.front;
+      room = λ gs ns b x r k s. passed_on f.result e.field-0.0 _ f.ensures.0 f.ensures.1 (e.ensures.room gs ns b x r k s);
+      bits = λ b x n h l r q a few. passed_on f.result e.field-0.0 _ f.ensures.0 f.ensures.1 (e.ensures.bits b x n h l r q a few);
+      leaves = search rules;
+    }
 
-pub reduce_rewritten-returns-in_err-power-in_default-clause-room : goal.reduce_rewritten-returns-in_err-power-in_default-clause-room
-reduce_rewritten-returns-in_err-power-in_default-clause-room t c = λ gs ns b e r k s.
-    passed_on c.from_residual-in_err-power-in_default.result c.in_err-power-in_default.field-0.0 _ c.from_residual-in_err-power-in_default.ensures.0 c.from_residual-in_err-power-in_default.ensures.1 (c.in_err-power-in_default.ensures.room gs ns b e r k s)
-
-pub reduce_rewritten-returns-in_err-product-in-Mult-clause-bits : goal.reduce_rewritten-returns-in_err-product-in-Mult-clause-bits
-reduce_rewritten-returns-in_err-product-in-Mult-clause-bits t c = λ b e n h l r q a few.
-    passed_on c.from_residual.result c.in_err-product-in-Mult.field-0.0 _ c.from_residual.ensures.0 c.from_residual.ensures.1 (c.in_err-product-in-Mult.ensures.bits b e n h l r q a few)
-
-pub reduce_rewritten-returns-in_err-power-in_default-clause-bits : goal.reduce_rewritten-returns-in_err-power-in_default-clause-bits
-reduce_rewritten-returns-in_err-power-in_default-clause-bits t c = λ b e n h l r q a few.
-    passed_on c.from_residual-in_err-power-in_default.result c.in_err-power-in_default.field-0.0 _ c.from_residual-in_err-power-in_default.ensures.0 c.from_residual-in_err-power-in_default.ensures.1 (c.in_err-power-in_default.ensures.bits b e n h l r q a few)
+pub reduce_rewritten-returns-in_err-power-in_default : goal.reduce_rewritten-returns-in_err-power-in_default
+reduce_rewritten-returns-in_err-power-in_default t c =
+    let f = c.from_residual-in_err-power-in_default in
+    let e = c.in_err-power-in_default in
+    record {
+      ok = search rules;
+      front = c.reduce_exponent.ensures.front;
+      room = λ gs ns b x r k s. passed_on f.result e.field-0.0 _ f.ensures.0 f.ensures.1 (e.ensures.room gs ns b x r k s);
+      bits = λ b x n h l r q a few. passed_on f.result e.field-0.0 _ f.ensures.0 f.ensures.1 (e.ensures.bits b x n h l r q a few);
+      leaves = search rules;
+    }
 
 -- ---- reduce_powers
 
@@ -506,14 +581,17 @@ reduce_powers-loop-at-preserved t c =
       part = next_reduced n v p (c.fill.ensures.changed _ _ _ (hole_stays g c.open_child-hole.ensures.hole));
     }
 
-pub reduce_powers-returns-clause-ok : goal.reduce_powers-returns-clause-ok
-reduce_powers-returns-clause-ok t c =
+pub reduce_powers-returns : goal.reduce_powers-returns
+reduce_powers-returns t c =
     let many = children_told c.id.ensures c.children-powers.ensures.value c.requires.stands c.requires.handed in
     let x = all_reduced c.loop-at.invariant.part (omega (arith, many, c.loop-at-test.false)) in
-    changes_last x.now c.move_last.ensures.last (record { factors = x.factors; are = x.are; is = refl })
-
-pub reduce_powers-returns-clause-front : goal.reduce_powers-returns-clause-front
-reduce_powers-returns-clause-front t c = changes_last_front c.loop-at.invariant.part.now c.move_last.ensures.last
+    record {
+      ok = changes_last x.now c.move_last.ensures.last (record { factors = x.factors; are = x.are; is = refl });
+      front = changes_last_front c.loop-at.invariant.part.now c.move_last.ensures.last;
+      room = λ gs ns b e r k s. tt;
+      bits = λ b e n h l r q a few. tt;
+      leaves = search rules;
+    }
 
 -- ---- reduce_exponent
 
@@ -566,20 +644,22 @@ reduce_exponent-fill-requires t c =
 pub reduce_exponent-move_last-requires-clause-root : goal.reduce_exponent-move_last-requires-clause-root
 reduce_exponent-move_last-requires-clause-root t c = (c.fill.ensures.changed _ _ _ (hole_stays c.in_ok-product-in-Mult.ensures.ok c.open_child-hole.ensures.hole)).handed.root
 
-pub reduce_exponent-returns-in_ok-product-in-Mult-clause-ok : goal.reduce_exponent-returns-in_ok-product-in-Mult-clause-ok
-reduce_exponent-returns-in_ok-product-in-Mult-clause-ok t c =
+pub reduce_exponent-returns-in_ok-product-in-Mult : goal.reduce_exponent-returns-in_ok-product-in-Mult
+reduce_exponent-returns-in_ok-product-in-Mult t c =
     let child = c.child_id-exponent.ensures in
     let k = exponent_seen {x = c.kind.result} c.id.ensures c.requires.stands c.requires.handed c.requires.power child.expression child.plain c.kind.ensures.plain in
     let p = with_product _ c.requires.power (product_kind _ (sym c.in-Mult.is ∙ k)) c.requires.unfinished in
     let g = c.in_ok-product-in-Mult.ensures.ok in
     let v : Tree = tree_of c.in_ok-product-in-Mult.product c.reduce_product.new.pool in
     let product = subst (λ (x : Tree). IsReducedProduct (children_of x) v) (exponent_told c.requires.power c.open_child-hole.ensures.child) (given_told g) in
-    changes_last (changes_as (c.fill.ensures.changed _ _ _ (hole_stays g c.open_child-hole.ensures.hole)) (exponent_set v c.requires.power)) c.move_last.ensures.last
-    (p.lifted _ (record { exponent = v; product = product; is = refl }))
-
-pub reduce_exponent-returns-in_ok-product-in-Mult-clause-front : goal.reduce_exponent-returns-in_ok-product-in-Mult-clause-front
-reduce_exponent-returns-in_ok-product-in-Mult-clause-front t c =
-    changes_last_front (c.fill.ensures.changed _ _ _ (hole_stays c.in_ok-product-in-Mult.ensures.ok c.open_child-hole.ensures.hole)) c.move_last.ensures.last
+    let changed = c.fill.ensures.changed _ _ _ (hole_stays g c.open_child-hole.ensures.hole) in
+    record {
+      ok = changes_last (changes_as changed (exponent_set v c.requires.power)) c.move_last.ensures.last (p.lifted _ (record { exponent = v; product = product; is = refl }));
+      front = changes_last_front changed c.move_last.ensures.last;
+      room = λ gs ns b e r q s. tt;
+      bits = λ b e n h l r q a few. tt;
+      leaves = search rules;
+    }
 
 pub reduce_exponent-returns-in_default : goal.reduce_exponent-returns-in_default
 reduce_exponent-returns-in_default t c =
