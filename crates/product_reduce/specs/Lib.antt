@@ -10,3 +10,4 @@ pub mod Neighbours
 pub mod Gathering
 pub mod Bits
 pub mod Bounds
+pub mod Pools

@@ -1,5 +1,5 @@
 //! The last part of a step: a reduced tree.
-ghost use Rattle.std.specs.Prelude.{ℕ, List, ◌≡◌, ◌==◌, ◌+◌, true, false, IfOk, IfErr, IsSortedByKey, OnOk, [], ◌∷◌};
+ghost use Rattle.std.specs.Prelude.{ℕ, List, ◌≡◌, ◌==◌, ◌+◌, true, false, IfOk, IfErr, IsSortedByKey, [], ◌∷◌};
 ghost use Rattle.calc_algebra.specs.Numbers.{is_number};
 ghost use Rattle.calc_room.specs.Counts.{counted};
 ghost use Rattle.calc_room.specs.Spans.{SpansTree, SpansTrees};
@@ -9,10 +9,10 @@ ghost use Rattle.node_pool.specs.State.{free_of};
 ghost use Rattle.number_forms.specs.Readers.{is_zero};
 ghost use Rattle.product_reduce.specs.Answers.{AreOthers, IsEnding};
 ghost use Rattle.product_reduce.specs.Misfits.{SpreadingOverflows};
-ghost use Rattle.tree_handles.specs.Faults.{OfOverflow, Faults};
+ghost use Rattle.tree_handles.specs.Faults.{OfOverflow};
 ghost use Rattle.product_reduce.specs.Joining.{have_partners};
 ghost use Rattle.product_reduce.specs.Products.{IsProduct, factors_in};
-ghost use Rattle.tree_handles.specs.Causes.{IsCaused};
+ghost use Rattle.product_reduce.specs.Pools.{LeavesPool};
 ghost use Rattle.tree_handles.specs.Standing.{Stands, forest, KeepsRefusals};
 ghost use Rattle.calc_algebra.specs.Reduced.{base_of};
 ghost use Rattle.calc_algebra.specs.TreeOrder.{tree_cmp};
@@ -45,13 +45,10 @@ pub fn finished(
     ensures alone { factors_in product (forest pool.old) ≡ none → IfErr result (λ f. ⊥) }
     ensures overflow { IfErr result (OfOverflow (SpreadingOverflows (tree_of coefficient pool.old) (factors_in product (forest pool.old)))) }
     ensures front { KeepsFront (product ∷ coefficient ∷ []) (forest pool.old) (forest pool.new) }
-    ensures kept { OnOk result (KeepsRefusals pool.old pool.new) }
-    ensures faults { IfErr result (Faults pool.old pool.new) }
-    ensures caused { IfErr result (IsCaused pool.new) }
     ensures room { let ts = factors_in product (forest pool.old) in
         (gs : List ℕ) → SpansTree gs (tree_of coefficient pool.old) → SpansTrees gs ts
         → IfErr result (LacksRoom (counted (mult ts)) (free_of pool.old + size (tree_of coefficient pool.old) + size (mult ts)) gs) }
-    ensures stands { Stands pool.new }
+    ensures leaves { LeavesPool result pool.old pool.new }
 {
     if factor_count(pool, &product) == 0 {
         return Ok(alone(pool, product, coefficient));

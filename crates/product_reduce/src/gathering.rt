@@ -18,6 +18,7 @@ ghost use Rattle.product_reduce.specs.Gathering.{IsGathered, IsLead, IsOrdered};
 ghost use Rattle.product_reduce.specs.Misfits.{IsFactorMisfit, SpreadingOverflows};
 ghost use Rattle.product_reduce.specs.Neighbours.{IsPairAt, IsNextPair, NoPairBetween, joined_pair};
 ghost use Rattle.product_reduce.specs.Products.{IsProduct, factors_in};
+ghost use Rattle.product_reduce.specs.Pools.{LeavesPool};
 ghost use Rattle.tree_handles.specs.Causes.{IsCaused};
 ghost use Rattle.tree_handles.specs.Expressions.{children_of};
 ghost use Rattle.tree_handles.specs.Faults.{OfOverflow, Faults};
@@ -147,13 +148,10 @@ fn order_or_end(
     ensures alone { factors_in product (forest pool.old) ≡ none → IfErr result (λ f. ⊥) }
     ensures overflow { IfErr result (OfOverflow (SpreadingOverflows (tree_of coefficient pool.old) (factors_in product (forest pool.old)))) }
     ensures front { KeepsFront (product ∷ coefficient ∷ []) (forest pool.old) (forest pool.new) }
-    ensures kept { OnOk result (KeepsRefusals pool.old pool.new) }
-    ensures faults { IfErr result (Faults pool.old pool.new) }
-    ensures caused { IfErr result (IsCaused pool.new) }
     ensures room { let ts = factors_in product (forest pool.old) in
         (gs : List ℕ) → SpansTree gs (tree_of coefficient pool.old) → SpansTrees gs ts
         → IfErr result (LacksRoom (counted (mult ts)) (free_of pool.old + size (tree_of coefficient pool.old) + size (mult ts)) gs) }
-    ensures stands { Stands pool.new }
+    ensures leaves { LeavesPool result pool.old pool.new }
 {
     if is_zero(pool, coefficient.id()) {
         return Ok(Joining::Done(alone(pool, product, coefficient)));

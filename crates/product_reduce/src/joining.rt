@@ -6,8 +6,9 @@ ghost use Rattle.calc_terms.specs.Trees.{add, power, count, none, more};
 ghost use Rattle.product_reduce.specs.Joining.{exponent_of};
 ghost use Rattle.product_reduce.specs.Neighbours.{joined_pair};
 ghost use Rattle.product_reduce.specs.Products.{IsProduct, IsTakenOut, IsSplit, Becomes, factors_in};
+ghost use Rattle.product_reduce.specs.Pools.{LeavesFull};
 ghost use Rattle.node_pool.specs.State.{free_of};
-ghost use Rattle.tree_handles.specs.Standing.{LacksBytes, Stands, forest, KeepsRefusals, Refuses};
+ghost use Rattle.tree_handles.specs.Standing.{Stands, forest};
 ghost use Rattle.tree_handles.specs.Handed.{tree_of, IsHanded, Gives, KeepsFront};
 ghost use Rattle.tree_handles.specs.Expressions.{nth};
 ghost use Rattle.tree_handles.specs.Roots.{without_root};
@@ -25,12 +26,9 @@ fn split_factor(pool: &mut Pool, factor: Handle) -> Result<(Handle, Handle), Ful
     requires reduced { is_reduced (tree_of factor pool.old) ≡ true }
     ensures ok { IfOk result (λ pair. IsSplit factor (forest pool.old) (forest pool.new) pair.0 pair.1) }
     ensures front { KeepsFront (factor ∷ []) (forest pool.old) (forest pool.new) }
-    ensures kept { OnOk result (KeepsRefusals pool.old pool.new) }
-    ensures full { IfErr result (Refuses pool.old pool.new) }
-    ensures caused { IfErr result (LacksBytes pool.new) }
     ensures room { IfErr result (λ full. free_of pool.old < 40) }
     ensures placed { OnOk result (free_of pool.old ≤ free_of pool.new + 40) }
-    ensures stands { Stands pool.new }
+    ensures leaves { LeavesFull result pool.old pool.new }
 {
     if is_transparent_power(pool, factor.id()) {
         let exponent = take_child(pool, &factor, 1);
@@ -52,12 +50,9 @@ fn take_exponent(pool: &mut Pool, product: &Handle, at: u16) -> Result<Handle, F
     ensures ok { let ts = factors_in product.now (forest pool.old) in
         IfOk result (λ h. IsTakenOut product.now (removed at ts) (forest pool.old) (forest pool.new) h (exponent_of (nth at ts))) }
     ensures front { KeepsFront (product.now ∷ []) (forest pool.old) (forest pool.new) }
-    ensures kept { OnOk result (KeepsRefusals pool.old pool.new) }
-    ensures full { IfErr result (Refuses pool.old pool.new) }
-    ensures caused { IfErr result (LacksBytes pool.new) }
     ensures room { IfErr result (λ full. free_of pool.old < 40) }
     ensures placed { OnOk result (free_of pool.old ≤ free_of pool.new + 40) }
-    ensures stands { Stands pool.new }
+    ensures leaves { LeavesFull result pool.old pool.new }
 {
     let factor = take_child(pool, product, at);
     let (base, exponent) = split_factor(pool, factor)?;
@@ -76,11 +71,8 @@ fn raise(pool: &mut Pool, factor: Handle, exponent: Handle) -> Result<Handle, Fu
     ensures ok { IfOk result (λ h. Gives (without_root exponent (without_root factor (forest pool.old))) (forest pool.new) h (λ t. t ≡
         power (base_of (tree_of factor pool.old)) (add (more (exponent_of (tree_of factor pool.old)) (more (tree_of exponent pool.old) none))))) }
     ensures front { KeepsFront (factor ∷ exponent ∷ []) (forest pool.old) (forest pool.new) }
-    ensures kept { OnOk result (KeepsRefusals pool.old pool.new) }
-    ensures full { IfErr result (Refuses pool.old pool.new) }
-    ensures caused { IfErr result (LacksBytes pool.new) }
     ensures room { IfErr result (λ full. free_of pool.old < 56) }
-    ensures stands { Stands pool.new }
+    ensures leaves { LeavesFull result pool.old pool.new }
 {
     let (base, own) = split_factor(pool, factor)?;
     let sum = node_over_two(pool, Kind::Add, own, exponent)?;
@@ -97,11 +89,8 @@ pub fn join_pair(pool: &mut Pool, product: &Handle, first: u16, second: u16) -> 
     requires within { second < count (factors_in product.now (forest pool.old)) }
     ensures ok { OnOk result (Becomes product.now (forest pool.old) (forest pool.new) (joined_pair first second (factors_in product.now (forest pool.old)))) }
     ensures front { KeepsFront (product.now ∷ []) (forest pool.old) (forest pool.new) }
-    ensures kept { OnOk result (KeepsRefusals pool.old pool.new) }
-    ensures full { IfErr result (Refuses pool.old pool.new) }
-    ensures caused { IfErr result (LacksBytes pool.new) }
     ensures room { IfErr result (λ full. free_of pool.old < 96) }
-    ensures stands { Stands pool.new }
+    ensures leaves { LeavesFull result pool.old pool.new }
 {
     let exponent = take_exponent(pool, product, second)?;
     let (hole, factor) = open_child(pool, product, first);

@@ -1,5 +1,5 @@
 //! The Numbers among the factors, multiplied from left to right.
-ghost use Rattle.std.specs.Prelude.{ℕ, List, length, ◌≡◌, ◌<◌, ◌≤◌, ◌+◌, ◌*◌, ◌^◌, true, IfOk, IfErr, OnOk, [], ◌∷◌};
+ghost use Rattle.std.specs.Prelude.{ℕ, List, length, ◌≡◌, ◌<◌, ◌≤◌, ◌+◌, ◌*◌, ◌^◌, true, IfOk, IfErr, [], ◌∷◌};
 ghost use Rattle.tree_bits.specs.Rows.{AreFewBits};
 ghost use Rattle.calc_algebra.specs.Reduced.{are_reduced};
 ghost use Rattle.calc_terms.specs.Trees.{are_rationals, mult, count};
@@ -14,10 +14,10 @@ ghost use Rattle.product_reduce.specs.Factors.{numbers_in, others_in, IsCoeffici
 ghost use Rattle.product_reduce.specs.Multiplying.{IsUnderway};
 ghost use Rattle.product_reduce.specs.Products.{IsProduct, IsTakenOut, factors_in};
 ghost use Rattle.number_forms.specs.Answers.{AnswersRationals};
-ghost use Rattle.tree_handles.specs.Faults.{OfOverflow, Faults};
+ghost use Rattle.tree_handles.specs.Faults.{OfOverflow};
 ghost use Rattle.product_reduce.specs.Misfits.{MultiplyingOverflows};
-ghost use Rattle.tree_handles.specs.Causes.{IsCaused};
-ghost use Rattle.tree_handles.specs.Standing.{LacksBytes, Stands, forest, KeepsRefusals, Refuses};
+ghost use Rattle.product_reduce.specs.Pools.{LeavesFull, LeavesPool};
+ghost use Rattle.tree_handles.specs.Standing.{Stands, forest};
 ghost use Rattle.tree_handles.specs.Handed.{tree_of, KeepsFront};
 
 use crate::nodes::one;
@@ -34,12 +34,9 @@ fn take_first_number(pool: &mut Pool, product: &Handle) -> Result<Handle, Full>
     requires reduced { are_reduced (factors_in product.now (forest pool.old)) ≡ true }
     ensures ok { IfOk result (λ h. IsUnderway product.now (factors_in product.now (forest pool.old)) (forest pool.old) (forest pool.new) h) }
     ensures front { KeepsFront (product.now ∷ []) (forest pool.old) (forest pool.new) }
-    ensures kept { OnOk result (KeepsRefusals pool.old pool.new) }
-    ensures full { IfErr result (Refuses pool.old pool.new) }
-    ensures caused { IfErr result (LacksBytes pool.new) }
     ensures room { IfErr result (λ full. free_of pool.old < 40) }
     ensures some { let ts = factors_in product.now (forest pool.old) in IfErr result (λ _. NoNumberBetween 0 (count ts) ts) }
-    ensures stands { Stands pool.new }
+    ensures leaves { LeavesFull result pool.old pool.new }
 {
     match next_number(pool, product, 0) {
         Some(at) => Ok(take_child(pool, product, at)),
@@ -86,10 +83,7 @@ pub fn take_coefficient(pool: &mut Pool, product: &Handle) -> Result<Handle, Num
     ensures room { (gs : List ℕ) → SpansTrees gs (factors_in product.now (forest pool.old))
         → IfErr result (LacksBelow (product_need * 2 ^ length gs) (free_of pool.old)) }
     ensures front { KeepsFront (product.now ∷ []) (forest pool.old) (forest pool.new) }
-    ensures kept { OnOk result (KeepsRefusals pool.old pool.new) }
-    ensures faults { IfErr result (Faults pool.old pool.new) }
-    ensures caused { IfErr result (IsCaused pool.new) }
-    ensures stands { Stands pool.new }
+    ensures leaves { LeavesPool result pool.old pool.new }
 {
     let first = take_first_number(pool, product)?;
     collect_numbers(pool, product, first, &Multiplying)

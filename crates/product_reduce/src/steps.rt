@@ -23,10 +23,11 @@ ghost use Rattle.tree_handles.specs.Expressions.{children_of, nth};
 ghost use Rattle.tree_room.specs.Handed.{product_count};
 ghost use Rattle.tree_room.specs.Needs.{product_step_room};
 ghost use Rattle.tree_handles.specs.Roots.{without_root};
-ghost use Rattle.tree_handles.specs.Standing.{Stands, forest, KeepsRefusals, LacksBytes, Refuses};
+ghost use Rattle.tree_handles.specs.Standing.{Stands, forest, KeepsRefusals};
 ghost use Rattle.product_reduce.specs.Joining.{have_partners, is_partner, joined};
 ghost use Rattle.product_reduce.specs.FirstPairs.{HasNoPartner, IsFirstPair, IsNearest, IsRejoined};
 ghost use Rattle.product_reduce.specs.Factors.{coefficient_before};
+ghost use Rattle.product_reduce.specs.Pools.{LeavesFull, LeavesPool};
 ghost use Rattle.number_forms.specs.Readers.{is_zero};
 
 use crate::endings::{alone, finished};
@@ -104,14 +105,11 @@ fn join_or_end(pool: &mut Pool, product: Handle, coefficient: Handle) -> Result<
     ensures alone { factors_in product (forest pool.old) ≡ none → IfErr result (λ f. ⊥) }
     ensures overflow { IfErr result (OfOverflow (SpreadingOverflows (tree_of coefficient pool.old) (factors_in product (forest pool.old)))) }
     ensures front { KeepsFront (product ∷ coefficient ∷ []) (forest pool.old) (forest pool.new) }
-    ensures kept { OnOk result (KeepsRefusals pool.old pool.new) }
-    ensures faults { IfErr result (Faults pool.old pool.new) }
-    ensures caused { IfErr result (IsCaused pool.new) }
     ensures room { let ts = factors_in product (forest pool.old) in
         (gs : List ℕ) → SpansTree gs (tree_of coefficient pool.old) → SpansTrees gs ts
         → IfErr result (LacksBelow (put_room (counted (mult ts)) (2 ^ length gs) + 56)
         (free_of pool.old + size (tree_of coefficient pool.old) + size (mult ts))) }
-    ensures stands { Stands pool.new }
+    ensures leaves { LeavesPool result pool.old pool.new }
 {
     if is_zero(pool, coefficient.id()) {
         return Ok(Step::Done(alone(pool, product, coefficient)));
@@ -193,11 +191,8 @@ fn joined(
     ensures ok { IfOk result (λ h. Gives (without_root product (without_root coefficient (forest pool.old))) (forest pool.new) h
         (λ t. t ≡ mult (coefficient_before (tree_of coefficient pool.old) (joined (factors_in product (forest pool.old)))))) }
     ensures front { KeepsFront (product ∷ coefficient ∷ []) (forest pool.old) (forest pool.new) }
-    ensures kept { OnOk result (KeepsRefusals pool.old pool.new) }
-    ensures full { IfErr result (Refuses pool.old pool.new) }
-    ensures caused { IfErr result (LacksBytes pool.new) }
     ensures room { IfErr result (λ full. free_of pool.old < 96) }
-    ensures stands { Stands pool.new }
+    ensures leaves { LeavesFull result pool.old pool.new }
 {
     join_pair(pool, &product, first, second)?;
     put_in_front(pool, &product, coefficient);
@@ -220,13 +215,10 @@ fn sorted(pool: &mut Pool, product: Handle, coefficient: Handle) -> Result<Handl
     ensures alone { factors_in product (forest pool.old) ≡ none → IfErr result (λ f. ⊥) }
     ensures overflow { IfErr result (OfOverflow (SpreadingOverflows (tree_of coefficient pool.old) (factors_in product (forest pool.old)))) }
     ensures front { KeepsFront (product ∷ coefficient ∷ []) (forest pool.old) (forest pool.new) }
-    ensures kept { OnOk result (KeepsRefusals pool.old pool.new) }
-    ensures faults { IfErr result (Faults pool.old pool.new) }
-    ensures caused { IfErr result (IsCaused pool.new) }
     ensures room { let ts = factors_in product (forest pool.old) in
         (gs : List ℕ) → SpansTree gs (tree_of coefficient pool.old) → SpansTrees gs ts
         → IfErr result (LacksRoom (counted (mult ts)) (free_of pool.old + size (tree_of coefficient pool.old) + size (mult ts)) gs) }
-    ensures stands { Stands pool.new }
+    ensures leaves { LeavesPool result pool.old pool.new }
 {
     sort_factors(pool, &product, 0);
     finished(pool, product, coefficient)

@@ -39,14 +39,11 @@ returns c =
       overflow = refused_as c.put_coefficient.result put.named (λ o h. put_alone _ ts o (put_as o same part h));
       front = front_after_two (behind_later behind_first) (behind_new g.ends (front_without behind_first front_same))
           (front_after_one behind_first front_same c.unwrapped-part.ensures.front) put.front;
-      kept = search rules;
-      faults = search rules;
-      caused = put.caused;
       room = λ gs s k.
           let room : put_room (counted (tree_of c.unwrapped-part.result c.unwrapped-part.new.pool)) (2 ^ length gs) ≡ put_room (counted (mult ts)) (2 ^ length gs) =
           ap (λ (t : Tree). put_room (counted t) (2 ^ length gs)) part ∙ ap (λ (n : ℕ). put_room n (2 ^ length gs)) (product_counts ts) in
           result_lacks c.put_coefficient.result _ _
           (put.room gs (ap is_number same ∙ c.requires.number) (subst (SpansTree gs) (sym same) s) (subst (SpansTree gs) (sym part) (spans_product gs ts k)))
           (λ x l. omega (arith, free, ap size same, ap size c.requires.product.tree, room, l));
-      stands = put.stands;
+      leaves = search rules;
     }

@@ -64,5 +64,5 @@ returns-in_err-power-clause-room c =
     let b = beside_other s.base (beside_other s.exponent (handed_beside c.args.factor c.requires.apart c.requires.second)) in
     let d = beside_apart c.args.exponent s.exponent (handed_beside c.args.factor c.requires.apart c.requires.second).root in
     let g = c.in_ok-sum.ensures.ok in
-    let free = both_replaced_free c.split_factor.ensures.stands c.node_over_two.ensures.stands c.in_ok-sum.ensures.kept d a b g in
+    let free = both_replaced_free c.split_factor.ensures.leaves.stands c.node_over_two.ensures.stands c.in_ok-sum.ensures.kept d a b g in
     refusal_told c.from_residual-in_err-power.result (omega (arith, free, ap size (given_told g), c.in_ok-base.ensures.placed, refused_below c.in_err-power.ensures.full))

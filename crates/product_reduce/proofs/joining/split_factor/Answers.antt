@@ -47,7 +47,7 @@ returns-in_ok-exponent-clause-ok c =
     let seen = rw c.id.ensures at c.is_transparent_power.ensures in
     let t = ap is_transparent_power (sym (plain_root c.args.factor c.requires.stands c.requires.handed.root)) ∙ sym seen ∙ c.if-is_transparent_power.false in
     let one = beside_gives c.in_ok-exponent.ensures.ok in
-    unsplit c.args.factor _ _ _ c.requires.handed t one (beside_handed c.args.factor c.one.ensures.stands (beside_other one c.requires.handed))
+    unsplit c.args.factor _ _ _ c.requires.handed t one (beside_handed c.args.factor c.one.ensures.leaves.stands (beside_other one c.requires.handed))
 
 pub returns-then-is_transparent_power-clause-placed : goal.returns-then-is_transparent_power-clause-placed
 returns-then-is_transparent_power-clause-placed c =
@@ -56,4 +56,4 @@ returns-then-is_transparent_power-clause-placed c =
     (returns-then-is_transparent_power-clause-ok c)
 
 pub returns-in_ok-exponent-clause-placed : goal.returns-in_ok-exponent-clause-placed
-returns-in_ok-exponent-clause-placed c = split_free c.requires.stands c.one.ensures.stands c.in_ok-exponent.ensures.kept c.requires.handed (returns-in_ok-exponent-clause-ok c)
+returns-in_ok-exponent-clause-placed c = split_free c.requires.stands c.one.ensures.leaves.stands c.in_ok-exponent.ensures.leaves.kept c.requires.handed (returns-in_ok-exponent-clause-ok c)

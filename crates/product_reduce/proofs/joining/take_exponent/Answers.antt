@@ -47,5 +47,5 @@ returns-in_err-base-clause-room c = grind (arith, child_free, refusal_told)
 pub returns-clause-placed : goal.returns-clause-placed
 returns-clause-placed c =
     exponent_free c.args.at c.requires.stands c.release.ensures.stands
-    (keeps_after _ _ _ c.take_child-factor.ensures.kept (keeps_after _ _ _ c.in_ok-base.ensures.kept c.release.ensures.kept)) c.requires.product c.requires.within
+    (keeps_after _ _ _ c.take_child-factor.ensures.kept (keeps_after _ _ _ c.in_ok-base.ensures.leaves.kept c.release.ensures.kept)) c.requires.product c.requires.within
     (returns-clause-ok c)

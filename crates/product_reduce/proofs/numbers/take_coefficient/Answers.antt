@@ -26,7 +26,7 @@ returns c =
     let own = factors_are e.product in
     let first = tree_of c.in_ok-first.first c.take_first_number.new.pool in
     let collect = c.collect_numbers.ensures in
-    let free = begun_free c.requires.stands c.in_ok-first.ensures.stands c.in_ok-first.ensures.kept (many c.requires.product.handed (inr (ap is_mult c.requires.product.tree))) w in
+    let free = begun_free c.requires.stands c.in_ok-first.ensures.leaves.stands c.in_ok-first.ensures.leaves.kept (many c.requires.product.handed (inr (ap is_mult c.requires.product.tree))) w in
     record {
       taken = if_ok_map c.collect_numbers.result collect.ok
           (λ h k. taken_out c.requires.product w.left (subst
@@ -46,10 +46,7 @@ returns c =
           let both = w.begun.spanned gs s in
           result_lacks c.collect_numbers.result _ _ (collect.room gs both.0 (subst (SpansTrees gs) (sym own) both.1)) (λ f l. omega (arith, l, free));
       front = front_after_two behind_first (behind_new w.left.given.ends (front_put w.left.kids behind_first front_same)) c.in_ok-first.ensures.front collect.front;
-      kept = search rules;
-      faults = search rules;
-      caused = collect.caused;
-      stands = collect.stands;
+      leaves = search rules;
     }
 
 -- ---- bytes that are lacking for a 1

@@ -16,7 +16,7 @@ pub returns-clause-ok : goal.returns-clause-ok
 returns-clause-ok c =
     let b = pair_joined (goal.at.returns-clause-ok c).In_ok-join_pair in
     let d = c.put_in_front.ensures.becomes in
-    let same = ap plain (tree_becomes c.args.coefficient c.requires.stands c.in_ok-join_pair.ensures.stands c.requires.product b c.requires.coefficient c.requires.apart) in
+    let same = ap plain (tree_becomes c.args.coefficient c.requires.stands c.in_ok-join_pair.ensures.leaves.stands c.requires.product b c.requires.coefficient c.requires.apart) in
     let apart = eqb-sym c.args.coefficient c.args.product c.requires.apart in
     let others = d.others ∙ without-swap c.args.product c.args.coefficient (forest c.join_pair.new.pool) apart ∙ ap (without_root c.args.coefficient) b.others ∙ sym (without-swap c.args.product c.args.coefficient (forest c.args.pool.now) apart) in
     gives (ends_as c.move_last.ensures.last refl others) (represents_handed d.product.handed)

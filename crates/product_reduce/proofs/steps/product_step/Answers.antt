@@ -14,7 +14,7 @@ opened_now c =
 parts : (c : In_ok-coefficient) → AreParted c.args.product c.in_ok-coefficient.coefficient c.args.pool.now c.take_coefficient.new.pool
 parts c =
     let o = opens c.requires.stands c.requires.handed c.requires.product c.requires.some c.requires.reduced (sym c.has_undef_factor.ensures ∙ c.if-has_undef_factor.false) c.open_products.ensures.stands c.open_products.ensures.kept c.open_products.ensures.opened in
-    parted o c.take_coefficient.ensures.stands c.in_ok-coefficient.ensures.kept c.in_ok-coefficient.ensures.taken c.in_ok-coefficient.ensures.coefficient c.take_coefficient.ensures.front
+    parted o c.take_coefficient.ensures.leaves.stands c.in_ok-coefficient.ensures.leaves.kept c.in_ok-coefficient.ensures.taken c.in_ok-coefficient.ensures.coefficient c.take_coefficient.ensures.front
 
 pub take_coefficient-requires-clause-reduced : goal.take_coefficient-requires-clause-reduced
 take_coefficient-requires-clause-reduced c = reduced_now (opened_now (goal.at.take_coefficient-requires-clause-reduced c).After-open_products)
