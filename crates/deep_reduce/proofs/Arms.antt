@@ -3,6 +3,9 @@ use Rattle.deep_reduce.proofs.Shared.{◌≡◌, ◌<◌, ◌+◌, ◌^◌, ℕ,
 use Rattle.deep_reduce.proofs.Shared.{rewritten, IfFinished, IfJoined, IsFinished, IsGathered, IsPairAt, Joining, Rewrites, tree_of, Gives, IsHeldAsPowerOf, IfDone, Step, children_of, without_root}
 use Rattle.deep_reduce.proofs.Shared.{forest, is_undef, has_undef, HandsOn, given_told, and_parts, is_half_num, power, none, more, IsPowerMisfit, has_no_power, has_number_power, is_rewritable}
 use Rattle.deep_reduce.proofs.{Shared.{OfOverflow, NumberFault, KeepsFactorBounds, KeepsProductBounds, gathered_hands_on}, Settled.{gathered_product}, EasyNodes.{number_defined}}
+use Rattle.deep_reduce.proofs.Shared.{PlainValue, IsErrAnd, AnswersRationals}
+use Rattle.product_reduce.specs.Answers.{AnswersRationalFactors}
+use Rattle.std.proofs.Common.{Err}
 use Rattle.tree_handles.proofs.SmallLaws.{mult_is as product_words}
 use Rattle.product_reduce.specs.declared.gathering.Joining.TheVariants as joining
 use Rattle.reduce_port.specs.declared.step.Step.TheVariants as step
@@ -49,6 +52,11 @@ module _ (i : ℕ) (old new : State) where
       let j = given_told (is_gathered i old new e g) in
       gathered_hands_on (children_of (tree_of i old)) (tree_of h new) (product_words (tree_of h new) (gathered_product _ _ j)) j.joinable.defined
       (subst (λ (s : Joining). IfJoined s (λ k n. KeepsFactorBounds (children_of (tree_of i old)) (tree_of k new))) e b)
+
+-- ---- rationals
+
+pub factors_refused : (v : PlainValue) (new : State) (r : Result ℕ NumberFault) (f : NumberFault) → IsErrAnd r (λ x. x ≡ f) → AnswersRationalFactors v new (Err f) → AnswersRationals v new r
+factors_refused v new r f e h = grind arith
 
 -- ---- operations that do not fit
 

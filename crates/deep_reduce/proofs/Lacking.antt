@@ -6,8 +6,16 @@ use Rattle.deep_reduce.proofs.Shared.{exponent_in, parts_of, LacksStep, parts_sp
 use Rattle.deep_reduce.proofs.Shared.{product_count, sum_count, sum_room, product_room, whole_number, scaled, sizes_append, cases_Bool, clash, joined_calm, joined_spans, summed_calm, summed_spans}
 use Rattle.deep_reduce.proofs.Shared.{all_nth, calm_exponent, calm_no_half, calm_product, calm_power, IsJoining, joining, split_bytes, argument_needs, inner_needs, exponents_lack, part_lacks}
 use Rattle.deep_reduce.proofs.{Shared.{product_lacks, split_at, last_parts, parts_calm, parts_single, powers_raised, exponents_calm, exponents_span, raised_calm, by_product, by_power}, Rows.{IsNext}}
+use Rattle.deep_reduce.proofs.Shared.{State, KeepsRefusals, on_ok_after, fault_after}
+use Rattle.deep_reduce.specs.Pools.{LeavesPool}
+use Rattle.tree_room.specs.Needs.{product_step_room}
 use Rattle.node_bounds.proofs.JointBytes.{exponents_lack as sum_lacks, power_lacks as joint_power_lacks}
 use Rattle.tree_handles.proofs.SmallLaws.{mult_is as product_words}
+
+-- ---- what is left of the pool
+
+pub leaves_after : (r : Result ℕ NumberFault) (s t u : State) → KeepsRefusals s t → LeavesPool r t u → LeavesPool r s u
+leaves_after r s t u k l = record { kept = on_ok_after r s t u k l.kept; faults = fault_after r s t u k l.faults; caused = l.caused; stands = l.stands }
 
 -- ---- refusals
 
@@ -29,6 +37,27 @@ short_as e h l = omega (arith, e, h, l)
 
 pub short_beside : (free : ℕ) {n : ℕ} {t u : Tree} → t ≡ u → free + size u < n → free + size t < n
 short_beside free e l = omega (arith, ap size e, l)
+
+-- a tree p was made beside a, which is as large as before as b, and then w over both
+pub short_over : (old now p b made w : ℕ) {a n m : ℕ} → old ≡ now + p → made + w ≡ now + p + b → b ≡ a → n ≤ m → made + w < n → old + a < m
+short_over old now p b made w e f g h l = omega (arith, e, f, g, h, l)
+
+pub short_below : (old now p b made w : ℕ) {a n m : ℕ} → old ≡ now + p → made + w ≡ now + b + p → b ≡ a → n ≤ m → made + w < n → old + a < m
+short_below old now p b made w e f g h l = omega (arith, e, f, g, h, l)
+
+-- the two sides of a node, and what the right one is turned into
+pub short_beside_left : (f a b : ℕ) {old n : ℕ} → f + a + b ≡ old → f + b + a < n → old < n
+short_beside_left f a b e l = omega (arith, e, l)
+
+pub short_turned : (f g a b c made : ℕ) {old n m : ℕ} → f + a + b ≡ old → g + made ≡ f + c → c ≡ b → n ≤ m → g + (a + (made + 0)) < n → old < m
+short_turned f g a b c made e h k p l = omega (arith, e, h, k, p, l)
+
+pub short_two : (old a b : ℕ) {f n : ℕ} → f ≡ old + a + b → f < n → old + (a + (b + 0)) < n
+short_two old a b e l = omega (arith, e, l)
+
+-- a step needs less than the product
+pub step_short : (h m bytes : ℕ) → bytes < product_step_room h m → bytes < product_room h m
+step_short h m bytes l = omega (arith, l)
 
 -- a product that counts less needs less
 pub fewer_needs : (h k m : ℕ) → h ≤ k → product_room h m ≤ product_room k m

@@ -1,7 +1,7 @@
 use Rattle.std.proofs.Common.{◌≡◌, false, length, ◌<◌, ◌+◌, ◌^◌, rules, sym, ap, ◌∙◌, subst, refl, arith}
 use Rattle.deep_reduce.proofs.Shared.{are_reduced, SpansTree, bare, size_of_payload, Tree, Trees, Kind, size, has_undef, takes_kind, IsCalmAtZero, HoldsNode, both_replaced_free, refused_below}
 use Rattle.deep_reduce.proofs.Shared.{passed_on, free_of, Gives, tree_of, without_root, forest, children_of, compound, gives, given_handed, given_other, given_rest, given_told, represents_handed}
-use Rattle.deep_reduce.proofs.{Shared.{joined_by, joined_room}, Connected.{children_joined, joined_lacks, takes_two}, Lacking.{result_lacks}, Results.{answer_as, overflow_as}}
+use Rattle.deep_reduce.proofs.{Shared.{joined_by, joined_room}, Connected.{children_joined, joined_lacks, takes_two}, Lacking.{leaves_after, result_lacks, short_two}, Results.{answer_as, overflow_as}}
 use Rattle.deep_reduce.proofs.{Sides.{apart_second, joined_front}, Steps.{two}, Told.{answer_at, overflow_at, two_reduced}, differences.join_sides.Goals.{After-kind, In_ok-both}}
 use Rattle.tree_handles.specs.declared.fault.NumberFault.TheVariants as fault
 use Rattle.deep_reduce.proofs.differences.join_sides.Goals as goal
@@ -51,9 +51,9 @@ returns c =
       front = joined_front c.node_over_two.ensures.front g c.reduce_joined.ensures.front;
       room = λ gs ns k s.
           result_lacks c.reduce_joined.result (c.reduce_joined.ensures.room gs ns (subst (IsCalmAtZero ns) (sym (is n)) k) (subst (SpansTree gs) (sym (is n)) s))
-          (λ l. omega (arith, subst (λ (x : Trees). free_of c.node_over_two.new.pool + size w < joined_room c.args.connective x (2 ^ length gs)) (children n) l, both));
+          (λ l. short_two (free_of c.args.pool.now) _ _ both (subst (λ (x : Trees). free_of c.node_over_two.new.pool + size w < joined_room c.args.connective x (2 ^ length gs)) (children n) l));
       bits = λ h l k few. c.reduce_joined.ensures.bits h l (subst (λ (x : Tree). has_undef (children_of x) ≡ false → HoldsNode x h l) (sym (is n)) k) few;
-      leaves = search rules;
+      leaves = leaves_after c.reduce_joined.result _ _ _ c.in_ok-both.ensures.kept c.reduce_joined.ensures.leaves;
     }
 
 pub returns-in_err-both : goal.returns-in_err-both

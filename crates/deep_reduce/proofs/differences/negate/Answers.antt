@@ -1,6 +1,6 @@
 use Rattle.deep_reduce.proofs.Shared.{rules, length, ◌≡◌, false, ◌<◌, ◌+◌, ◌^◌, sym, ap, ◌∙◌, subst, arith, is_reduced, Tree, neg, size, has_undef, counted, SpansTree, IsCalmAtZero, HoldsNode}
 use Rattle.deep_reduce.proofs.Shared.{free_of, replaced_free, product_room, keeps_after, tree_of, behind_first, behind_new, front_same, front_end, front_without, front_after_one, given_handed}
-use Rattle.deep_reduce.proofs.{Shared.{given_told, given_rest, nth, children_of, count, parent_handed, negated_calm, negated_spans, negated_fits}, Lacking.{result_lacks}}
+use Rattle.deep_reduce.proofs.{Shared.{given_told, given_rest, nth, children_of, count, parent_handed, negated_calm, negated_spans, negated_fits}, Lacking.{leaves_after, result_lacks, short_as}}
 use Rattle.deep_reduce.proofs.{Parents.{alone_out, parent_children}, Results.{answer_as, overflow_as}, Told.{answer_at, overflow_at, neg_is, neg_children, only_reduced}}
 use Rattle.deep_reduce.proofs.differences.negate.Goals as goal
 
@@ -31,9 +31,10 @@ returns c =
       overflow = overflow_as _ _ _ c.turn.ensures.overflow (λ o h. overflow_at o (ap neg told ∙ sym is) h);
       front = front_after_one (behind_new g.ends without) (front_end g.ends without) c.turn.ensures.front;
       room = λ gs ns n h k s.
+          let w : Tree = tree_of c.take_child-argument.result c.release.new.pool in
           let moved = replaced_free c.requires.stands c.release.ensures.stands (keeps_after _ _ _ c.take_child-argument.ensures.kept c.release.ensures.kept) c.requires.handed g in
           result_lacks c.turn.result (c.turn.ensures.room gs ns (subst (IsCalmAtZero ns) (sym told) (negated_calm t is k)) (subst (SpansTree gs) (sym told) (negated_spans gs t is s)))
-          (λ l. omega (arith, subst (λ (x : Tree). free_of c.release.new.pool + size x < product_room (2 + counted x) (2 ^ length gs)) told l, moved, ap size told, negated_fits t n (2 ^ length gs) is h));
+          (λ l. short_as moved (negated_fits t n (2 ^ length gs) is h) (subst (λ (x : Tree). free_of c.release.new.pool + size w < product_room (2 + counted x) (2 ^ length gs)) told l));
       bits = λ h l k few. c.turn.ensures.bits h l (subst (λ (x : Tree). has_undef (children_of x) ≡ false → HoldsNode x h l) (is ∙ ap neg (sym told)) k) few;
-      leaves = search rules;
+      leaves = leaves_after c.turn.result _ _ _ (keeps_after _ _ _ c.take_child-argument.ensures.kept c.release.ensures.kept) c.turn.ensures.leaves;
     }

@@ -1,9 +1,9 @@
 use Rattle.deep_reduce.proofs.Shared.{◌≡◌, rules, length, true, false, ◌<◌, ◌+◌, ◌^◌, refl, sym, ap, ◌∙◌, subst, arith, fraction_fits, Fraction, HoldsNode, is_reduced, Tree, size, sizes, num}
 use Rattle.deep_reduce.proofs.Shared.{has_undef, tree_of, gives_as, given_handed, given_root, given_told, nth, children_of, counted, SpansTree, seen, IsNodeAnswer, IsCalmAtZero, stands_last, free_of}
-use Rattle.deep_reduce.proofs.{Shared.{replaced_free, passed_on, turned, joined_by, joined_room, turned_room, expression, holds_as, second_side}, Connected.{HoldsTurned, children_joined}}
+use Rattle.deep_reduce.proofs.{Shared.{keeps_after, replaced_free, passed_on, turned, joined_by, joined_room, turned_room, expression, holds_as, second_side}, Connected.{HoldsTurned, children_joined}}
 use Rattle.deep_reduce.proofs.Connected.{sides_answer, sides_children, sides_held, sides_overflow, sides_ready, turned_lacks, turned_overflow, turned_ready}
 use Rattle.deep_reduce.proofs.{Results.{answer_as, overflow_as, overflow_on}, Sides.{left_beside, rewritten_front, paired_front, sides_free}, Steps.{two, undefined_answer}}
-use Rattle.deep_reduce.proofs.{Told.{answer_at, overflow_at, both_reduced}, Lacking.{lacks_as, result_lacks}, differences.reduce_sides.Goals.{After-take_sides-left}}
+use Rattle.deep_reduce.proofs.{Told.{answer_at, overflow_at, both_reduced}, Lacking.{lacks_as, leaves_after, result_lacks, short_beside_left, short_turned}, differences.reduce_sides.Goals.{After-take_sides-left}}
 use Rattle.reduce_walk.proofs.HeldRationals.{root_fits}
 use Rattle.deep_reduce.proofs.differences.reduce_sides.Goals as goal
 
@@ -68,7 +68,7 @@ returns-in_err-made c =
           let left = (both_reduced (children_of t) _ _ children c.requires.reduced).0 in
           passed_on c.from_residual.result c.in_err-made.field-0.0 _ c.from_residual.ensures.0 c.from_residual.ensures.1
           (lacks_as c.in_err-made.field-0.0 (c.in_err-made.ensures.room gs ns (subst (IsCalmAtZero ns) (sym told) (record { once = x.once; calm = x.right_calm })) (subst (SpansTree gs) (sym told) x.right_spanned))
-          (λ l. omega (arith, turned_lacks gs ns n k a b _ x left (subst (λ (y : Tree). free_of c.take_sides-left.new.pool + size y < turned_room k (counted y) (2 ^ length gs)) told l), free)));
+          (λ l. short_beside_left (free_of c.take_sides-left.new.pool) (size a) (size b) free (turned_lacks gs ns n k a b _ x left (subst (λ (y : Tree). free_of c.take_sides-left.new.pool + size y < turned_room k (counted y) (2 ^ length gs)) told l))));
       bits = λ h l held few.
           let x : HoldsTurned k a b h l = sides_held k a b h l (holds_as h l c.requires.sides (held (defined taken))) in
           overflow_on c.turn.result c.from_residual.result _ _ _ c.in_err-made.was
@@ -114,10 +114,11 @@ returns c =
           let free = sides_free c.requires.stands c.take_sides-left.ensures.stands c.take_sides-left.ensures.kept c.requires.handed s in
           let moved = replaced_free c.take_sides-left.ensures.stands c.in_ok-made.ensures.leaves.stands c.in_ok-made.ensures.leaves.kept (given_handed s.right-given) m in
           result_lacks c.join_sides.result (c.join_sides.ensures.room gs ns (subst (IsCalmAtZero ns) (sym tree) y.calm) (subst (SpansTree gs) (sym tree) y.spanned))
-          (λ l. omega (arith, subst (λ (u : Tree). free_of c.turn.new.pool + sizes (two u made) < joined_room k (two u made) (2 ^ length gs)) side.tree l, free, moved, ap size (given_told s.right-given), y.fits));
+          (λ l. short_turned (free_of c.take_sides-left.new.pool) (free_of c.turn.new.pool) (size a) (size b) _ (size made) free moved (ap size (given_told s.right-given)) y.fits
+          (subst (λ (u : Tree). free_of c.turn.new.pool + sizes (two u made) < joined_room k (two u made) (2 ^ length gs)) side.tree l));
       bits = λ h l held few.
           let x : HoldsTurned k a b h l = sides_held k a b h l (holds_as h l c.requires.sides (held (defined taken))) in
           c.join_sides.ensures.bits h l (subst (λ (u : Tree). has_undef (children_of u) ≡ false → HoldsNode u h l) (sym tree)
           (λ d. let e = ap has_undef (sym (children_joined k (two a made))) ∙ d in x.joined made e (known.held (second_side a made e) x.high x.low x.right))) few;
-      leaves = search rules;
+      leaves = leaves_after c.join_sides.result _ _ _ (keeps_after _ _ _ c.take_sides-left.ensures.kept c.in_ok-made.ensures.leaves.kept) c.join_sides.ensures.leaves;
     }

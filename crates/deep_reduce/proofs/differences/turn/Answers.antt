@@ -1,10 +1,10 @@
 use Rattle.deep_reduce.proofs.Shared.{false, rules, length, negsuc, ◌<◌, ◌+◌, ◌^◌, ◌≡◌, true, refl, sym, ap, ◌∙◌, subst, arith, IfErr, Connective, turned, turned_room, SpansTree, factors_room}
 use Rattle.deep_reduce.proofs.Shared.{IsCalmAtZero, whole_power_room, LacksBelow, counted, HoldsNode, has_undef, free_of, both_replaced_free, given_free, whole_is, minus_one_fraction, plain_value}
 use Rattle.deep_reduce.proofs.Shared.{is_reduced, is_whole_num, are_reduced, Tree, num, mult, neg, power, size, base_in, exponent_in, are_rationals, children_of, tree_of, behind_first, behind_new}
-use Rattle.deep_reduce.proofs.Shared.{front_same, front_end, front_after_two, gives_as, given_handed, given_told, given_other, given_rest, given_without, given_apart, without_root, number_reduced}
+use Rattle.deep_reduce.proofs.Shared.{ℕ, ◌≤◌, front_after, front_same, front_end, front_after_two, gives_as, given_handed, given_told, given_other, given_rest, given_without, given_apart, without_root, number_reduced}
 use Rattle.deep_reduce.proofs.Shared.{Fraction, fraction_fits, Gives, forest, passed_on, rational, ratio_of, value_of, refused_below, product_fits, as_overflow, holds_as, only_undef, opposite_factors}
 use Rattle.deep_reduce.proofs.Shared.{power_node_fits, second_side, opposite_calm, opposite_spans, opposite_fits, inverse_calm, inverse_spans, needs_most, num_bytes, number_refused}
-use Rattle.deep_reduce.proofs.{Connected.{turning_lacks}, Lacking.{result_lacks}, Results.{answered, answer_as, overflow_as, overflowed_defined}, Sides.{IsPaired, apart_second, beside_new, new_first}}
+use Rattle.deep_reduce.proofs.{Connected.{turning_lacks}, Lacking.{leaves_after, result_lacks, short_below, short_over}, Results.{answered, answer_as, overflow_as, overflowed_defined}, Sides.{IsPaired, apart_second, beside_new, new_first}}
 use Rattle.deep_reduce.proofs.{Sides.{new_second, reduced_front}, Steps.{neg_answer, neg_overflow}, Told.{answer_at, overflow_at, minus_one_value, power_told, power_words, power_sides, two_reduced}}
 use Rattle.deep_reduce.proofs.{Told.{inverse_no_half}, differences.turn.Goals.{In_ok-minus_one, In_ok-product-in-Sum}}
 use Rattle.reduce_walk.proofs.HeldRationals.{root_fits}
@@ -56,11 +56,12 @@ returns-in_ok-product-in-Sum c =
           subst (λ (k : Connective). IfErr c.reduce_joined.result (LacksBelow (turned_room k (counted a) (2 ^ length gs)) (free_of c.args.pool.now + size a))) (sym c.in-Sum.is)
           (result_lacks c.reduce_joined.result
           (c.reduce_joined.ensures.room gs ns (subst (IsCalmAtZero ns) (sym p.tree) (opposite_calm a k)) (subst (SpansTree gs) (sym p.tree) (opposite_spans gs a s)))
-          (λ l. omega (arith, subst (λ (x : Tree). free_of c.node_over_two.new.pool + size w < factors_room (children_of x) (2 ^ length gs)) p.tree l, free, both, same, opposite_fits a (2 ^ length gs))));
+          (λ l. short_over (free_of c.args.pool.now) (free_of c.number.new.pool) _ _ (free_of c.node_over_two.new.pool) (size w) free both same (opposite_fits a (2 ^ length gs))
+          (subst (λ (x : Tree). free_of c.node_over_two.new.pool + size w < factors_room (children_of x) (2 ^ length gs)) p.tree l)));
       bits = λ h l k few.
           c.reduce_joined.ensures.bits h l (λ d. subst (λ (x : Tree). HoldsNode x h l) (sym p.tree)
           (opposite_factors a (holds_as h l (sym is) (k (ap (λ (x : Tree). has_undef (children_of x)) (sym is) ∙ only_undef a (second_side (num minus_one_fraction) a (sym (ap (λ (x : Tree). has_undef (children_of x)) p.tree) ∙ d))))))) few;
-      leaves = search rules;
+      leaves = leaves_after c.reduce_joined.result _ _ _ c.in_ok-minus_one.ensures.kept (leaves_after c.reduce_joined.result _ _ _ c.in_ok-product-in-Sum.ensures.kept c.reduce_joined.ensures.leaves);
     }
 
 -- ---- the inverse
@@ -104,36 +105,70 @@ returns-in_ok-power-in-Product c =
           subst (λ (k : Connective). IfErr c.reduce_power.result (LacksBelow (turned_room k (counted b) (2 ^ length gs)) (free_of c.args.pool.now + size b))) (sym c.in-Product.is)
           (result_lacks c.reduce_power.result (c.reduce_power.ensures.room gs ns (subst (IsCalmAtZero ns) (sym p.tree) (inverse_calm b k)) (subst (SpansTree gs) (sym p.tree) (inverse_spans gs b s))
           (ap (λ (x : Tree). is_whole_num (exponent_in x)) p.tree ∙ whole_is (negsuc 0)))
-          (λ l. omega (arith, subst (λ (x : Tree). free_of c.node_over_two-in-Product.new.pool + size w < whole_power_room (base_in x) (2 ^ length gs)) p.tree l, free, both, same, needs_most b (2 ^ length gs))));
+          (λ l. short_below (free_of c.args.pool.now) (free_of c.number.new.pool) _ _ (free_of c.node_over_two-in-Product.new.pool) (size w) free both same (needs_most b (2 ^ length gs))
+          (subst (λ (x : Tree). free_of c.node_over_two-in-Product.new.pool + size w < whole_power_room (base_in x) (2 ^ length gs)) p.tree l)));
       bits = λ h l k few.
           let held = subst (λ (x : Tree). has_undef (children_of x) ≡ false → HoldsNode x h l) (sym (p.tree ∙ is)) k in
           as_overflow c.reduce_power.result (product_fits (children_of w) c.reduce_power.result
           (λ d. power_node_fits (base_in w) (exponent_in w) c.reduce_power.result h l
           (holds_as h l words (held d)) few c.reduce_power.ensures.bits c.reduce_power.ensures.root_bits c.reduce_power.ensures.others)
           c.reduce_power.ensures.defined);
-      leaves = search rules;
+      leaves = leaves_after c.reduce_power.result _ _ _ c.in_ok-minus_one.ensures.kept (leaves_after c.reduce_power.result _ _ _ c.in_ok-power-in-Product.ensures.kept
+          (record { kept = c.reduce_power.ensures.kept; faults = c.reduce_power.ensures.faults; caused = c.reduce_power.ensures.caused; stands = c.reduce_power.ensures.stands }));
     }
 
 -- ---- bytes at hand
 
+fewer : {n : ℕ} → n < 40 → n < 48
+fewer l = omega (arith, l)
+
+beside : (now : ℕ) {old a b : ℕ} → now < 8 → old ≡ now + a → a ≡ b → b ≤ 40 → old < 48
+beside now l e f h = omega (arith, l, e, f, h)
+
 few_left : (c : In_ok-minus_one) → free_of c.number.new.pool < 8 → free_of c.args.pool.now < 48
 few_left c l =
     let g = c.in_ok-minus_one.ensures.given in
-    omega (arith, l, given_free c.requires.stands c.in_ok-minus_one.ensures.stands c.in_ok-minus_one.ensures.kept g, ap size (given_told g), num_bytes (value_of c.whole.result))
+    beside (free_of c.number.new.pool) l (given_free c.requires.stands c.in_ok-minus_one.ensures.stands c.in_ok-minus_one.ensures.kept g) (ap size (given_told g)) (num_bytes (value_of c.whole.result))
 
-pub returns-in_err-minus_one-clause-room : goal.returns-in_err-minus_one-clause-room
-returns-in_err-minus_one-clause-room c = λ gs ns k s.
-    passed_on c.from_residual.result (fault.Full c.in_err-minus_one.field-0.0) _ c.from_residual.ensures.0 c.from_residual.ensures.1
-    (turning_lacks c.args.connective gs _ (free_of c.args.pool.now) c.requires.reduced s (omega (arith, number_refused (rational (ratio_of c.whole.result)) c.in_err-minus_one.ensures.full)))
+pub returns-in_err-minus_one : goal.returns-in_err-minus_one
+returns-in_err-minus_one c =
+    let f = c.from_residual in
+    record {
+      ok = search rules;
+      overflow = search rules;
+      front = front_after front_same c.number.ensures.front;
+      room = λ gs ns k s. passed_on f.result (fault.Full c.in_err-minus_one.field-0.0) _ f.ensures.0 f.ensures.1
+          (turning_lacks c.args.connective gs _ (free_of c.args.pool.now) c.requires.reduced s (fewer (number_refused (rational (ratio_of c.whole.result)) c.in_err-minus_one.ensures.full)));
+      bits = λ h l k few. search rules;
+      leaves = search rules;
+    }
 
-pub returns-in_err-product-in-Sum-clause-room : goal.returns-in_err-product-in-Sum-clause-room
-returns-in_err-product-in-Sum-clause-room c = λ gs ns k s.
+pub returns-in_err-product-in-Sum : goal.returns-in_err-product-in-Sum
+returns-in_err-product-in-Sum c =
+    let g = c.in_ok-minus_one.ensures.given in
     let f = c.from_residual-in_err-product-in-Sum in
-    passed_on f.result (fault.Full c.in_err-product-in-Sum.field-0.0) _ f.ensures.0 f.ensures.1
-    (turning_lacks c.args.connective gs _ (free_of c.args.pool.now) c.requires.reduced s (few_left (goal.at.returns-in_err-product-in-Sum-clause-room c).In_ok-minus_one (refused_below c.in_err-product-in-Sum.ensures.full)))
+    record {
+      ok = search rules;
+      overflow = search rules;
+      front = front_after_two (behind_new g.ends front_same) behind_first (front_end g.ends front_same) c.node_over_two.ensures.front;
+      room = λ gs ns k s. passed_on f.result (fault.Full c.in_err-product-in-Sum.field-0.0) _ f.ensures.0 f.ensures.1
+          (turning_lacks c.args.connective gs _ (free_of c.args.pool.now) c.requires.reduced s
+          (few_left (goal.at.returns-in_err-product-in-Sum c).In_ok-minus_one (refused_below c.in_err-product-in-Sum.ensures.full)));
+      bits = λ h l k few. search rules;
+      leaves = search rules;
+    }
 
-pub returns-in_err-power-in-Product-clause-room : goal.returns-in_err-power-in-Product-clause-room
-returns-in_err-power-in-Product-clause-room c = λ gs ns k s.
+pub returns-in_err-power-in-Product : goal.returns-in_err-power-in-Product
+returns-in_err-power-in-Product c =
+    let g = c.in_ok-minus_one.ensures.given in
     let f = c.from_residual-in_err-power-in-Product in
-    passed_on f.result (fault.Full c.in_err-power-in-Product.field-0.0) _ f.ensures.0 f.ensures.1
-    (turning_lacks c.args.connective gs _ (free_of c.args.pool.now) c.requires.reduced s (few_left (goal.at.returns-in_err-power-in-Product-clause-room c).In_ok-minus_one (refused_below c.in_err-power-in-Product.ensures.full)))
+    record {
+      ok = search rules;
+      overflow = search rules;
+      front = front_after_two behind_first (behind_new g.ends front_same) (front_end g.ends front_same) c.node_over_two-in-Product.ensures.front;
+      room = λ gs ns k s. passed_on f.result (fault.Full c.in_err-power-in-Product.field-0.0) _ f.ensures.0 f.ensures.1
+          (turning_lacks c.args.connective gs _ (free_of c.args.pool.now) c.requires.reduced s
+          (few_left (goal.at.returns-in_err-power-in-Product c).In_ok-minus_one (refused_below c.in_err-power-in-Product.ensures.full)));
+      bits = λ h l k few. search rules;
+      leaves = search rules;
+    }

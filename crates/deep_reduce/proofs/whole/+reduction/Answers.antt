@@ -2,13 +2,13 @@ use Rattle.deep_reduce.proofs.Shared.{rules, ◌≡◌, ◌<◌, ◌+◌, ◌^�
 use Rattle.deep_reduce.proofs.Shared.{no_product_kind, if_map, passed_on, IsReducedProduct, IsReducedPower, IsSummed, joins_none, joins_then, IsHeldAsPowerOf, IsFactorHeld, raised_high, raised_low}
 use Rattle.deep_reduce.proofs.Shared.{IsCalmAtZero, IsJoinedFrom, whole_power_room, SpansTree, free_of, replaced_free, gives_itself, IsPairAt, base_in, exponent_in, are_reduced, is_whole_num}
 use Rattle.deep_reduce.proofs.Shared.{Rewrites, tree_of, children_of, keeps_none, keeps_after, behind_first, front_same, front_end, front_without, gives, gives_as, given_handed, given_told}
-use Rattle.deep_reduce.proofs.Shared.{represents_handed, changes_as, changes_free, changes_front, changes_last, changes_last_front, children_told, front_again, hole_stays, KeepsProductBounds}
+use Rattle.deep_reduce.proofs.Shared.{represents_handed, changes_as, changes_free, changes_front, changes_last, changes_last_front, children_told, front_again, hole_stays, KeepsProductBounds, product_count, plain_value}
 use Rattle.deep_reduce.proofs.Shared.{contrary, product_fits, powers_ready, part_ready, exponent_ready, joint_exponents, joint_fits, half_no_whole, joint_lacks, is_rewritten, on_ok_after, fault_after}
-use Rattle.deep_reduce.proofs.Arms.{is_finished, is_gathered, is_at, is_few, is_done, is_again, is_held, gathered_hands, any_fault, any_refusal, misfit_fault, rewritten_defined, is_bounded}
+use Rattle.deep_reduce.proofs.Arms.{factors_refused, is_finished, is_gathered, is_at, is_few, is_done, is_again, is_held, gathered_hands, any_fault, any_refusal, misfit_fault, rewritten_defined, is_bounded}
 use Rattle.deep_reduce.proofs.Children.{exponent_told, exponent_set, factor_set, gives_next, front_next, exponent_seen, with_product, without_product, taken_falls, two_sides, handed_within}
 use Rattle.deep_reduce.proofs.Falls.{joint_falls, two_falls, next_two_falls, pairs_fall, product_falls, power_falls, rewritten_falls, powers_fall, ready_product_falls, exponent_falls}
 use Rattle.deep_reduce.proofs.{Falls.{ready_power_falls, one_power_falls}, Finished.{product_of_powers, ready_product, transparent_children, ready_power, power_lifted, power_of_kind}}
-use Rattle.deep_reduce.proofs.Lacking.{lacks_as, result_lacks, short_as, short_at, short_beside, handed_on, joint_sum_lacks, joint_power_short, joint_at_spans, joint_ready, next_bytes, step_lacks, power_refused, power_result}
+use Rattle.deep_reduce.proofs.Lacking.{lacks_as, result_lacks, leaves_after, step_short, short_as, short_at, short_beside, handed_on, joint_sum_lacks, joint_power_short, joint_at_spans, joint_ready, next_bytes, step_lacks, power_refused, power_result}
 use Rattle.deep_reduce.proofs.{Lacking.{ready_product as ready_for_product, ready_power as ready_for_power, ready_exponent, ready_part}, Measures.{few_factors, below_measure}}
 use Rattle.deep_reduce.proofs.Told.{half_no_whole as half_is_not_whole}
 use Rattle.deep_reduce.proofs.{Opened.{opened, power_after, power_finished}, Rows.{IsPowerOf, none_reduced, next_power, next_within, next_of, next_told, next_reduced, all_reduced}, Settled.{joint_at}}
@@ -113,10 +113,25 @@ reduce_product-returns-in_ok-joined-in-Joined t c =
       stands = search rules;
     }
 
-pub reduce_product-returns-in_err-answer-clause-room : goal.reduce_product-returns-in_err-answer-clause-room
-reduce_product-returns-in_err-answer-clause-room t c = λ gs ns k s.
-    passed_on c.from_residual.result c.in_err-answer.field-0.0 _ c.from_residual.ensures.0 c.from_residual.ensures.1
-    (lacks_as c.in_err-answer.field-0.0 (c.in_err-answer.ensures.room gs s) (λ l. omega (arith, l)))
+pub reduce_product-returns-in_err-answer : goal.reduce_product-returns-in_err-answer
+reduce_product-returns-in_err-answer t c =
+    let f = c.from_residual in
+    let e = c.in_err-answer in
+    record {
+      ok = search rules;
+      joined = search rules;
+      written = search rules;
+      rationals = λ q. factors_refused (plain_value (tree_of c.args.product c.args.pool.now)) c.gather_factors.new.pool f.result e.field-0.0 f.ensures.1 (e.ensures.rationals q);
+      defined = passed_on f.result e.field-0.0 _ f.ensures.0 f.ensures.1 e.ensures.defined;
+      front = c.gather_factors.ensures.front;
+      kept = search rules;
+      faults = passed_on f.result e.field-0.0 _ f.ensures.0 f.ensures.1 e.ensures.faults;
+      caused = passed_on f.result e.field-0.0 _ f.ensures.0 f.ensures.1 e.ensures.caused;
+      room = λ gs ns k s. passed_on f.result e.field-0.0 _ f.ensures.0 f.ensures.1
+          (lacks_as e.field-0.0 (e.ensures.room gs s) (λ l. step_short (product_count (children_of (tree_of c.args.product c.args.pool.now))) (2 ^ length gs) _ l));
+      bits = λ h l a few. passed_on f.result e.field-0.0 _ f.ensures.0 f.ensures.1 (e.ensures.bits h l a few);
+      stands = c.gather_factors.ensures.stands;
+    }
 
 -- ---- join_pairs
 
@@ -173,6 +188,17 @@ join_pairs-returns-in-Err t c =
       leaves = search rules;
     }
 
+pub join_pairs-returns : goal.join_pairs-returns
+join_pairs-returns t c =
+    let i = c.loop-next.invariant in
+    record {
+      ok = i.given;
+      front = i.front;
+      room = λ gs ns k s. tt;
+      bits = λ h l a few. tt;
+      leaves = record { kept = i.kept; faults = tt; caused = tt; stands = i.stands };
+    }
+
 pub join_pairs-returns-in_err-joined : goal.join_pairs-returns-in_err-joined
 join_pairs-returns-in_err-joined t c =
     let f = c.from_residual in
@@ -209,7 +235,7 @@ join_two-returns t c =
           result_lacks c.reduce_joint.result (c.reduce_joint.ensures.room gs ns ts from (subst (IsCalmAtZero ns) w k) (subst (SpansTree gs) w s))
           (λ l. short_at (replaced_free c.requires.stands c.in_ok-joined.ensures.stands c.in_ok-joined.ensures.kept c.requires.handed g) l);
       bits = λ h l a few. c.reduce_joint.ensures.bits h l ts from a few;
-      leaves = search rules;
+      leaves = leaves_after c.reduce_joint.result _ _ _ c.in_ok-joined.ensures.kept c.reduce_joint.ensures.leaves;
     }
 
 pub join_two-returns-in_err-joined : goal.join_two-returns-in_err-joined
@@ -453,7 +479,12 @@ reduce_rewritten-returns-in_ok-product-in-Mult t c =
       bits = λ b e n h l r q a few.
           product_fits (children_of v) c.reduce_product.result
           (λ d. c.reduce_product.ensures.bits (raised_high n h l) (raised_low n h l) (powers_ready b e u v n h l m r (given_told g) q a d) few) c.reduce_product.ensures.defined;
-      leaves = search rules;
+      leaves = leaves_after c.reduce_product.result _ _ _ c.in_ok-product-in-Mult.ensures.leaves.kept (record {
+        kept = c.reduce_product.ensures.kept;
+        faults = c.reduce_product.ensures.faults;
+        caused = c.reduce_product.ensures.caused;
+        stands = c.reduce_product.ensures.stands;
+      });
     }
 
 pub reduce_rewritten-reduce_exponent-requires : goal.reduce_rewritten-reduce_exponent-requires
@@ -483,7 +514,7 @@ reduce_rewritten-returns-in_ok-power-in_default t c =
           let x = ready_for_power gs ns b e (tree_of c.args.tree c.args.pool.now) (tree_of c.in_ok-power-in_default.power c.reduce_exponent.new.pool) (ap is_mult p) r k s (given_told g) in
           power_result _ _ (tree_of c.in_ok-power-in_default.power c.reduce_exponent.new.pool) c.reduce_power.result y.is x.calm
           (λ w. result_lacks c.reduce_power.result (c.reduce_power.ensures.room gs ns x.calm x.spanned w)
-          (λ l. omega (arith, x.lacks _ l, replaced_free c.requires.stands c.in_ok-power-in_default.ensures.leaves.stands kept c.requires.handed g)))
+          (λ l. short_at (replaced_free c.requires.stands c.in_ok-power-in_default.ensures.leaves.stands kept c.requires.handed g) (x.lacks _ l)))
           (λ w h. c.reduce_power.ensures.others w h);
       bits = λ b e n h l r q a few.
           power_fits b e (tree_of c.args.tree c.args.pool.now) (tree_of c.in_ok-power-in_default.power c.reduce_exponent.new.pool) n h l c.reduce_power.result (ap is_mult p) r
