@@ -16,3 +16,4 @@ pub mod Results
 pub mod Shared
 pub mod RisingLemmas
 pub mod NamesOnce
+pub mod Places

@@ -28,7 +28,7 @@ pub type NameRow = Row<NAME_LIMIT>;
 pub type EquationRow = Row<ENTRY_LIMIT>;
 
 /// One entry of a row. An unused place holds 0.
-#[derive(Clone, Copy, Debug)]
+#[derive(Clone, Copy)]
 struct Entry {
     value: Rat,
 }
