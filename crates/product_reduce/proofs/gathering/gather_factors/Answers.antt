@@ -1,5 +1,6 @@
 use Rattle.product_reduce.proofs.Shared.{◌≡◌, ◌∙◌, Ok, Err, ap, sym, refl, subst, arith, true, false, PlainValue, IsPlainAnswer, AnswersRationals, result_lacks, tree_of, forest, gives_as, given_told}
 use Rattle.product_reduce.proofs.{Shared.{IsFinished, IsCoefficient, others_in, factors_in, reduced_formed}, Finished.{stopped, undef_finished, rationals_defined}, Forms.{opened_flat}}
+use Rattle.product_reduce.proofs.{Shared.{◌≤◌, AreOthers, NoneIs, Trees, count, is_mult}, Products.{factors_are, product_at}}
 use Rattle.product_reduce.proofs.{Gathered.{gathered}, Leads.{opened_some}, Parted.{AreOpened, AreParted, opens, parted, reduced_now, rationals_opened, numbers_overflow, numbers_fit, numbers_room}}
 use Rattle.product_reduce.proofs.Parted.{stop_given, gathered_given, spreading_given, spreading_fits, parted_room, answered, refused, finished_bounds, gathered_bounds}
 use Rattle.product_reduce.proofs.{Stepped.{others_are, finished_map, joined_map, none_beside}, gathering.gather_factors.Goals.{After-open_products, In_ok-coefficient}}
@@ -32,13 +33,25 @@ returns-then-has_undef_factor-clause-rationals c =
 -- ---- the coefficient stands first as it is written
 
 pub written_lead-requires : goal.written_lead-requires
-written_lead-requires c = grind (arith, opened_now, reduced_formed, reduced_now, opened_flat, opened_some)
+written_lead-requires c =
+    let ts = factors_in c.args.product (forest c.args.pool.now) in
+    let o = opened_now (goal.at.written_lead-requires c).After-open_products in
+    let formed = reduced_formed ts o.reduced o.defined in
+    record {
+      stands = o.stands;
+      product = product_at o.becomes.product refl (sym (factors_are o.becomes.product));
+      reduced = reduced_now o;
+      flat = subst (NoneIs is_mult) (sym o.factors) (opened_flat ts formed);
+      some = subst (λ (us : Trees). 1 ≤ count us) (sym o.factors) (opened_some ts formed o.some);
+    }
 
 pub order_behind-requires-clause-reduced : goal.order_behind-requires-clause-reduced
 order_behind-requires-clause-reduced c = reduced_now (opened_now (goal.at.order_behind-requires-clause-reduced c).After-open_products)
 
 pub order_behind-requires-clause-others : goal.order_behind-requires-clause-others
-order_behind-requires-clause-others c = grind (arith, opened_now, others_are)
+order_behind-requires-clause-others c =
+    let o = opened_now (goal.at.order_behind-requires-clause-others c).After-open_products in
+    subst (λ (us : Trees). AreOthers (others_in us)) (sym o.factors) (others_are (factors_in c.args.product (forest c.args.pool.now)) o.reduced o.defined)
 
 pub returns-in-Some-clause-done : goal.returns-in-Some-clause-done
 returns-in-Some-clause-done c =
@@ -76,7 +89,9 @@ returns-in_err-coefficient-clause-rationals c = λ r.
     refused _ new c.from_residual.result f c.from_residual.ensures.1 (rationals_opened (λ (v : PlainValue). AnswersRationals v new (Err f)) o r c.in_err-coefficient.ensures.rationals)
 
 pub returns-in_err-coefficient-clause-overflow : goal.returns-in_err-coefficient-clause-overflow
-returns-in_err-coefficient-clause-overflow c = grind (arith, opened_now, numbers_overflow)
+returns-in_err-coefficient-clause-overflow c =
+    let o = opened_now (goal.at.returns-in_err-coefficient-clause-overflow c).After-open_products in
+    numbers_overflow c.from_residual.result c.in_err-coefficient.field-0.0 c.from_residual.ensures.0 c.from_residual.ensures.1 o c.in_err-coefficient.ensures.overflow
 
 pub returns-in_err-coefficient-clause-bits : goal.returns-in_err-coefficient-clause-bits
 returns-in_err-coefficient-clause-bits c h l a few =
@@ -91,7 +106,16 @@ returns-in_err-coefficient-clause-room c gs s =
 -- ---- the coefficient is taken out
 
 pub order_or_end-requires : goal.order_or_end-requires
-order_or_end-requires c = grind (arith, parts)
+order_or_end-requires c =
+    let p = parts (goal.at.order_or_end-requires c).In_ok-coefficient in
+    record {
+      stands = c.take_coefficient.ensures.leaves.stands;
+      product = p.product;
+      others = p.others;
+      coefficient = c.in_ok-coefficient.ensures.taken.beside.handed;
+      number = c.in_ok-coefficient.ensures.coefficient.number;
+      apart = p.apart;
+    }
 
 pub returns-clause-done : goal.returns-clause-done
 returns-clause-done c = let p = parts (goal.at.returns-clause-done c).In_ok-coefficient in finished_map c.order_or_end.result c.order_or_end.ensures.done (λ h x. stop_given p x)
@@ -118,7 +142,8 @@ pub returns-clause-joined_bounds : goal.returns-clause-joined_bounds
 returns-clause-joined_bounds c = joined_map c.order_or_end.result (returns-clause-gathered c) (λ h at x. gathered_bounds _ c.requires.reduced (given_told x))
 
 pub returns-clause-bits : goal.returns-clause-bits
-returns-clause-bits c h l a few = grind (arith, spreading_fits, parts)
+returns-clause-bits c h l a few =
+    spreading_fits c.order_or_end.new.pool c.order_or_end.result h l (parts (goal.at.returns-clause-bits c).In_ok-coefficient) a few c.order_or_end.ensures.overflow c.order_or_end.ensures.leaves.caused
 
 pub returns-clause-room : goal.returns-clause-room
 returns-clause-room c gs s =

@@ -1,4 +1,4 @@
-use Rattle.std.proofs.Common.{arith, ◌≡◌, ◌∙◌, Err, sym, refl, subst, true, false}
+use Rattle.std.proofs.Common.{◌≡◌, ◌∙◌, Err, sym, refl, subst, true, false}
 use Rattle.product_reduce.proofs.{Shared.{PlainValue, IsPlainAnswer, AnswersRationals, tree_of, forest, gives_as, given_told, IsFinished, factors_in}, Finished.{undef_finished, rationals_defined}}
 use Rattle.product_reduce.proofs.{JoinedCounts.{product_counted}, GatheredParts.{spans_factors}, Parted.{AreOpened, AreParted, opens, parted, reduced_now, rationals_opened, numbers_overflow}}
 use Rattle.product_reduce.proofs.{Parted.{numbers_fit, numbers_room, stop_given, spreading_given, spreading_fits, parted_room, finished_bounds}, Rejoined.{again_map, done_map, rejoin_given}}
@@ -20,7 +20,16 @@ pub take_coefficient-requires-clause-reduced : goal.take_coefficient-requires-cl
 take_coefficient-requires-clause-reduced c = reduced_now (opened_now (goal.at.take_coefficient-requires-clause-reduced c).After-open_products)
 
 pub join_or_end-requires : goal.join_or_end-requires
-join_or_end-requires c = grind (arith, parts)
+join_or_end-requires c =
+    let p = parts (goal.at.join_or_end-requires c).In_ok-coefficient in
+    record {
+      stands = c.take_coefficient.ensures.leaves.stands;
+      product = p.product;
+      others = p.others;
+      coefficient = c.in_ok-coefficient.ensures.taken.beside.handed;
+      number = c.in_ok-coefficient.ensures.coefficient.number;
+      apart = p.apart;
+    }
 
 -- ---- a factor is Undef
 
@@ -46,7 +55,9 @@ returns-in_err-coefficient-clause-rationals c = λ r.
     step_refused _ new c.from_residual.result f c.from_residual.ensures.1 (rationals_opened (λ (v : PlainValue). AnswersRationals v new (Err f)) o r c.in_err-coefficient.ensures.rationals)
 
 pub returns-in_err-coefficient-clause-overflow : goal.returns-in_err-coefficient-clause-overflow
-returns-in_err-coefficient-clause-overflow c = grind (arith, opened_now, numbers_overflow)
+returns-in_err-coefficient-clause-overflow c =
+    let o = opened_now (goal.at.returns-in_err-coefficient-clause-overflow c).After-open_products in
+    numbers_overflow c.from_residual.result c.in_err-coefficient.field-0.0 c.from_residual.ensures.0 c.from_residual.ensures.1 o c.in_err-coefficient.ensures.overflow
 
 pub returns-in_err-coefficient-clause-bits : goal.returns-in_err-coefficient-clause-bits
 returns-in_err-coefficient-clause-bits c h l a few =
@@ -90,7 +101,8 @@ returns-clause-again_spanned c = λ gs s.
     (λ h x. spans_joined gs _ _ (spans_factors gs _ _ (mult_words (tree_of c.args.product c.args.pool.now) c.requires.product) s) (given_told x))
 
 pub returns-clause-bits : goal.returns-clause-bits
-returns-clause-bits c h l a few = grind (arith, spreading_fits, parts)
+returns-clause-bits c h l a few =
+    spreading_fits c.join_or_end.new.pool c.join_or_end.result h l (parts (goal.at.returns-clause-bits c).In_ok-coefficient) a few c.join_or_end.ensures.overflow c.join_or_end.ensures.leaves.caused
 
 pub returns-clause-room : goal.returns-clause-room
 returns-clause-room c gs s = parted_room gs c.join_or_end.result (parts (goal.at.returns-clause-room c).In_ok-coefficient) s (c.join_or_end.ensures.room gs)
