@@ -178,7 +178,16 @@ ready_root a c s h =
     }
 
 ready_neg : (a c : Tree) → all_simple a ≡ true → IsReducedFrom a c → IsReadyNode (neg a) (neg c)
-ready_neg a c h k = grind arith
+ready_neg a c h k =
+    let x = k.room h in
+    record {
+      fits = omega (arith, x.counts);
+      counts = omega (arith, x.counts);
+      radicands = x.radicands;
+      few = x.few;
+      spanned = (tt, x.spanned);
+      calm = λ ns o l. (tt, x.calm ns o l);
+    }
 
 ready_sub : (a c b d : Tree) → all_simple a && all_simple b ≡ true → IsReducedFrom a c → IsReducedFrom b d → IsReadyNode (sub a b) (sub c d)
 ready_sub a c b d s h k =
@@ -199,7 +208,10 @@ ready t u s (over_symbol x) = inl (record { fits = omega arith; counts = omega a
 ready t u s over_undef = inl (record { fits = omega arith; counts = omega arith; radicands = []; few = omega arith; spanned = tt; calm = λ ns o a. tt })
 ready t u s (over_sum ts us h) = inl (ready_sum ts us s h)
 ready t u s (over_product ts us h) = inl (ready_product ts us s h)
-ready t u s (over_power b c e f h k) = grind (arith, and_parts, simple_power)
+ready t u s (over_power b c e f h k) =
+    let (both, q) = and_parts (is_simple_power b e && all_simple b) (all_simple e) s in
+    let (simple, p) = and_parts (is_simple_power b e) (all_simple b) both in
+    simple_power b c e f simple p q h k
 ready t u s (over_root a c h) = inl (ready_root a c s h)
 ready t u s (over_neg a c h) = inl (ready_neg a c s h)
 ready t u s (over_sub a c b d h k) = inl (ready_sub a c b d s h k)
