@@ -1,4 +1,4 @@
-use Rattle.std.proofs.Common.{◌≡◌, false, length, ◌<◌, ◌+◌, ◌^◌, rules, sym, ap, ◌∙◌, subst, refl, arith}
+use Rattle.std.proofs.Common.{◌≡◌, false, length, ◌<◌, ◌+◌, ◌^◌, rules, sym, ap, ◌∙◌, subst, refl}
 use Rattle.deep_reduce.proofs.Shared.{are_reduced, SpansTree, bare, size_of_payload, Tree, Trees, Kind, size, has_undef, takes_kind, IsCalmAtZero, HoldsNode, both_replaced_free, refused_below}
 use Rattle.deep_reduce.proofs.Shared.{passed_on, free_of, Gives, tree_of, without_root, forest, children_of, compound, gives, given_handed, given_other, given_rest, given_told, represents_handed}
 use Rattle.deep_reduce.proofs.{Shared.{joined_by, joined_room}, Connected.{children_joined, joined_lacks, takes_two}, Lacking.{leaves_after, result_lacks, short_two}, Results.{answer_as, overflow_as}}

@@ -1,4 +1,4 @@
-use Rattle.deep_reduce.proofs.Shared.{◌≡◌, rules, length, true, false, ◌<◌, ◌+◌, ◌^◌, refl, sym, ap, ◌∙◌, subst, arith, fraction_fits, Fraction, HoldsNode, is_reduced, Tree, size, sizes, num}
+use Rattle.deep_reduce.proofs.Shared.{◌≡◌, rules, length, true, false, ◌<◌, ◌+◌, ◌^◌, refl, sym, ap, ◌∙◌, subst, fraction_fits, Fraction, HoldsNode, is_reduced, Tree, size, sizes, num}
 use Rattle.deep_reduce.proofs.Shared.{has_undef, tree_of, gives_as, given_handed, given_root, given_told, nth, children_of, counted, SpansTree, seen, IsNodeAnswer, IsCalmAtZero, stands_last, free_of}
 use Rattle.deep_reduce.proofs.{Shared.{keeps_after, replaced_free, passed_on, turned, joined_by, joined_room, turned_room, expression, holds_as, second_side}, Connected.{HoldsTurned, children_joined}}
 use Rattle.deep_reduce.proofs.Connected.{sides_answer, sides_children, sides_held, sides_overflow, sides_ready, turned_lacks, turned_overflow, turned_ready}

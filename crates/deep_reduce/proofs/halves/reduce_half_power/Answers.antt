@@ -1,4 +1,4 @@
-use Rattle.deep_reduce.proofs.Shared.{◌≡◌, Some, rules, refl, sym, subst, arith, Gives, Rewrites, Tree, numerator, gives_itself, IsHeldAsPowerOf, IsFactorHeld, argument_of, forest, free_of}
+use Rattle.deep_reduce.proofs.Shared.{◌≡◌, Some, rules, refl, sym, subst, Gives, Rewrites, Tree, numerator, gives_itself, IsHeldAsPowerOf, IsFactorHeld, argument_of, forest, free_of}
 use Rattle.deep_reduce.proofs.Shared.{replaced_free, passed_on, refusal_as, rewritten, without_root, keeps_after, base_in, exponent_in, tree_of, gives_as, given_handed, given_told, half_no_whole}
 use Rattle.deep_reduce.proofs.{Shared.{if_ok_both}, Arms.{is_done, is_again, any_fault, any_refusal, misfit_fault, half_defined}, Children.{gives_next, front_next}, HalfPowers.{IsHalfStep, half_step}}
 use Rattle.deep_reduce.proofs.{HalfPowers.{half_ready, half_last, last_exponent, rooted_held, half_after, step_finds_none, base_finds_none, last_step, last_finds_none}, Lacking.{lacks_as, short_at}}

@@ -1,4 +1,4 @@
-use Rattle.deep_reduce.proofs.Shared.{rules, ap, subst, Bool, Kind, true, false, ◌≡◌, ◌^◌, ℕ, List, length, refl, sym, ◌∙◌, arith, IsNodeAnswer, plain_value, Tree, root_kind, tree_of, keeps_none, front_same, gives}
+use Rattle.deep_reduce.proofs.Shared.{rules, ap, subst, Bool, Kind, true, false, ◌≡◌, ◌^◌, ℕ, List, length, refl, sym, ◌∙◌, IsNodeAnswer, plain_value, Tree, root_kind, tree_of, keeps_none, front_same, gives}
 use Rattle.deep_reduce.proofs.Shared.{represents_handed, kind_of_root, pow_pos, SpansTree, value, int_is_negative, base_in, exponent_in, argument_of, IfRational, IsNoLargerThanRoot, children_of}
 use Rattle.deep_reduce.proofs.Shared.{free_of, sum_kind, product_kind, sum_words, product_fits, as_overflow, power_node_fits, root_node_fits, measured_facts, holds_as, factors_fit, root_result}
 use Rattle.deep_reduce.proofs.{Shared.{no_half_power, node_spans, root_is}, Folded.{number_needs}, Lacking.{result_lacks, power_result, short_within}, Results.{answered, answer_as, overflow_as, overflowed_defined}}
