@@ -21,6 +21,7 @@ pub mod Recognized
 pub mod SquareFreeSums
 pub mod Overflows
 pub mod Placings
+pub mod Refusals
 pub mod Exchanged
 pub mod Rooms
 pub mod Over

@@ -65,7 +65,6 @@ pub fn add_numbers(pool: &mut Pool, a: Handle, b: Handle) -> Result<Handle, Numb
 }
 
 /// The sum of two Numbers, which are consumed. Two terms that stay apart are its terms as they stand.
-#[tactic(auto, using(crate::proofs::Rooms::sum_lacks_two))]
 pub(crate) fn add_terms(pool: &mut Pool, a: Handle, b: Handle) -> Result<Handle, NumberFault>
     requires stands { Stands pool.old }
     requires first { IsHanded a (forest pool.old) }

@@ -336,7 +336,6 @@ fn radicand_at<const N: usize>(pool: &Pool, sum: Id, list: &ChildList<N>, at: u1
 
 /// A clean number, which is what is left under the root of the product of two terms if a sum has that radicand; and the
 /// place of its term.
-#[tactic(auto, using(surd_terms::proofs::Radicands::clean_one))]
 pub(crate) fn clean_radicand<const N: usize>(
     pool: &Pool,
     sum: Id,

@@ -1,4 +1,7 @@
-use Rattle.number_forms.proofs.{Shared.{refl, gives_as, tree_of, without-swap}, RisingPairs.{falling_pair, rising_pair}}
+use Rattle.number_forms.proofs.Shared.{◌+◌, ◌++◌, List, ℕ, refl, behind_first, behind_later, free_of, front_after_two, front_same, gives_as, passed_on, refused_below, size, sum_need, tree_of, value, without-swap}
+use Rattle.number_forms.proofs.{Refusals.{none_given, none_kept}, RisingPairs.{falling_pair, rising_pair}, Rooms.{sum_lacks_two}, Shared.{LacksRoom, OfOverflow, SumOverflows}}
+use Rattle.tree_handles.specs.{Causes.{IsCaused}, Faults.{Faults}}
+use Rattle.tree_handles.specs.declared.fault.NumberFault.TheVariants as fault
 use Rattle.number_forms.proofs.adding.add_terms.Goals as goal
 
 pub returns-in_ok-node_over_two-in-Less-clause-ok : goal.returns-in_ok-node_over_two-in-Less-clause-ok
@@ -9,3 +12,50 @@ pub returns-in_ok-node_over_two-in-Greater-clause-ok : goal.returns-in_ok-node_o
 returns-in_ok-node_over_two-in-Greater-clause-ok c =
     gives_as c.in_ok-node_over_two-in-Greater.ensures.ok (without-swap c.args.a c.args.b _ c.requires.apart)
     (λ t e. falling_pair (tree_of c.args.a c.args.pool.now) (tree_of c.args.b c.args.pool.now) t c.in-Greater.ensures e)
+
+pub returns-in_ok-node_over_two-in-Greater-clause-front : goal.returns-in_ok-node_over_two-in-Greater-clause-front
+returns-in_ok-node_over_two-in-Greater-clause-front c = front_after_two (behind_later behind_first) behind_first front_same c.node_over_two-in-Greater.ensures.front
+
+-- ---- bytes that are lacking
+
+pub returns-in_err-node_over_two-in-Less : goal.returns-in_err-node_over_two-in-Less
+returns-in_err-node_over_two-in-Less c =
+    let a = tree_of c.args.a c.args.pool.now in
+    let b = tree_of c.args.b c.args.pool.now in
+    let free = free_of c.args.pool.now in
+    let r = c.from_residual.result in
+    let e = fault.Full c.in_err-node_over_two-in-Less.field-0.0 in
+    let told = c.from_residual.ensures in
+    let refused = c.in_err-node_over_two-in-Less.ensures.full in
+    record {
+      ok = none_given r _ told.0;
+      front = c.node_over_two.ensures.front;
+      kept = none_kept r _ told.0;
+      faults = passed_on r e (Faults c.args.pool.now c.node_over_two.new.pool) told.0 told.1 refused.refuses;
+      overflow = passed_on r e (OfOverflow (SumOverflows (value a) (value b))) told.0 told.1 tt;
+      caused = passed_on r e (IsCaused c.node_over_two.new.pool) told.0 told.1 refused.lacks;
+      room = λ gs s t. passed_on r e (LacksRoom sum_need (free + size a + size b) gs) told.0 told.1
+          (sum_lacks_two gs free a b c.requires.first_number c.requires.second_number s t (refused_below refused));
+      stands = c.node_over_two.ensures.stands;
+    }
+
+pub returns-in_err-node_over_two-in-Greater : goal.returns-in_err-node_over_two-in-Greater
+returns-in_err-node_over_two-in-Greater c =
+    let a = tree_of c.args.a c.args.pool.now in
+    let b = tree_of c.args.b c.args.pool.now in
+    let free = free_of c.args.pool.now in
+    let r = c.from_residual-in_err-node_over_two-in-Greater.result in
+    let e = fault.Full c.in_err-node_over_two-in-Greater.field-0.0 in
+    let told = c.from_residual-in_err-node_over_two-in-Greater.ensures in
+    let refused = c.in_err-node_over_two-in-Greater.ensures.full in
+    record {
+      ok = none_given r _ told.0;
+      front = front_after_two (behind_later behind_first) behind_first front_same c.node_over_two-in-Greater.ensures.front;
+      kept = none_kept r _ told.0;
+      faults = passed_on r e (Faults c.args.pool.now c.node_over_two-in-Greater.new.pool) told.0 told.1 refused.refuses;
+      overflow = passed_on r e (OfOverflow (SumOverflows (value a) (value b))) told.0 told.1 tt;
+      caused = passed_on r e (IsCaused c.node_over_two-in-Greater.new.pool) told.0 told.1 refused.lacks;
+      room = λ gs s t. passed_on r e (LacksRoom sum_need (free + size a + size b) gs) told.0 told.1
+          (sum_lacks_two gs free a b c.requires.first_number c.requires.second_number s t (refused_below refused));
+      stands = c.node_over_two-in-Greater.ensures.stands;
+    }

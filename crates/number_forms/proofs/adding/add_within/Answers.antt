@@ -4,6 +4,9 @@ use Rattle.number_forms.proofs.Shared.{front_without, front_after_one, given_han
 use Rattle.number_forms.proofs.{Shared.{OfOverflow, passed_on, sum_need, Spans, Surd, size, free_of, LacksRoom, joining_need, replaced_free, both_replaced_free, expression}, Denominators.{shares_eq}}
 use Rattle.number_forms.proofs.{Over.{over_as, shares_append}, Overflows.{sum_overflows_as}, Rooms.{full_as, few_for_sum, number_spans, sum_lacks, sum_lacks_two, sum_spans_same}}
 use Rattle.tree_handles.specs.declared.fault.NumberFault.TheVariants as fault
+use Rattle.number_forms.proofs.Refusals.{faults_after, none_given, none_kept}
+use Rattle.tree_handles.proofs.Refused.{refuses_after}
+use Rattle.tree_handles.specs.{Causes.{IsCaused}, Faults.{Faults}}
 use Rattle.number_forms.proofs.adding.add_within.Goals as goal
 
 pub returns-in_err-sum-clause-room : goal.returns-in_err-sum-clause-room
@@ -96,3 +99,50 @@ returns-in_err-join_terms-clause-overflow g c =
 
 pub of-list-requires : goal.of-list-requires
 of-list-requires g c = (omega (arith, c.requires.few), (c.in_ok-sum.ensures.stands, expression c.id.ensures c.in_ok-sum.ensures.stands (given_handed c.in_ok-sum.ensures.ok)))
+
+-- ---- what is refused
+
+pub returns-in_err-sum-clause-ok : goal.returns-in_err-sum-clause-ok
+returns-in_err-sum-clause-ok g c = none_given c.from_residual.result _ c.from_residual.ensures.0
+
+pub returns-in_err-sum-clause-kept : goal.returns-in_err-sum-clause-kept
+returns-in_err-sum-clause-kept g c = none_kept c.from_residual.result _ c.from_residual.ensures.0
+
+pub returns-in_err-sum-clause-faults : goal.returns-in_err-sum-clause-faults
+returns-in_err-sum-clause-faults g c = passed_on c.from_residual.result (fault.Full c.in_err-sum.field-0.0) (Faults c.args.pool.now c.sum_over.new.pool) c.from_residual.ensures.0 c.from_residual.ensures.1 (c.in_err-sum.ensures.full)
+
+pub returns-in_err-sum-clause-caused : goal.returns-in_err-sum-clause-caused
+returns-in_err-sum-clause-caused g c = passed_on c.from_residual.result (fault.Full c.in_err-sum.field-0.0) (IsCaused c.sum_over.new.pool) c.from_residual.ensures.0 c.from_residual.ensures.1 (c.in_err-sum.ensures.caused)
+
+pub returns-in_err-sum-clause-overflow : goal.returns-in_err-sum-clause-overflow
+returns-in_err-sum-clause-overflow g c = passed_on c.from_residual.result (fault.Full c.in_err-sum.field-0.0) (OfOverflow (SumOverflows (value (tree_of c.args.a c.args.pool.now)) (value (tree_of c.args.b c.args.pool.now)))) c.from_residual.ensures.0 c.from_residual.ensures.1 tt
+
+pub returns-in_err-join_terms-clause-ok : goal.returns-in_err-join_terms-clause-ok
+returns-in_err-join_terms-clause-ok g c = none_given c.from_residual-in_err-join_terms.result _ c.from_residual-in_err-join_terms.ensures.0
+
+pub returns-in_err-join_terms-clause-kept : goal.returns-in_err-join_terms-clause-kept
+returns-in_err-join_terms-clause-kept g c = none_kept c.from_residual-in_err-join_terms.result _ c.from_residual-in_err-join_terms.ensures.0
+
+pub returns-in_err-join_terms-clause-faults : goal.returns-in_err-join_terms-clause-faults
+returns-in_err-join_terms-clause-faults g c = passed_on c.from_residual-in_err-join_terms.result (c.in_err-join_terms.field-0.0) (Faults c.args.pool.now c.join_terms.new.pool) c.from_residual-in_err-join_terms.ensures.0 c.from_residual-in_err-join_terms.ensures.1 (faults_after _ c.in_err-join_terms.field-0.0 c.in_ok-sum.ensures.kept c.in_err-join_terms.ensures.faults)
+
+pub returns-in_err-join_terms-clause-caused : goal.returns-in_err-join_terms-clause-caused
+returns-in_err-join_terms-clause-caused g c = passed_on c.from_residual-in_err-join_terms.result (c.in_err-join_terms.field-0.0) (IsCaused c.join_terms.new.pool) c.from_residual-in_err-join_terms.ensures.0 c.from_residual-in_err-join_terms.ensures.1 (c.in_err-join_terms.ensures.caused)
+
+pub returns-in_err-number_of-clause-ok : goal.returns-in_err-number_of-clause-ok
+returns-in_err-number_of-clause-ok g c = none_given c.from_residual-in_err-number_of.result _ c.from_residual-in_err-number_of.ensures.0
+
+pub returns-in_err-number_of-clause-kept : goal.returns-in_err-number_of-clause-kept
+returns-in_err-number_of-clause-kept g c = none_kept c.from_residual-in_err-number_of.result _ c.from_residual-in_err-number_of.ensures.0
+
+pub returns-in_err-number_of-clause-faults : goal.returns-in_err-number_of-clause-faults
+returns-in_err-number_of-clause-faults g c = passed_on c.from_residual-in_err-number_of.result (fault.Full c.in_err-number_of.field-0.0) (Faults c.args.pool.now c.number_of.new.pool) c.from_residual-in_err-number_of.ensures.0 c.from_residual-in_err-number_of.ensures.1 (refuses_after (kept_after c.in_ok-sum.ensures.kept (kept_after c.in_ok-join_terms.ensures.kept c.release.ensures.kept)) c.in_err-number_of.ensures.full)
+
+pub returns-in_err-number_of-clause-caused : goal.returns-in_err-number_of-clause-caused
+returns-in_err-number_of-clause-caused g c = passed_on c.from_residual-in_err-number_of.result (fault.Full c.in_err-number_of.field-0.0) (IsCaused c.number_of.new.pool) c.from_residual-in_err-number_of.ensures.0 c.from_residual-in_err-number_of.ensures.1 (c.in_err-number_of.ensures.caused)
+
+pub returns-in_err-number_of-clause-overflow : goal.returns-in_err-number_of-clause-overflow
+returns-in_err-number_of-clause-overflow g c = passed_on c.from_residual-in_err-number_of.result (fault.Full c.in_err-number_of.field-0.0) (OfOverflow (SumOverflows (value (tree_of c.args.a c.args.pool.now)) (value (tree_of c.args.b c.args.pool.now)))) c.from_residual-in_err-number_of.ensures.0 c.from_residual-in_err-number_of.ensures.1 tt
+
+pub returns-clause-kept : goal.returns-clause-kept
+returns-clause-kept g c = kept_after c.in_ok-sum.ensures.kept (kept_after c.in_ok-join_terms.ensures.kept (kept_after c.release.ensures.kept c.in_ok-number_of.ensures.kept))

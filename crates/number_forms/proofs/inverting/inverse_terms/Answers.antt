@@ -1,6 +1,8 @@
 use Rattle.number_forms.proofs.Shared.{◌≡◌, ◌≢◌, ℕ, ◌≤◌, [], ◌∷◌, sym, ap, ◌∙◌, Result, arith, value, tree_of, term_of, first_misfit, inverting_calculations, Surd, Overflow, Terms, misfit_of}
 use Rattle.number_forms.proofs.{Shared.{passed_result}, InverseSteps.{only_term, both_terms, apart_terms, one_inverse, two_inverse}, Placings.{rational_classes, rational_radicand}}
 use Rattle.number_forms.proofs.inverting.inverse_terms.Goals.{After-inverse, After-nth_term-second}
+use Rattle.number_forms.proofs.{Refusals.{none_given}, Shared.{passed_on, refl}}
+use Rattle.tree_handles.specs.Causes.{Overflows}
 use Rattle.number_forms.proofs.inverting.inverse_terms.Goals as goal
 
 two : (n : ℕ) → 1 ≤ n → n ≤ 2 → n ≢ 1 → n ≡ 2
@@ -49,3 +51,33 @@ pub returns-clause-ok : goal.returns-clause-ok
 returns-clause-ok c =
     two_inverse _ _ _ c.in_ok-inverse.inverse.0 c.in_ok-inverse.inverse.1 c.requires.number (both (goal.at.returns-clause-ok c).After-nth_term-second) c.in_ok-inverse.ensures.inverts
     c.in_ok-inverse.ensures.first c.in_ok-inverse.ensures.second
+
+pub nth_term-first-requires-clause-within : goal.nth_term-first-requires-clause-within
+nth_term-first-requires-clause-within c = omega (arith, c.requires.classes, c.requires.some)
+
+pub nth_term-second-requires-clause-within : goal.nth_term-second-requires-clause-within
+nth_term-second-requires-clause-within c = omega (arith, c.requires.classes, two c.args.terms c.requires.some c.requires.few c.if-terms-eq1.false)
+
+pub returns-in_err-one-clause-ok : goal.returns-in_err-one-clause-ok
+returns-in_err-one-clause-ok c = none_given c.from_residual.result _ c.from_residual.ensures.0
+
+pub returns-then-terms-eq1-clause-overflow : goal.returns-then-terms-eq1-clause-overflow
+returns-then-terms-eq1-clause-overflow c =
+    c.in_ok-one.ensures.overflow ∙ ap (λ v. first_misfit (inverting_calculations v)) (sym (only (goal.at.returns-then-terms-eq1-clause-overflow c).After-inverse))
+
+pub returns-then-terms-eq1-clause-rational : goal.returns-then-terms-eq1-clause-rational
+returns-then-terms-eq1-clause-rational c = λ q e. refl
+
+pub returns-in_err-inverse-clause-ok : goal.returns-in_err-inverse-clause-ok
+returns-in_err-inverse-clause-ok c = none_given c.from_residual-in_err-inverse.result _ c.from_residual-in_err-inverse.ensures.0
+
+pub returns-in_err-inverse-clause-caused : goal.returns-in_err-inverse-clause-caused
+returns-in_err-inverse-clause-caused c =
+    passed_on c.from_residual-in_err-inverse.result c.in_err-inverse.field-0.0 Overflows c.from_residual-in_err-inverse.ensures.0 c.from_residual-in_err-inverse.ensures.1 c.in_err-inverse.ensures.caused
+
+pub returns-clause-overflow : goal.returns-clause-overflow
+returns-clause-overflow c =
+    c.in_ok-inverse.ensures.overflow ∙ ap (λ v. first_misfit (inverting_calculations v)) (sym (both (goal.at.returns-clause-overflow c).After-nth_term-second))
+
+pub returns-clause-rational : goal.returns-clause-rational
+returns-clause-rational c = λ q e. refl

@@ -1,5 +1,8 @@
 use Rattle.number_forms.proofs.Shared.{◌≡◌, ℕ, Err, ◌∙◌, refl, ap, [], ◌∷◌, add, Gives, forest, free_of, given_handed, Full, building, passed_on, sum_of_terms, term_of, term_tree}
 use Rattle.number_forms.proofs.{Placings.{first_lacks, second_lacks, parent_lacks, given_is}, Pairs.{first_handed, pair_apart, pair_rest, pair_trees, pair_front}, Rooms.{refusal_as}}
+use Rattle.number_forms.proofs.{Refusals.{keeps_on, lacks_in, none_given, none_kept, refuses_on}, Shared.{front_after, kept_after}}
+use Rattle.tree_handles.proofs.Refused.{refuses_after}
+use Rattle.tree_handles.specs.Standing.{LacksBytes, Refuses}
 use Rattle.number_forms.proofs.{TermTrees.{if_given}, inverting.place_sum.Goals.{In_ok-first, In_ok-second}}
 use Rattle.surd_terms.specs.declared.term.Term.{Term}
 use Rattle.number_forms.proofs.inverting.place_sum.Goals as goal
@@ -30,16 +33,49 @@ returns-clause-front c = pair_front c.in_ok-first.ensures.ok c.in_ok-second.ensu
 abbrev Short : ℕ → Term → Term → Full → Type 0
 Short free a b full = building free (sum_of_terms (term_of a) (term_of b)) ≡ Err full
 
-pub returns-in_err-first-clause-first_lack : goal.returns-in_err-first-clause-first_lack
-returns-in_err-first-clause-first_lack c =
-    passed_on c.from_residual.result c.in_err-first.field-0.0 (Short (free_of c.args.pool.now) c.args.a c.args.b) c.from_residual.ensures.0 c.from_residual.ensures.1
-    (first_lacks _ (term_tree (term_of c.args.a)) (term_tree (term_of c.args.b)) (8 ∷ []) c.in_err-first.ensures.first_lack)
+pub returns-in_err-first : goal.returns-in_err-first
+returns-in_err-first c =
+    let r = c.from_residual.result in
+    let e = c.in_err-first.field-0.0 in
+    let told = c.from_residual.ensures in
+    let refused = c.in_err-first.ensures in
+    record {
+      ok = none_given r _ told.0;
+      front = c.place_term.ensures.front;
+      kept = none_kept r _ told.0;
+      full = passed_on r e (Refuses c.args.pool.now c.place_term.new.pool) told.0 told.1 refused.full;
+      caused = passed_on r e (LacksBytes c.place_term.new.pool) told.0 told.1 refused.caused;
+      first_lack = passed_on r e (Short (free_of c.args.pool.now) c.args.a c.args.b) told.0 told.1
+          (first_lacks _ (term_tree (term_of c.args.a)) (term_tree (term_of c.args.b)) (8 ∷ []) refused.first_lack);
+      stands = c.place_term.ensures.stands;
+    }
 
-pub returns-in_err-second-clause-first_lack : goal.returns-in_err-second-clause-first_lack
-returns-in_err-second-clause-first_lack c =
-    passed_on c.from_residual-in_err-second.result c.in_err-second.field-0.0 (Short (free_of c.args.pool.now) c.args.a c.args.b) c.from_residual-in_err-second.ensures.0 c.from_residual-in_err-second.ensures.1
-    (second_lacks c.requires.stands c.place_term.ensures.stands c.in_ok-first.ensures.kept (first (goal.at.returns-in_err-second-clause-first_lack c).In_ok-first)
-    (term_tree (term_of c.args.b)) (8 ∷ []) c.in_err-second.ensures.first_lack)
+pub returns-in_err-second : goal.returns-in_err-second
+returns-in_err-second c =
+    let r = c.from_residual-in_err-second.result in
+    let e = c.in_err-second.field-0.0 in
+    let told = c.from_residual-in_err-second.ensures in
+    let refused = c.in_err-second.ensures in
+    record {
+      ok = none_given r _ told.0;
+      front = front_after c.place_term.ensures.front c.place_term-2.ensures.front;
+      kept = none_kept r _ told.0;
+      full = passed_on r e (Refuses c.args.pool.now c.place_term-2.new.pool) told.0 told.1 (refuses_after c.in_ok-first.ensures.kept refused.full);
+      caused = passed_on r e (LacksBytes c.place_term-2.new.pool) told.0 told.1 refused.caused;
+      first_lack = passed_on r e (Short (free_of c.args.pool.now) c.args.a c.args.b) told.0 told.1
+          (second_lacks c.requires.stands c.place_term.ensures.stands c.in_ok-first.ensures.kept (first (goal.at.returns-in_err-second c).In_ok-first)
+          (term_tree (term_of c.args.b)) (8 ∷ []) refused.first_lack);
+      stands = c.place_term-2.ensures.stands;
+    }
+
+pub returns-clause-kept : goal.returns-clause-kept
+returns-clause-kept c = keeps_on _ c.node_over_two.result (kept_after c.in_ok-first.ensures.kept c.in_ok-second.ensures.kept) c.node_over_two.ensures.kept
+
+pub returns-clause-full : goal.returns-clause-full
+returns-clause-full c = refuses_on _ _ c.node_over_two.result (kept_after c.in_ok-first.ensures.kept c.in_ok-second.ensures.kept) c.node_over_two.ensures.full
+
+pub returns-clause-caused : goal.returns-clause-caused
+returns-clause-caused c = lacks_in _ _ _ c.node_over_two.result c.node_over_two.ensures.full
 
 pub returns-clause-first_lack : goal.returns-clause-first_lack
 returns-clause-first_lack c =

@@ -2,6 +2,9 @@ use Rattle.number_forms.proofs.Shared.{◌≡◌, ◌<◌, ◌+◌, ◌*◌, ◌
 use Rattle.number_forms.proofs.{ListedTerms.{count_trees, no_tree_of, one_tree_of, sum_tree_of}, Placings.{if_tree}, Planted.{adopts, can_adopt, node_free}, TermTrees.{if_gives}}
 use Rattle.surd_terms.proofs.Rationals.{whole_value as whole_is}
 use Rattle.number_forms.proofs.placing.place_terms.Goals.{In_ok-placed}
+use Rattle.number_forms.proofs.{Refusals.{lacks_in, none_given, none_kept, refuses_on}, Rooms.{refusal_as}, Shared.{front_after, kept_after, kept_same, num_most, refused_below, root_size, value_of}}
+use Rattle.tree_handles.proofs.Refused.{refuses_after}
+use Rattle.tree_handles.specs.Standing.{LacksBytes, Refuses}
 use Rattle.number_forms.proofs.placing.place_terms.Goals as goal
 
 pub returns-then-is_empty-clause-ok : goal.returns-then-is_empty-clause-ok
@@ -37,3 +40,50 @@ returns-clause-ok c =
 
 pub returns-clause-front : goal.returns-clause-front
 returns-clause-front c = front_end (adopts c.in_ok-sum.ensures.ok c.in_ok-placed.ensures.ok (many (goal.at.returns-clause-front c).In_ok-placed) refl c.adopt.ensures.forest).ends front_same
+
+-- ---- what is refused
+
+pub returns-in_err-sum-clause-ok : goal.returns-in_err-sum-clause-ok
+returns-in_err-sum-clause-ok c = none_given c.from_residual.result _ c.from_residual.ensures.0
+
+pub returns-in_err-sum-clause-kept : goal.returns-in_err-sum-clause-kept
+returns-in_err-sum-clause-kept c = none_kept c.from_residual.result _ c.from_residual.ensures.0
+
+pub returns-in_err-sum-clause-full : goal.returns-in_err-sum-clause-full
+returns-in_err-sum-clause-full c = passed_on c.from_residual.result c.in_err-sum.field-0.0 (Refuses c.args.pool.now c.node.new.pool) c.from_residual.ensures.0 c.from_residual.ensures.1 (c.in_err-sum.ensures.full.refuses)
+
+pub returns-in_err-sum-clause-caused : goal.returns-in_err-sum-clause-caused
+returns-in_err-sum-clause-caused c = passed_on c.from_residual.result c.in_err-sum.field-0.0 (LacksBytes c.node.new.pool) c.from_residual.ensures.0 c.from_residual.ensures.1 (c.in_err-sum.ensures.full.lacks)
+
+pub returns-in_err-sum-clause-room : goal.returns-in_err-sum-clause-room
+returns-in_err-sum-clause-room c = passed_on c.from_residual.result c.in_err-sum.field-0.0 (λ full. free_of c.args.pool.now < 40 + 96 * length c.args.terms.now) c.from_residual.ensures.0 c.from_residual.ensures.1 (let few : free_of c.args.pool.now < 8 = refused_below c.in_err-sum.ensures.full in omega (arith, few))
+
+pub returns-in_err-placed-clause-ok : goal.returns-in_err-placed-clause-ok
+returns-in_err-placed-clause-ok c = none_given c.from_residual-in_err-placed.result _ c.from_residual-in_err-placed.ensures.0
+
+pub returns-in_err-placed-clause-kept : goal.returns-in_err-placed-clause-kept
+returns-in_err-placed-clause-kept c = none_kept c.from_residual-in_err-placed.result _ c.from_residual-in_err-placed.ensures.0
+
+pub returns-in_err-placed-clause-full : goal.returns-in_err-placed-clause-full
+returns-in_err-placed-clause-full c = passed_on c.from_residual-in_err-placed.result c.in_err-placed.field-0.0 (Refuses c.args.pool.now c.place_all.new.pool) c.from_residual-in_err-placed.ensures.0 c.from_residual-in_err-placed.ensures.1 (refuses_after c.in_ok-sum.ensures.kept c.in_err-placed.ensures.full)
+
+pub returns-in_err-placed-clause-caused : goal.returns-in_err-placed-clause-caused
+returns-in_err-placed-clause-caused c = passed_on c.from_residual-in_err-placed.result c.in_err-placed.field-0.0 (LacksBytes c.place_all.new.pool) c.from_residual-in_err-placed.ensures.0 c.from_residual-in_err-placed.ensures.1 (c.in_err-placed.ensures.caused)
+
+pub returns-in_err-placed-clause-front : goal.returns-in_err-placed-clause-front
+returns-in_err-placed-clause-front c = front_after c.node.ensures.front c.place_all.ensures.front
+
+pub returns-then-is_empty-clause-full : goal.returns-then-is_empty-clause-full
+returns-then-is_empty-clause-full c = refuses_on _ _ c.number.result (kept_same c.args.pool.now) c.number.ensures.full
+
+pub returns-then-is_empty-clause-caused : goal.returns-then-is_empty-clause-caused
+returns-then-is_empty-clause-caused c = lacks_in _ _ _ c.number.result c.number.ensures.full
+
+pub returns-then-is_empty-clause-room : goal.returns-then-is_empty-clause-room
+returns-then-is_empty-clause-room c =
+    refusal_as c.number.result c.number.ensures.full (λ full r.
+    let few : free_of c.args.pool.now < root_size (num (value_of c.whole.result)) = refused_below r in
+    omega (arith, few, num_most (value_of c.whole.result)))
+
+pub returns-clause-kept : goal.returns-clause-kept
+returns-clause-kept c = kept_after c.in_ok-sum.ensures.kept (kept_after c.in_ok-placed.ensures.kept c.adopt.ensures.kept)
