@@ -2,6 +2,10 @@ use Rattle.number_forms.proofs.Shared.{◌≡◌, ℕ, ◌≤◌, ◌∷◌, Som
 use Rattle.number_forms.proofs.Shared.{other_plain, other_read, other_expression, gives_rest, tree_of, term_of, given_other, given_handed, given_told, plain_root, SumOverflows, OfOverflow, passed_on}
 use Rattle.number_forms.proofs.{Shared.{overflow_as, spans_append, free_of, LacksRoom, joining_need}, Loops.{joined_none, joined_more, joined_all, from_all}, Worth.{terms_from, from_next}}
 use Rattle.number_forms.proofs.Rooms.{full_as, spans_from, term_lacks}
+use Rattle.number_forms.proofs.Refusals.{faults_after, none_kept}
+use Rattle.number_forms.proofs.Shared.{behind_first, front_after_one}
+use Rattle.tree_handles.specs.Causes.{IsCaused}
+use Rattle.tree_handles.specs.Faults.{Faults}
 use Rattle.number_forms.proofs.adding.join_terms.Goals as goal
 
 pub returns-in_err-join_term-clause-room : goal.returns-in_err-join_term-clause-room
@@ -66,3 +70,21 @@ returns-clause-lists g c = c.loop-at.invariant.lists
 
 pub of-terms-requires : goal.of-terms-requires
 of-terms-requires g c = (search rules, (c.requires.stands, other_expression c.args.number c.args.pool.now c.requires.stands c.requires.sum c.requires.handed))
+
+pub returns-in_err-join_term-clause-ok : goal.returns-in_err-join_term-clause-ok
+returns-in_err-join_term-clause-ok g c = none_kept c.from_residual.result _ c.from_residual.ensures.0
+
+pub returns-in_err-join_term-clause-kept : goal.returns-in_err-join_term-clause-kept
+returns-in_err-join_term-clause-kept g c = none_kept c.from_residual.result _ c.from_residual.ensures.0
+
+pub returns-in_err-join_term-clause-faults : goal.returns-in_err-join_term-clause-faults
+returns-in_err-join_term-clause-faults g c = passed_on c.from_residual.result c.in_err-join_term.field-0.0 (Faults c.args.pool.now c.join_term.new.pool) c.from_residual.ensures.0 c.from_residual.ensures.1 (faults_after _ c.in_err-join_term.field-0.0 c.loop-at.invariant.joined.kept c.in_err-join_term.ensures.faults)
+
+pub returns-in_err-join_term-clause-caused : goal.returns-in_err-join_term-clause-caused
+returns-in_err-join_term-clause-caused g c = passed_on c.from_residual.result c.in_err-join_term.field-0.0 (IsCaused c.join_term.new.pool) c.from_residual.ensures.0 c.from_residual.ensures.1 (c.in_err-join_term.ensures.caused)
+
+pub returns-in_err-join_term-clause-lists : goal.returns-in_err-join_term-clause-lists
+returns-in_err-join_term-clause-lists g c = none_kept c.from_residual.result _ c.from_residual.ensures.0
+
+pub returns-in_err-join_term-clause-front : goal.returns-in_err-join_term-clause-front
+returns-in_err-join_term-clause-front g c = front_after_one behind_first c.loop-at.invariant.joined.front c.join_term.ensures.front

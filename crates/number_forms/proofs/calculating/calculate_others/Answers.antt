@@ -4,6 +4,12 @@ use Rattle.number_forms.proofs.{Shared.{tree_of, value, without-swap, without_ro
 use Rattle.number_forms.proofs.calculating.calculate_others.Goals.{After-release, After-release-then-has_room}
 use Rattle.surd_terms.specs.declared.term.Term.{Term}
 use Rattle.tree_handles.specs.declared.fault.NumberFault.TheVariants as fault
+use Rattle.number_forms.proofs.Refusals.{none_given, none_kept}
+use Rattle.number_forms.proofs.Shared.{Gives, IfOk, OfOverflow}
+use Rattle.number_forms.specs.Joints.{JointOverflows}
+use Rattle.tree_handles.proofs.Refused.{refuses_after}
+use Rattle.tree_handles.specs.Causes.{IsCaused}
+use Rattle.tree_handles.specs.Faults.{Faults}
 use Rattle.number_forms.proofs.calculating.calculate_others.Goals as goal
 
 -- ---- both are gone
@@ -54,3 +60,30 @@ returns-in-Sum-clause-room c = λ gs s t.
 pub returns-in-Product-clause-room : goal.returns-in-Product-clause-room
 returns-in-Product-clause-room c = λ gs s t.
     subst (λ (j : Joint). IfErr c.multiply_others.result (LacksJointRoom j c.args.a c.args.b c.args.pool.now gs)) (sym c.in-Product.is) (c.multiply_others.ensures.room gs s t)
+
+pub returns-in_err-place_terms-clause-ok : goal.returns-in_err-place_terms-clause-ok
+returns-in_err-place_terms-clause-ok c = none_given c.from_residual.result _ c.from_residual.ensures.0
+
+pub returns-in_err-place_terms-clause-kept : goal.returns-in_err-place_terms-clause-kept
+returns-in_err-place_terms-clause-kept c = none_kept c.from_residual.result _ c.from_residual.ensures.0
+
+pub returns-in_err-place_terms-clause-faults : goal.returns-in_err-place_terms-clause-faults
+returns-in_err-place_terms-clause-faults c = passed_on c.from_residual.result (fault.Full c.in_err-place_terms.field-0.0) (Faults c.args.pool.now c.place_terms.new.pool) c.from_residual.ensures.0 c.from_residual.ensures.1 (refuses_after (kept_after c.release.ensures.kept c.release-then-has_room.ensures.kept) c.in_err-place_terms.ensures.full)
+
+pub returns-in_err-place_terms-clause-caused : goal.returns-in_err-place_terms-clause-caused
+returns-in_err-place_terms-clause-caused c = passed_on c.from_residual.result (fault.Full c.in_err-place_terms.field-0.0) (IsCaused c.place_terms.new.pool) c.from_residual.ensures.0 c.from_residual.ensures.1 (c.in_err-place_terms.ensures.caused)
+
+pub returns-then-has_room-clause-kept : goal.returns-then-has_room-clause-kept
+returns-then-has_room-clause-kept c = kept_after c.release.ensures.kept (kept_after c.release-then-has_room.ensures.kept c.in_ok-place_terms.ensures.kept)
+
+pub returns-in-Sum-clause-ok : goal.returns-in-Sum-clause-ok
+returns-in-Sum-clause-ok c = subst (λ (j : Joint). IfOk c.add_others.result (λ h. Gives (without_root c.args.b (without_root c.args.a (forest c.args.pool.now))) (forest c.add_others.new.pool) h (IsNumberOver (both j (value (tree_of c.args.a c.args.pool.now)) (value (tree_of c.args.b c.args.pool.now)))))) (sym c.in-Sum.is) c.add_others.ensures.ok
+
+pub returns-in-Sum-clause-overflow : goal.returns-in-Sum-clause-overflow
+returns-in-Sum-clause-overflow c = subst (λ (j : Joint). IfErr c.add_others.result (OfOverflow (JointOverflows j (value (tree_of c.args.a c.args.pool.now)) (value (tree_of c.args.b c.args.pool.now))))) (sym c.in-Sum.is) c.add_others.ensures.overflow
+
+pub returns-in-Product-clause-ok : goal.returns-in-Product-clause-ok
+returns-in-Product-clause-ok c = subst (λ (j : Joint). IfOk c.multiply_others.result (λ h. Gives (without_root c.args.b (without_root c.args.a (forest c.args.pool.now))) (forest c.multiply_others.new.pool) h (IsNumberOver (both j (value (tree_of c.args.a c.args.pool.now)) (value (tree_of c.args.b c.args.pool.now)))))) (sym c.in-Product.is) c.multiply_others.ensures.ok
+
+pub returns-in-Product-clause-overflow : goal.returns-in-Product-clause-overflow
+returns-in-Product-clause-overflow c = subst (λ (j : Joint). IfErr c.multiply_others.result (OfOverflow (JointOverflows j (value (tree_of c.args.a c.args.pool.now)) (value (tree_of c.args.b c.args.pool.now))))) (sym c.in-Product.is) c.multiply_others.ensures.overflow

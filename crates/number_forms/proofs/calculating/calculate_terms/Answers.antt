@@ -1,4 +1,6 @@
 use Rattle.number_forms.proofs.{Shared.{refl, subst, sym, ◌∙◌, IfErr, tree_of, gives_as, without-swap, LacksJointRoom, Joint}, Kept.{with_neutral, neutral_with}}
+use Rattle.number_forms.proofs.Shared.{Gives, IfOk, IsNumberOver, OfOverflow, both, forest, value, without_root}
+use Rattle.number_forms.specs.Joints.{JointOverflows}
 use Rattle.number_forms.proofs.calculating.calculate_terms.Goals as goal
 
 pub returns-then-is_neutral-clause-ok : goal.returns-then-is_neutral-clause-ok
@@ -16,3 +18,21 @@ returns-then-is_neutral-2-clause-ok c =
 pub returns-in-Sum-clause-room : goal.returns-in-Sum-clause-room
 returns-in-Sum-clause-room c = λ gs s t.
     subst (λ (j : Joint). IfErr c.add_terms.result (LacksJointRoom j c.args.a c.args.b c.args.pool.now gs)) (sym c.in-Sum.is) (c.add_terms.ensures.room gs s t)
+
+pub returns-in-Sum-clause-ok : goal.returns-in-Sum-clause-ok
+returns-in-Sum-clause-ok c = subst (λ (j : Joint). IfOk c.add_terms.result (λ h. Gives (without_root c.args.b (without_root c.args.a (forest c.args.pool.now))) (forest c.add_terms.new.pool) h (IsNumberOver (both j (value (tree_of c.args.a c.args.pool.now)) (value (tree_of c.args.b c.args.pool.now)))))) (sym c.in-Sum.is) c.add_terms.ensures.ok
+
+pub returns-in-Sum-clause-overflow : goal.returns-in-Sum-clause-overflow
+returns-in-Sum-clause-overflow c = subst (λ (j : Joint). IfErr c.add_terms.result (OfOverflow (JointOverflows j (value (tree_of c.args.a c.args.pool.now)) (value (tree_of c.args.b c.args.pool.now))))) (sym c.in-Sum.is) c.add_terms.ensures.overflow
+
+pub returns-in-Sum-clause-first_neutral : goal.returns-in-Sum-clause-first_neutral
+returns-in-Sum-clause-first_neutral c = λ h. absurd (cc (c.is_neutral.ensures, c.if-is_neutral.false, h))
+
+pub returns-in-Sum-clause-second_neutral : goal.returns-in-Sum-clause-second_neutral
+returns-in-Sum-clause-second_neutral c = λ k h. absurd (cc (c.is_neutral-else-is_neutral.ensures, c.if-is_neutral-2.false, h))
+
+pub returns-in-Product-clause-first_neutral : goal.returns-in-Product-clause-first_neutral
+returns-in-Product-clause-first_neutral c = λ h. absurd (cc (c.is_neutral.ensures, c.if-is_neutral.false, h))
+
+pub returns-in-Product-clause-second_neutral : goal.returns-in-Product-clause-second_neutral
+returns-in-Product-clause-second_neutral c = λ k h. absurd (cc (c.is_neutral-else-is_neutral.ensures, c.if-is_neutral-2.false, h))

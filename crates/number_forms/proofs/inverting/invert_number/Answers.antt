@@ -5,6 +5,11 @@ use Rattle.number_forms.proofs.{Placings.{number_alone, refused}, InverseSteps.{
 use Rattle.tree_handles.proofs.SmallLaws.{grown_free as free_before}
 use Rattle.number_forms.proofs.{Rooms.{inverse_lacks, inverse_spans}, inverting.invert_number.Goals.{After-release-2, In_err-placed, In_ok-placed}}
 use Rattle.tree_handles.specs.declared.fault.NumberFault.TheVariants as fault
+use Rattle.number_forms.proofs.Refusals.{none_given, none_kept}
+use Rattle.number_forms.proofs.Shared.{kept_after, kept_same}
+use Rattle.tree_handles.proofs.Refused.{refuses_after}
+use Rattle.tree_handles.specs.Causes.{IsCaused}
+use Rattle.tree_handles.specs.Faults.{Faults}
 use Rattle.number_forms.proofs.inverting.invert_number.Goals as goal
 
 -- ---- none, and one that is too wide
@@ -128,3 +133,51 @@ returns-clause-measured c = inverse_no_larger (tree_of c.args.a c.args.pool.now)
 pub returns-clause-spanned : goal.returns-clause-spanned
 returns-clause-spanned c = λ gs s.
     inverse_spans gs _ _ c.requires.number (omega (arith, c.term_count-terms.ensures, c.if-terms-gt2.false)) (given_told (placed (goal.at.returns-clause-spanned c).In_ok-placed)) s
+
+pub returns-in_err-inverse-clause-ok : goal.returns-in_err-inverse-clause-ok
+returns-in_err-inverse-clause-ok c = none_given c.from_residual.result _ c.from_residual.ensures.0
+
+pub returns-in_err-inverse-clause-kept : goal.returns-in_err-inverse-clause-kept
+returns-in_err-inverse-clause-kept c = none_kept c.from_residual.result _ c.from_residual.ensures.0
+
+pub returns-in_err-inverse-clause-faults : goal.returns-in_err-inverse-clause-faults
+returns-in_err-inverse-clause-faults c = passed_on c.from_residual.result (fault.Overflow c.in_err-inverse.field-0.0) (Faults c.args.pool.now c.args.pool.now) c.from_residual.ensures.0 c.from_residual.ensures.1 (kept_same c.args.pool.now)
+
+pub returns-in_err-inverse-clause-caused : goal.returns-in_err-inverse-clause-caused
+returns-in_err-inverse-clause-caused c = passed_on c.from_residual.result (fault.Overflow c.in_err-inverse.field-0.0) (IsCaused c.args.pool.now) c.from_residual.ensures.0 c.from_residual.ensures.1 (c.in_err-inverse.ensures.caused)
+
+pub returns-in_err-inverse-clause-measured : goal.returns-in_err-inverse-clause-measured
+returns-in_err-inverse-clause-measured c = none_given c.from_residual.result _ c.from_residual.ensures.0
+
+pub returns-in_err-inverse-clause-spanned : goal.returns-in_err-inverse-clause-spanned
+returns-in_err-inverse-clause-spanned c = λ gs s. none_given c.from_residual.result _ c.from_residual.ensures.0
+
+pub returns-in_err-inverse-clause-front : goal.returns-in_err-inverse-clause-front
+returns-in_err-inverse-clause-front c = front_same
+
+pub returns-in_err-placed-clause-ok : goal.returns-in_err-placed-clause-ok
+returns-in_err-placed-clause-ok c = none_given c.from_residual-in_err-placed.result _ c.from_residual-in_err-placed.ensures.0
+
+pub returns-in_err-placed-clause-kept : goal.returns-in_err-placed-clause-kept
+returns-in_err-placed-clause-kept c = none_kept c.from_residual-in_err-placed.result _ c.from_residual-in_err-placed.ensures.0
+
+pub returns-in_err-placed-clause-faults : goal.returns-in_err-placed-clause-faults
+returns-in_err-placed-clause-faults c = passed_on c.from_residual-in_err-placed.result (fault.Full c.in_err-placed.field-0.0) (Faults c.args.pool.now c.place_inverse.new.pool) c.from_residual-in_err-placed.ensures.0 c.from_residual-in_err-placed.ensures.1 (refuses_after c.release-2.ensures.kept c.in_err-placed.ensures.full)
+
+pub returns-in_err-placed-clause-caused : goal.returns-in_err-placed-clause-caused
+returns-in_err-placed-clause-caused c = passed_on c.from_residual-in_err-placed.result (fault.Full c.in_err-placed.field-0.0) (IsCaused c.place_inverse.new.pool) c.from_residual-in_err-placed.ensures.0 c.from_residual-in_err-placed.ensures.1 (c.in_err-placed.ensures.caused)
+
+pub returns-in_err-placed-clause-measured : goal.returns-in_err-placed-clause-measured
+returns-in_err-placed-clause-measured c = none_given c.from_residual-in_err-placed.result _ c.from_residual-in_err-placed.ensures.0
+
+pub returns-in_err-placed-clause-spanned : goal.returns-in_err-placed-clause-spanned
+returns-in_err-placed-clause-spanned c = λ gs s. none_given c.from_residual-in_err-placed.result _ c.from_residual-in_err-placed.ensures.0
+
+pub returns-in_err-placed-clause-overflow : goal.returns-in_err-placed-clause-overflow
+returns-in_err-placed-clause-overflow c = passed_on c.from_residual-in_err-placed.result (fault.Full c.in_err-placed.field-0.0) (OfOverflow (InverseOverflows (value (tree_of c.args.a c.args.pool.now)))) c.from_residual-in_err-placed.ensures.0 c.from_residual-in_err-placed.ensures.1 (tt)
+
+pub returns-in_err-placed-clause-bits : goal.returns-in_err-placed-clause-bits
+returns-in_err-placed-clause-bits c = λ few. passed_on c.from_residual-in_err-placed.result (fault.Full c.in_err-placed.field-0.0) (OfOverflow (λ o. ⊥)) c.from_residual-in_err-placed.ensures.0 c.from_residual-in_err-placed.ensures.1 tt
+
+pub returns-clause-kept : goal.returns-clause-kept
+returns-clause-kept c = kept_after c.release-2.ensures.kept c.in_ok-placed.ensures.kept

@@ -1,6 +1,10 @@
 use Rattle.number_forms.proofs.Shared.{sym, subst, refl, rules, ◌<◌, Tree, add, IsApart, removed, lists_at, children_of, tree_of, term_of, given_handed, given_told, gives_as, JoinOverflows}
 use Rattle.number_forms.proofs.{Shared.{OfOverflow, passed_on, free_of, Full, OfFull, expression, seen}, LastSums.{sum_add}, SumChanges.{read_sum, sum_value, cancelled, made_one, matched, apart_rest}}
 use Rattle.tree_handles.specs.declared.fault.NumberFault.TheVariants as fault
+use Rattle.number_forms.proofs.Refusals.{none_kept}
+use Rattle.number_forms.proofs.Shared.{front_same, kept_same}
+use Rattle.tree_handles.specs.Causes.{IsCaused}
+use Rattle.tree_handles.specs.Faults.{Faults}
 use Rattle.number_forms.proofs.joining.join_term.Goals as goal
 
 pub returns-in_err-at-clause-room : goal.returns-in_err-at-clause-room
@@ -44,3 +48,21 @@ returns-in_err-at-clause-overflow g c =
     let same = seen c.id.ensures c.requires.stands (given_handed c.requires.sum) in
     passed_on c.from_residual.result (fault.Overflow c.in_err-at.field-0.0) (OfOverflow (JoinOverflows (tree_of c.args.sum.now c.args.pool.now) (term_of c.args.term))) c.from_residual.ensures.0 c.from_residual.ensures.1
     (subst (λ (t : Tree). JoinOverflows t (term_of c.args.term) c.in_err-at.field-0.0) same c.in_err-at.ensures.overflow)
+
+pub returns-in_err-at-clause-ok : goal.returns-in_err-at-clause-ok
+returns-in_err-at-clause-ok g c = none_kept c.from_residual.result _ c.from_residual.ensures.0
+
+pub returns-in_err-at-clause-kept : goal.returns-in_err-at-clause-kept
+returns-in_err-at-clause-kept g c = none_kept c.from_residual.result _ c.from_residual.ensures.0
+
+pub returns-in_err-at-clause-faults : goal.returns-in_err-at-clause-faults
+returns-in_err-at-clause-faults g c = passed_on c.from_residual.result (fault.Overflow c.in_err-at.field-0.0) (Faults c.args.pool.now c.args.pool.now) c.from_residual.ensures.0 c.from_residual.ensures.1 (kept_same c.args.pool.now)
+
+pub returns-in_err-at-clause-caused : goal.returns-in_err-at-clause-caused
+returns-in_err-at-clause-caused g c = passed_on c.from_residual.result (fault.Overflow c.in_err-at.field-0.0) (IsCaused c.args.pool.now) c.from_residual.ensures.0 c.from_residual.ensures.1 (c.in_err-at.ensures.caused)
+
+pub returns-in_err-at-clause-lists : goal.returns-in_err-at-clause-lists
+returns-in_err-at-clause-lists g c = none_kept c.from_residual.result _ c.from_residual.ensures.0
+
+pub returns-in_err-at-clause-front : goal.returns-in_err-at-clause-front
+returns-in_err-at-clause-front g c = front_same

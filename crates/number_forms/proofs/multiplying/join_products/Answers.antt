@@ -5,6 +5,9 @@ use Rattle.number_forms.proofs.{Denominators.{parts_extracted}, Loops.{joined_no
 use Rattle.number_forms.proofs.{SumChanges.{read_sum}, Rows.{product_join_overflows}, Rooms.{full_as, spans_from, term_lacks}, multiplying.join_products.Goals.{After-listed_term-other}}
 use Rattle.number_forms.proofs.multiplying.join_products.Given.{Over}
 use Rattle.tree_handles.specs.declared.fault.NumberFault.TheVariants as fault
+use Rattle.number_forms.proofs.Refusals.{faults_after, none_kept}
+use Rattle.tree_handles.specs.Causes.{IsCaused}
+use Rattle.tree_handles.specs.Faults.{Faults}
 use Rattle.number_forms.proofs.multiplying.join_products.Goals as goal
 
 pub returns-in_err-product-clause-room : goal.returns-in_err-product-clause-room
@@ -97,3 +100,33 @@ returns-clause-lists g c = c.loop-at.invariant.lists
 
 pub returns-in_err-join_term-clause-front : goal.returns-in_err-join_term-clause-front
 returns-in_err-join_term-clause-front g c = front_after_one behind_first c.loop-at.invariant.joined.front c.join_term.ensures.front
+
+pub returns-in_err-join_term-clause-ok : goal.returns-in_err-join_term-clause-ok
+returns-in_err-join_term-clause-ok g c = none_kept c.from_residual-in_err-join_term.result _ c.from_residual-in_err-join_term.ensures.0
+
+pub returns-in_err-join_term-clause-kept : goal.returns-in_err-join_term-clause-kept
+returns-in_err-join_term-clause-kept g c = none_kept c.from_residual-in_err-join_term.result _ c.from_residual-in_err-join_term.ensures.0
+
+pub returns-in_err-join_term-clause-faults : goal.returns-in_err-join_term-clause-faults
+returns-in_err-join_term-clause-faults g c = passed_on c.from_residual-in_err-join_term.result c.in_err-join_term.field-0.0 (Faults c.args.pool.now c.join_term.new.pool) c.from_residual-in_err-join_term.ensures.0 c.from_residual-in_err-join_term.ensures.1 (faults_after _ c.in_err-join_term.field-0.0 c.loop-at.invariant.joined.kept c.in_err-join_term.ensures.faults)
+
+pub returns-in_err-join_term-clause-caused : goal.returns-in_err-join_term-clause-caused
+returns-in_err-join_term-clause-caused g c = passed_on c.from_residual-in_err-join_term.result c.in_err-join_term.field-0.0 (IsCaused c.join_term.new.pool) c.from_residual-in_err-join_term.ensures.0 c.from_residual-in_err-join_term.ensures.1 (c.in_err-join_term.ensures.caused)
+
+pub returns-in_err-join_term-clause-lists : goal.returns-in_err-join_term-clause-lists
+returns-in_err-join_term-clause-lists g c = none_kept c.from_residual-in_err-join_term.result _ c.from_residual-in_err-join_term.ensures.0
+
+pub returns-in_err-product-clause-ok : goal.returns-in_err-product-clause-ok
+returns-in_err-product-clause-ok g c = none_kept c.from_residual.result _ c.from_residual.ensures.0
+
+pub returns-in_err-product-clause-kept : goal.returns-in_err-product-clause-kept
+returns-in_err-product-clause-kept g c = none_kept c.from_residual.result _ c.from_residual.ensures.0
+
+pub returns-in_err-product-clause-faults : goal.returns-in_err-product-clause-faults
+returns-in_err-product-clause-faults g c = passed_on c.from_residual.result (fault.Overflow c.in_err-product.field-0.0) (Faults c.args.pool.now c.loop-at.pool) c.from_residual.ensures.0 c.from_residual.ensures.1 (c.loop-at.invariant.joined.kept)
+
+pub returns-in_err-product-clause-lists : goal.returns-in_err-product-clause-lists
+returns-in_err-product-clause-lists g c = none_kept c.from_residual.result _ c.from_residual.ensures.0
+
+pub returns-in_err-product-clause-front : goal.returns-in_err-product-clause-front
+returns-in_err-product-clause-front g c = c.loop-at.invariant.joined.front

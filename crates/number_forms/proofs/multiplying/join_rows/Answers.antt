@@ -3,6 +3,10 @@ use Rattle.number_forms.proofs.Shared.{size, SharesDenominators, IsSumOf, lists_
 use Rattle.number_forms.proofs.Shared.{given_rest, handed_at, given_handed, given_told, plain_root, Same, RowOverflows, ProductOverflows, OfOverflow, passed_on, overflow_as, spans_append, spans_times}
 use Rattle.number_forms.proofs.{Shared.{Spans, free_of, LacksRoom, joining_need}, Loops.{IsJoined, joined_none, joined_part, joined_all, from_all}, Worth.{terms_from, rows_next}}
 use Rattle.number_forms.proofs.Rooms.{full_as, spans_from, spans_nth, partial_spanned, row_lacks}
+use Rattle.number_forms.proofs.Refusals.{faults_after, none_kept}
+use Rattle.number_forms.proofs.Shared.{behind_first, front_after_one}
+use Rattle.tree_handles.specs.Causes.{IsCaused}
+use Rattle.tree_handles.specs.Faults.{Faults}
 use Rattle.number_forms.proofs.multiplying.join_rows.Goals as goal
 
 pub returns-in_err-join_products-clause-room : goal.returns-in_err-join_products-clause-room
@@ -93,3 +97,21 @@ returns-in_err-join_products-clause-overflow g c = λ empty.
 
 pub returns-clause-lists : goal.returns-clause-lists
 returns-clause-lists g c = c.loop-at.invariant.lists
+
+pub returns-in_err-join_products-clause-ok : goal.returns-in_err-join_products-clause-ok
+returns-in_err-join_products-clause-ok g c = none_kept c.from_residual.result _ c.from_residual.ensures.0
+
+pub returns-in_err-join_products-clause-kept : goal.returns-in_err-join_products-clause-kept
+returns-in_err-join_products-clause-kept g c = none_kept c.from_residual.result _ c.from_residual.ensures.0
+
+pub returns-in_err-join_products-clause-faults : goal.returns-in_err-join_products-clause-faults
+returns-in_err-join_products-clause-faults g c = passed_on c.from_residual.result c.in_err-join_products.field-0.0 (Faults c.args.pool.now c.join_products.new.pool) c.from_residual.ensures.0 c.from_residual.ensures.1 (faults_after _ c.in_err-join_products.field-0.0 c.loop-at.invariant.joined.kept c.in_err-join_products.ensures.faults)
+
+pub returns-in_err-join_products-clause-caused : goal.returns-in_err-join_products-clause-caused
+returns-in_err-join_products-clause-caused g c = passed_on c.from_residual.result c.in_err-join_products.field-0.0 (IsCaused c.join_products.new.pool) c.from_residual.ensures.0 c.from_residual.ensures.1 (c.in_err-join_products.ensures.caused)
+
+pub returns-in_err-join_products-clause-lists : goal.returns-in_err-join_products-clause-lists
+returns-in_err-join_products-clause-lists g c = none_kept c.from_residual.result _ c.from_residual.ensures.0
+
+pub returns-in_err-join_products-clause-front : goal.returns-in_err-join_products-clause-front
+returns-in_err-join_products-clause-front g c = front_after_one behind_first c.loop-at.invariant.joined.front c.join_products.ensures.front

@@ -3,6 +3,9 @@ use Rattle.number_forms.proofs.Shared.{plain, Forest, root_tree, behind_new, fro
 use Rattle.number_forms.proofs.Shared.{PowerOverflows, OfOverflow, passed_on, SpansTree, free_of, LacksRoom, raising_need, given_free}
 use Rattle.number_forms.proofs.{Over.{squared_power, of_power}, TermTrees.{if_given}, Overflows.{power_overflows_more, square_overflows}, PowerSteps.{half_twice, half_below}}
 use Rattle.number_forms.proofs.{Rooms.{full_as, refusal_as, power_spans, step_lacks}, powers.+power_of.Goals.{In_ok-square}}
+use Rattle.number_forms.proofs.Refusals.{faults_after, keeps_on, none_given, none_kept}
+use Rattle.tree_handles.specs.Causes.{IsCaused}
+use Rattle.tree_handles.specs.Faults.{Faults}
 use Rattle.number_forms.proofs.powers.+power_of.Goals as goal
 
 pub returns-in_err-half-clause-room : goal.returns-in_err-half-clause-room
@@ -76,3 +79,33 @@ pub returns-in_err-square-clause-overflow : goal.returns-in_err-square-clause-ov
 returns-in_err-square-clause-overflow _ c =
     passed_on c.from_residual-in_err-square.result c.in_err-square.field-0.0 (OfOverflow (PowerOverflows (value (tree_of c.args.a.now c.args.pool.now)) c.args.n)) c.from_residual-in_err-square.ensures.0 c.from_residual-in_err-square.ensures.1
     (overflow_as c.in_err-square.field-0.0 c.in_err-square.ensures.overflow (λ o p. square_overflows _ (tree_of c.in_ok-half.half c.power_of.new.pool) c.args.n o (half_twice c.args.n c.requires.twice) (given_told c.in_ok-half.ensures.ok) p))
+
+pub returns-in_err-half-clause-ok : goal.returns-in_err-half-clause-ok
+returns-in_err-half-clause-ok _ c = none_given c.from_residual.result _ c.from_residual.ensures.0
+
+pub returns-in_err-half-clause-kept : goal.returns-in_err-half-clause-kept
+returns-in_err-half-clause-kept _ c = none_kept c.from_residual.result _ c.from_residual.ensures.0
+
+pub returns-in_err-half-clause-faults : goal.returns-in_err-half-clause-faults
+returns-in_err-half-clause-faults _ c = passed_on c.from_residual.result c.in_err-half.field-0.0 (Faults c.args.pool.now c.power_of.new.pool) c.from_residual.ensures.0 c.from_residual.ensures.1 (c.in_err-half.ensures.faults)
+
+pub returns-in_err-half-clause-caused : goal.returns-in_err-half-clause-caused
+returns-in_err-half-clause-caused _ c = passed_on c.from_residual.result c.in_err-half.field-0.0 (IsCaused c.power_of.new.pool) c.from_residual.ensures.0 c.from_residual.ensures.1 (c.in_err-half.ensures.caused)
+
+pub returns-in_err-square-clause-ok : goal.returns-in_err-square-clause-ok
+returns-in_err-square-clause-ok _ c = none_given c.from_residual-in_err-square.result _ c.from_residual-in_err-square.ensures.0
+
+pub returns-in_err-square-clause-kept : goal.returns-in_err-square-clause-kept
+returns-in_err-square-clause-kept _ c = none_kept c.from_residual-in_err-square.result _ c.from_residual-in_err-square.ensures.0
+
+pub returns-in_err-square-clause-faults : goal.returns-in_err-square-clause-faults
+returns-in_err-square-clause-faults _ c = passed_on c.from_residual-in_err-square.result c.in_err-square.field-0.0 (Faults c.args.pool.now c.squared.new.pool) c.from_residual-in_err-square.ensures.0 c.from_residual-in_err-square.ensures.1 (faults_after _ c.in_err-square.field-0.0 c.in_ok-half.ensures.kept c.in_err-square.ensures.faults)
+
+pub returns-in_err-square-clause-caused : goal.returns-in_err-square-clause-caused
+returns-in_err-square-clause-caused _ c = passed_on c.from_residual-in_err-square.result c.in_err-square.field-0.0 (IsCaused c.squared.new.pool) c.from_residual-in_err-square.ensures.0 c.from_residual-in_err-square.ensures.1 (c.in_err-square.ensures.caused)
+
+pub returns-clause-kept : goal.returns-clause-kept
+returns-clause-kept _ c = keeps_on _ c.completed.result (kept_after c.in_ok-half.ensures.kept c.in_ok-square.ensures.kept) c.completed.ensures.kept
+
+pub returns-clause-faults : goal.returns-clause-faults
+returns-clause-faults _ c = refusal_as c.completed.result c.completed.ensures.faults (λ e f. faults_after _ e (kept_after c.in_ok-half.ensures.kept c.in_ok-square.ensures.kept) f)

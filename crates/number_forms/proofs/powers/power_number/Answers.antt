@@ -3,6 +3,10 @@ use Rattle.number_forms.proofs.Shared.{Same-refl, gives_without, tree_of, behind
 use Rattle.number_forms.proofs.Shared.{power_need, SpansTree, free_of, LacksRoom, passed_on, overflow_as, last_tree, plain, Forest, IsNoLargerThanPower, OfOverflow, IsNumberOf, IsPowerOver}
 use Rattle.number_forms.proofs.{Rooms.{answer_spans, full_as, power_lacks, power_spans}, Over.{of_power, power_itself}, RationalBits.{at_least_one, power_no_larger, if_power_no_larger}}
 use Rattle.number_forms.proofs.{RationalBits.{power_not_refused}, PowersWithin.{power_within}, TermTrees.{if_given}}
+use Rattle.number_forms.proofs.Refusals.{none_given, none_kept}
+use Rattle.number_forms.proofs.Shared.{PowerOverflows, is_num, kept_after}
+use Rattle.tree_handles.specs.Causes.{IsCaused}
+use Rattle.tree_handles.specs.Faults.{Faults}
 use Rattle.number_forms.proofs.powers.power_number.Goals as goal
 
 pub returns-then-is_rational-clause-room : goal.returns-then-is_rational-clause-room
@@ -89,3 +93,46 @@ returns-in_err-power-clause-bits c = λ h l k few.
     let many : c.unsigned_abs.result ≡ nat_abs c.args.n = c.unsigned_abs.ensures.value ∙ ap nat_abs (to_z-of_z w128 c.args.n fits) in
     passed_on c.from_residual.result c.in_err-power.field-0.0 (OfOverflow (λ o. ⊥)) c.from_residual.ensures.0 c.from_residual.ensures.1
     (overflow_as c.in_err-power.field-0.0 c.in_err-power.ensures.overflow (λ o p. absurd (power_within (value (tree_of c.args.a c.args.pool.now)) c.unsigned_abs.result h l o k (subst (λ (n : ℕ). n * (2 * h + 4 * l) ≤ 124) (sym many) few) p)))
+
+pub returns-in_err-power-clause-ok : goal.returns-in_err-power-clause-ok
+returns-in_err-power-clause-ok c = none_given c.from_residual.result _ c.from_residual.ensures.0
+
+pub returns-in_err-power-clause-kept : goal.returns-in_err-power-clause-kept
+returns-in_err-power-clause-kept c = none_kept c.from_residual.result _ c.from_residual.ensures.0
+
+pub returns-in_err-power-clause-faults : goal.returns-in_err-power-clause-faults
+returns-in_err-power-clause-faults c = passed_on c.from_residual.result c.in_err-power.field-0.0 (Faults c.args.pool.now c.power_of.new.pool) c.from_residual.ensures.0 c.from_residual.ensures.1 (c.in_err-power.ensures.faults)
+
+pub returns-in_err-power-clause-caused : goal.returns-in_err-power-clause-caused
+returns-in_err-power-clause-caused c = passed_on c.from_residual.result c.in_err-power.field-0.0 (IsCaused c.power_of.new.pool) c.from_residual.ensures.0 c.from_residual.ensures.1 (c.in_err-power.ensures.caused)
+
+pub returns-in_err-power-clause-measured : goal.returns-in_err-power-clause-measured
+returns-in_err-power-clause-measured c = none_given c.from_residual.result _ c.from_residual.ensures.0
+
+pub returns-in_err-power-clause-spanned : goal.returns-in_err-power-clause-spanned
+returns-in_err-power-clause-spanned c = λ gs s. none_given c.from_residual.result _ c.from_residual.ensures.0
+
+pub returns-in_err-power-clause-rational : goal.returns-in_err-power-clause-rational
+returns-in_err-power-clause-rational c = λ q e. absurd (cc (c.is_rational.ensures ∙ ap is_num e, c.if-is_rational.false))
+
+pub returns-in_err-power-clause-front : goal.returns-in_err-power-clause-front
+returns-in_err-power-clause-front c = front_after front_same c.power_of.ensures.front
+
+pub returns-in_err-power-clause-overflow : goal.returns-in_err-power-clause-overflow
+returns-in_err-power-clause-overflow c = λ h.
+    let fits : FitsSigned w128 c.args.n = search rules in
+    let many = c.unsigned_abs.ensures.value ∙ ap nat_abs (to_z-of_z w128 c.args.n fits) in
+    passed_on c.from_residual.result c.in_err-power.field-0.0 (OfOverflow (PowerOverflows (value (tree_of c.args.a c.args.pool.now)) (nat_abs c.args.n))) c.from_residual.ensures.0 c.from_residual.ensures.1
+    (subst (λ (m : ℕ). OfOverflow (PowerOverflows (value (tree_of c.args.a c.args.pool.now)) m) c.in_err-power.field-0.0) many c.in_err-power.ensures.overflow)
+
+pub returns-then-is_rational-clause-overflow : goal.returns-then-is_rational-clause-overflow
+returns-then-is_rational-clause-overflow c = λ h. absurd (cc (c.is_rational.ensures, c.if-is_rational.true, h))
+
+pub returns-then-n-eq1-clause-rational : goal.returns-then-n-eq1-clause-rational
+returns-then-n-eq1-clause-rational c = λ q e. absurd (cc (c.is_rational.ensures ∙ ap is_num e, c.if-is_rational.false))
+
+pub returns-in_ok-power-clause-rational : goal.returns-in_ok-power-clause-rational
+returns-in_ok-power-clause-rational c = λ q e. absurd (cc (c.is_rational.ensures ∙ ap is_num e, c.if-is_rational.false))
+
+pub returns-in_ok-power-clause-kept : goal.returns-in_ok-power-clause-kept
+returns-in_ok-power-clause-kept c = kept_after c.in_ok-power.ensures.kept c.release.ensures.kept

@@ -3,6 +3,11 @@ use Rattle.number_forms.proofs.Shared.{calculated, value_of, num, root_size, siz
 use Rattle.number_forms.proofs.{Shared.{gives_as, power_need, num_most, free_of, LacksRoom, refused_below, passed_on, released_free}, RationalCalls.{plain_answer, rational_power_over, rational_power}}
 use Rattle.number_forms.proofs.{RationalCalls.{num_same}, RationalBits.{power_parts}, Rooms.{few_for}}
 use Rattle.tree_handles.specs.declared.fault.NumberFault.TheVariants as fault
+use Rattle.number_forms.proofs.Refusals.{none_given, none_kept}
+use Rattle.number_forms.proofs.Shared.{kept_after}
+use Rattle.tree_handles.proofs.Refused.{refuses_after}
+use Rattle.tree_handles.specs.Causes.{IsCaused}
+use Rattle.tree_handles.specs.Faults.{Faults}
 use Rattle.number_forms.proofs.powers.power_rational.Goals as goal
 
 pub returns-in_err-power-clause-room : goal.returns-in_err-power-clause-room
@@ -42,3 +47,27 @@ returns-clause-rational c = λ q e.
     subst (λ (x : Fraction). IsPlainAnswer (calculated pow_op x (whole_fraction c.args.n)) t) (num_same (sym c.take_rational-q.ensures.value ∙ e))
     (plain_answer pow_op r (whole_fraction c.args.n) t (λ f. cc (c.in_ok-power.ensures.refused.1 (ap (λ (z : ℤ). operation_fits pow_op r (whole_fraction z)) same ∙ f)))
     (given_told c.in_ok-number.ensures.given ∙ ap num (c.in_ok-power.ensures.power ∙ ap (λ (z : ℤ). fraction_power r (nat_abs z)) (same ∙ sym (whole_numerator c.args.n)))))
+
+pub returns-in_err-power-clause-ok : goal.returns-in_err-power-clause-ok
+returns-in_err-power-clause-ok c = none_given c.from_residual.result _ c.from_residual.ensures.0
+
+pub returns-in_err-power-clause-kept : goal.returns-in_err-power-clause-kept
+returns-in_err-power-clause-kept c = none_kept c.from_residual.result _ c.from_residual.ensures.0
+
+pub returns-in_err-power-clause-faults : goal.returns-in_err-power-clause-faults
+returns-in_err-power-clause-faults c = passed_on c.from_residual.result (fault.Overflow c.in_err-power.field-0.0) (Faults c.args.pool.now c.take_rational-q.new.pool) c.from_residual.ensures.0 c.from_residual.ensures.1 (c.take_rational-q.ensures.kept)
+
+pub returns-in_err-number-clause-ok : goal.returns-in_err-number-clause-ok
+returns-in_err-number-clause-ok c = none_given c.from_residual-in_err-number.result _ c.from_residual-in_err-number.ensures.0
+
+pub returns-in_err-number-clause-kept : goal.returns-in_err-number-clause-kept
+returns-in_err-number-clause-kept c = none_kept c.from_residual-in_err-number.result _ c.from_residual-in_err-number.ensures.0
+
+pub returns-in_err-number-clause-faults : goal.returns-in_err-number-clause-faults
+returns-in_err-number-clause-faults c = passed_on c.from_residual-in_err-number.result (fault.Full c.in_err-number.field-0.0) (Faults c.args.pool.now c.number.new.pool) c.from_residual-in_err-number.ensures.0 c.from_residual-in_err-number.ensures.1 (refuses_after c.take_rational-q.ensures.kept c.in_err-number.ensures.full.refuses)
+
+pub returns-in_err-number-clause-caused : goal.returns-in_err-number-clause-caused
+returns-in_err-number-clause-caused c = passed_on c.from_residual-in_err-number.result (fault.Full c.in_err-number.field-0.0) (IsCaused c.number.new.pool) c.from_residual-in_err-number.ensures.0 c.from_residual-in_err-number.ensures.1 (c.in_err-number.ensures.full.lacks)
+
+pub returns-clause-kept : goal.returns-clause-kept
+returns-clause-kept c = kept_after c.take_rational-q.ensures.kept c.in_ok-number.ensures.kept

@@ -4,6 +4,9 @@ use Rattle.number_forms.proofs.{Shared.{SpansTree, free_of, LacksRoom, raising_n
 use Rattle.number_forms.proofs.{PowerSteps.{half_one, half_twice}, TermTrees.{if_given}, Rooms.{full_as, refusal_as}, powers.square_or_cube.Goals.{After-square_of, In_ok-square}}
 use Rattle.surd_terms.specs.declared.term.Term.{Term}
 use Rattle.tree_handles.specs.declared.fault.NumberFault.TheVariants as fault
+use Rattle.number_forms.proofs.Refusals.{faults_after, keeps_on, none_given, none_kept}
+use Rattle.tree_handles.specs.Causes.{IsCaused}
+use Rattle.tree_handles.specs.Faults.{Faults}
 use Rattle.number_forms.proofs.powers.square_or_cube.Goals as goal
 
 pub returns-in_err-square-clause-room : goal.returns-in_err-square-clause-room
@@ -71,3 +74,36 @@ returns-then-has_room-clause-ok c =
     let power = c.raise_values.ensures (search rules) in
     gives_as c.in_ok-place_terms.ensures.ok refl (λ t e. subst (IsPowerOver (value (tree_of c.args.a.now c.args.pool.now)) c.args.n)
     (sym (e ∙ ap number_tree c.as_slice-then-has_room.ensures.value)) power)
+
+pub returns-in_err-place_terms-clause-ok : goal.returns-in_err-place_terms-clause-ok
+returns-in_err-place_terms-clause-ok c = none_given c.from_residual.result _ c.from_residual.ensures.0
+
+pub returns-in_err-place_terms-clause-kept : goal.returns-in_err-place_terms-clause-kept
+returns-in_err-place_terms-clause-kept c = none_kept c.from_residual.result _ c.from_residual.ensures.0
+
+pub returns-in_err-place_terms-clause-faults : goal.returns-in_err-place_terms-clause-faults
+returns-in_err-place_terms-clause-faults c = passed_on c.from_residual.result (fault.Full c.in_err-place_terms.field-0.0) (Faults c.args.pool.now c.place_terms.new.pool) c.from_residual.ensures.0 c.from_residual.ensures.1 (c.in_err-place_terms.ensures.full)
+
+pub returns-in_err-place_terms-clause-caused : goal.returns-in_err-place_terms-clause-caused
+returns-in_err-place_terms-clause-caused c = passed_on c.from_residual.result (fault.Full c.in_err-place_terms.field-0.0) (IsCaused c.place_terms.new.pool) c.from_residual.ensures.0 c.from_residual.ensures.1 (c.in_err-place_terms.ensures.caused)
+
+pub returns-in_err-place_terms-clause-overflow : goal.returns-in_err-place_terms-clause-overflow
+returns-in_err-place_terms-clause-overflow c = passed_on c.from_residual.result (fault.Full c.in_err-place_terms.field-0.0) (OfOverflow (PowerOverflows (value (tree_of c.args.a.now c.args.pool.now)) c.args.n)) c.from_residual.ensures.0 c.from_residual.ensures.1 (tt)
+
+pub returns-in_err-square-clause-ok : goal.returns-in_err-square-clause-ok
+returns-in_err-square-clause-ok c = none_given c.from_residual-in_err-square.result _ c.from_residual-in_err-square.ensures.0
+
+pub returns-in_err-square-clause-kept : goal.returns-in_err-square-clause-kept
+returns-in_err-square-clause-kept c = none_kept c.from_residual-in_err-square.result _ c.from_residual-in_err-square.ensures.0
+
+pub returns-in_err-square-clause-faults : goal.returns-in_err-square-clause-faults
+returns-in_err-square-clause-faults c = passed_on c.from_residual-in_err-square.result c.in_err-square.field-0.0 (Faults c.args.pool.now c.square_of.new.pool) c.from_residual-in_err-square.ensures.0 c.from_residual-in_err-square.ensures.1 (c.in_err-square.ensures.faults)
+
+pub returns-in_err-square-clause-caused : goal.returns-in_err-square-clause-caused
+returns-in_err-square-clause-caused c = passed_on c.from_residual-in_err-square.result c.in_err-square.field-0.0 (IsCaused c.square_of.new.pool) c.from_residual-in_err-square.ensures.0 c.from_residual-in_err-square.ensures.1 (c.in_err-square.ensures.caused)
+
+pub returns-clause-kept : goal.returns-clause-kept
+returns-clause-kept c = keeps_on _ c.completed.result c.in_ok-square.ensures.kept c.completed.ensures.kept
+
+pub returns-clause-faults : goal.returns-clause-faults
+returns-clause-faults c = refusal_as c.completed.result c.completed.ensures.faults (λ e f. faults_after _ e c.in_ok-square.ensures.kept f)

@@ -5,6 +5,10 @@ use Rattle.number_forms.proofs.{Shared.{given_told, gives_as, handed_at}, Loops.
 use Rattle.number_forms.proofs.{Rooms.{full_as, spans_from, partial_spanned, term_lacks, row_lacks}, Rows.{nothing_more, joined_extracted}, Squares.{spans_square_row}, Twice.{twice_refused}}
 use Rattle.number_forms.proofs.{squaring.join_square_row.Goals.{In_ok-join_term}, squaring.join_square_row.Given.{Over}}
 use Rattle.tree_handles.specs.declared.fault.NumberFault.TheVariants as fault
+use Rattle.number_forms.proofs.Refusals.{faults_after, none_kept}
+use Rattle.number_forms.proofs.Shared.{front_same, kept_same}
+use Rattle.tree_handles.specs.Causes.{IsCaused}
+use Rattle.tree_handles.specs.Faults.{Faults}
 use Rattle.number_forms.proofs.squaring.join_square_row.Goals as goal
 
 -- the sum with the square of the term
@@ -69,8 +73,8 @@ returns-in_err-join_term-clause-overflow g c =
     (OfOverflow (SquareRowOverflows (tree_of c.args.sum.now c.args.pool.now) (term_of c.args.term) (terms_from c.args.from (value (tree_of c.args.number c.args.pool.now))))) c.from_residual-in_err-join_term.ensures.0 c.from_residual-in_err-join_term.ensures.1
     (overflow_as c.in_err-join_term.field-0.0 c.in_err-join_term.ensures.overflow (λ o j. inr (inl (record { product = term_of c.in_ok-square.square; extracted = c.in_ok-square.ensures.extracted; joined = j }))))
 
-pub returns-in_err-double-clause-overflow : goal.returns-in_err-double-clause-overflow
-returns-in_err-double-clause-overflow g c = absurd (twice_refused c.args.term c.in_ok-square.square c.in_ok-square.ensures.extracted (c.in_err-double.ensures.refused.0 refl))
+pub returns-in_err-double : goal.returns-in_err-double
+returns-in_err-double g c = absurd (twice_refused c.args.term c.in_ok-square.square c.in_ok-square.ensures.extracted (c.in_err-double.ensures.refused.0 refl))
 
 pub returns-in_err-join_products-clause-overflow : goal.returns-in_err-join_products-clause-overflow
 returns-in_err-join_products-clause-overflow g c =
@@ -91,11 +95,6 @@ returns-in_err-join_products-clause-overflow g c =
 pub returns-in_err-square-clause-room : goal.returns-in_err-square-clause-room
 returns-in_err-square-clause-room g c = λ gs s h t.
     passed_on c.from_residual.result (fault.Overflow c.in_err-square.field-0.0) (LacksRoom joining_need (free_of c.args.pool.now + size (tree_of c.args.sum.now c.args.pool.now)) gs) c.from_residual.ensures.0 c.from_residual.ensures.1 tt
-
-pub returns-in_err-double-clause-room : goal.returns-in_err-double-clause-room
-returns-in_err-double-clause-room g c = λ gs s h t.
-    passed_on c.from_residual-in_err-double.result (fault.Overflow c.in_err-double.field-0.0)
-    (LacksRoom joining_need (free_of c.args.pool.now + size (tree_of c.args.sum.now c.args.pool.now)) gs) c.from_residual-in_err-double.ensures.0 c.from_residual-in_err-double.ensures.1 tt
 
 pub returns-in_err-join_term-clause-room : goal.returns-in_err-join_term-clause-room
 returns-in_err-join_term-clause-room g c = λ gs s h t.
@@ -118,3 +117,48 @@ returns-in_err-join_products-clause-room g c = λ gs s h t.
     (LacksRoom joining_need (free_of c.args.pool.now + size (tree_of c.args.sum.now c.args.pool.now)) gs) c.from_residual-in_err-join_products.ensures.0 c.from_residual-in_err-join_products.ensures.1
     (full_as c.in_err-join_products.field-0.0 (c.in_err-join_products.ensures.room gs partial double (subst (λ (u : Tree). Spans gs (value u)) (sym (same g at)) t))
     (λ full few. row_lacks gs (joined g at) c.requires.stands (given_handed c.requires.sum) few))
+
+pub returns-in_err-square-clause-ok : goal.returns-in_err-square-clause-ok
+returns-in_err-square-clause-ok g c = none_kept c.from_residual.result _ c.from_residual.ensures.0
+
+pub returns-in_err-square-clause-kept : goal.returns-in_err-square-clause-kept
+returns-in_err-square-clause-kept g c = none_kept c.from_residual.result _ c.from_residual.ensures.0
+
+pub returns-in_err-square-clause-faults : goal.returns-in_err-square-clause-faults
+returns-in_err-square-clause-faults g c = passed_on c.from_residual.result (fault.Overflow c.in_err-square.field-0.0) (Faults c.args.pool.now c.args.pool.now) c.from_residual.ensures.0 c.from_residual.ensures.1 (kept_same c.args.pool.now)
+
+pub returns-in_err-square-clause-lists : goal.returns-in_err-square-clause-lists
+returns-in_err-square-clause-lists g c = none_kept c.from_residual.result _ c.from_residual.ensures.0
+
+pub returns-in_err-square-clause-front : goal.returns-in_err-square-clause-front
+returns-in_err-square-clause-front g c = front_same
+
+pub returns-in_err-join_term-clause-ok : goal.returns-in_err-join_term-clause-ok
+returns-in_err-join_term-clause-ok g c = none_kept c.from_residual-in_err-join_term.result _ c.from_residual-in_err-join_term.ensures.0
+
+pub returns-in_err-join_term-clause-kept : goal.returns-in_err-join_term-clause-kept
+returns-in_err-join_term-clause-kept g c = none_kept c.from_residual-in_err-join_term.result _ c.from_residual-in_err-join_term.ensures.0
+
+pub returns-in_err-join_term-clause-faults : goal.returns-in_err-join_term-clause-faults
+returns-in_err-join_term-clause-faults g c = passed_on c.from_residual-in_err-join_term.result c.in_err-join_term.field-0.0 (Faults c.args.pool.now c.join_term.new.pool) c.from_residual-in_err-join_term.ensures.0 c.from_residual-in_err-join_term.ensures.1 (c.in_err-join_term.ensures.faults)
+
+pub returns-in_err-join_term-clause-caused : goal.returns-in_err-join_term-clause-caused
+returns-in_err-join_term-clause-caused g c = passed_on c.from_residual-in_err-join_term.result c.in_err-join_term.field-0.0 (IsCaused c.join_term.new.pool) c.from_residual-in_err-join_term.ensures.0 c.from_residual-in_err-join_term.ensures.1 (c.in_err-join_term.ensures.caused)
+
+pub returns-in_err-join_term-clause-lists : goal.returns-in_err-join_term-clause-lists
+returns-in_err-join_term-clause-lists g c = none_kept c.from_residual-in_err-join_term.result _ c.from_residual-in_err-join_term.ensures.0
+
+pub returns-in_err-join_products-clause-ok : goal.returns-in_err-join_products-clause-ok
+returns-in_err-join_products-clause-ok g c = none_kept c.from_residual-in_err-join_products.result _ c.from_residual-in_err-join_products.ensures.0
+
+pub returns-in_err-join_products-clause-kept : goal.returns-in_err-join_products-clause-kept
+returns-in_err-join_products-clause-kept g c = none_kept c.from_residual-in_err-join_products.result _ c.from_residual-in_err-join_products.ensures.0
+
+pub returns-in_err-join_products-clause-faults : goal.returns-in_err-join_products-clause-faults
+returns-in_err-join_products-clause-faults g c = passed_on c.from_residual-in_err-join_products.result c.in_err-join_products.field-0.0 (Faults c.args.pool.now c.join_products.new.pool) c.from_residual-in_err-join_products.ensures.0 c.from_residual-in_err-join_products.ensures.1 (faults_after _ c.in_err-join_products.field-0.0 c.in_ok-join_term.ensures.kept c.in_err-join_products.ensures.faults)
+
+pub returns-in_err-join_products-clause-caused : goal.returns-in_err-join_products-clause-caused
+returns-in_err-join_products-clause-caused g c = passed_on c.from_residual-in_err-join_products.result c.in_err-join_products.field-0.0 (IsCaused c.join_products.new.pool) c.from_residual-in_err-join_products.ensures.0 c.from_residual-in_err-join_products.ensures.1 (c.in_err-join_products.ensures.caused)
+
+pub returns-in_err-join_products-clause-lists : goal.returns-in_err-join_products-clause-lists
+returns-in_err-join_products-clause-lists g c = none_kept c.from_residual-in_err-join_products.result _ c.from_residual-in_err-join_products.ensures.0

@@ -4,6 +4,10 @@ use Rattle.number_forms.proofs.Shared.{other_plain, other_read, other_expression
 use Rattle.number_forms.proofs.{Shared.{given_rest, handed_at, given_handed, given_told, plain_root}, Loops.{joined_none, joined_part, joined_all, from_all}}
 use Rattle.number_forms.proofs.{Rooms.{full_as, spans_from, spans_nth, partial_spanned, row_lacks}, Squares.{spans_square}, Worth.{terms_from, from_next}}
 use Rattle.number_forms.proofs.{squaring.join_squares.Goals.{After-listed_term-term}, squaring.join_squares.Given.{Over}}
+use Rattle.number_forms.proofs.Refusals.{faults_after, none_kept}
+use Rattle.number_forms.proofs.Shared.{behind_first, front_after_one}
+use Rattle.tree_handles.specs.Causes.{IsCaused}
+use Rattle.tree_handles.specs.Faults.{Faults}
 use Rattle.number_forms.proofs.squaring.join_squares.Goals as goal
 
 -- the Number as it stands now
@@ -94,3 +98,21 @@ returns-in_err-join_square_row-clause-overflow g c = λ empty.
 
 pub returns-clause-lists : goal.returns-clause-lists
 returns-clause-lists g c = c.loop-at.invariant.lists
+
+pub returns-in_err-join_square_row-clause-ok : goal.returns-in_err-join_square_row-clause-ok
+returns-in_err-join_square_row-clause-ok g c = none_kept c.from_residual.result _ c.from_residual.ensures.0
+
+pub returns-in_err-join_square_row-clause-kept : goal.returns-in_err-join_square_row-clause-kept
+returns-in_err-join_square_row-clause-kept g c = none_kept c.from_residual.result _ c.from_residual.ensures.0
+
+pub returns-in_err-join_square_row-clause-faults : goal.returns-in_err-join_square_row-clause-faults
+returns-in_err-join_square_row-clause-faults g c = passed_on c.from_residual.result c.in_err-join_square_row.field-0.0 (Faults c.args.pool.now c.join_square_row.new.pool) c.from_residual.ensures.0 c.from_residual.ensures.1 (faults_after _ c.in_err-join_square_row.field-0.0 c.loop-at.invariant.joined.kept c.in_err-join_square_row.ensures.faults)
+
+pub returns-in_err-join_square_row-clause-caused : goal.returns-in_err-join_square_row-clause-caused
+returns-in_err-join_square_row-clause-caused g c = passed_on c.from_residual.result c.in_err-join_square_row.field-0.0 (IsCaused c.join_square_row.new.pool) c.from_residual.ensures.0 c.from_residual.ensures.1 (c.in_err-join_square_row.ensures.caused)
+
+pub returns-in_err-join_square_row-clause-lists : goal.returns-in_err-join_square_row-clause-lists
+returns-in_err-join_square_row-clause-lists g c = none_kept c.from_residual.result _ c.from_residual.ensures.0
+
+pub returns-in_err-join_square_row-clause-front : goal.returns-in_err-join_square_row-clause-front
+returns-in_err-join_square_row-clause-front g c = front_after_one behind_first c.loop-at.invariant.joined.front c.join_square_row.ensures.front

@@ -4,6 +4,10 @@ use Rattle.number_forms.proofs.Shared.{forest, behind_new, front_same, front_aft
 use Rattle.number_forms.proofs.{Shared.{free_of, LacksRoom, joining_need, refused_below, given_free}, Squares.{square_same, square_parts}, Denominators.{shares_eq}, Over.{over_as}}
 use Rattle.number_forms.proofs.Rooms.{full_as, few_for, number_spans}
 use Rattle.tree_handles.specs.declared.fault.NumberFault.TheVariants as fault
+use Rattle.number_forms.proofs.Refusals.{faults_after, none_given, none_kept}
+use Rattle.tree_handles.proofs.Refused.{refuses_after}
+use Rattle.tree_handles.specs.Causes.{IsCaused}
+use Rattle.tree_handles.specs.Faults.{Faults}
 use Rattle.number_forms.proofs.squaring.square_within.Goals as goal
 
 pub returns-in_err-sum-clause-room : goal.returns-in_err-sum-clause-room
@@ -79,3 +83,48 @@ of-terms-requires g c = (omega (arith, c.requires.few), (c.in_ok-sum.ensures.sta
 
 pub new-list-requires : goal.new-list-requires
 new-list-requires g c = omega (arith, c.requires.few)
+
+pub returns-in_err-sum-clause-ok : goal.returns-in_err-sum-clause-ok
+returns-in_err-sum-clause-ok g c = none_given c.from_residual.result _ c.from_residual.ensures.0
+
+pub returns-in_err-sum-clause-kept : goal.returns-in_err-sum-clause-kept
+returns-in_err-sum-clause-kept g c = none_kept c.from_residual.result _ c.from_residual.ensures.0
+
+pub returns-in_err-sum-clause-faults : goal.returns-in_err-sum-clause-faults
+returns-in_err-sum-clause-faults g c = passed_on c.from_residual.result (fault.Full c.in_err-sum.field-0.0) (Faults c.args.pool.now c.node.new.pool) c.from_residual.ensures.0 c.from_residual.ensures.1 (c.in_err-sum.ensures.full.refuses)
+
+pub returns-in_err-sum-clause-caused : goal.returns-in_err-sum-clause-caused
+returns-in_err-sum-clause-caused g c = passed_on c.from_residual.result (fault.Full c.in_err-sum.field-0.0) (IsCaused c.node.new.pool) c.from_residual.ensures.0 c.from_residual.ensures.1 (c.in_err-sum.ensures.full.lacks)
+
+pub returns-in_err-sum-clause-overflow : goal.returns-in_err-sum-clause-overflow
+returns-in_err-sum-clause-overflow g c = passed_on c.from_residual.result (fault.Full c.in_err-sum.field-0.0) (OfOverflow (SquareOverflows (value (tree_of c.args.a.now c.args.pool.now)))) c.from_residual.ensures.0 c.from_residual.ensures.1 (tt)
+
+pub returns-in_err-join_squares-clause-ok : goal.returns-in_err-join_squares-clause-ok
+returns-in_err-join_squares-clause-ok g c = none_given c.from_residual-in_err-join_squares.result _ c.from_residual-in_err-join_squares.ensures.0
+
+pub returns-in_err-join_squares-clause-kept : goal.returns-in_err-join_squares-clause-kept
+returns-in_err-join_squares-clause-kept g c = none_kept c.from_residual-in_err-join_squares.result _ c.from_residual-in_err-join_squares.ensures.0
+
+pub returns-in_err-join_squares-clause-faults : goal.returns-in_err-join_squares-clause-faults
+returns-in_err-join_squares-clause-faults g c = passed_on c.from_residual-in_err-join_squares.result c.in_err-join_squares.field-0.0 (Faults c.args.pool.now c.join_squares.new.pool) c.from_residual-in_err-join_squares.ensures.0 c.from_residual-in_err-join_squares.ensures.1 (faults_after _ c.in_err-join_squares.field-0.0 c.in_ok-sum.ensures.kept c.in_err-join_squares.ensures.faults)
+
+pub returns-in_err-join_squares-clause-caused : goal.returns-in_err-join_squares-clause-caused
+returns-in_err-join_squares-clause-caused g c = passed_on c.from_residual-in_err-join_squares.result c.in_err-join_squares.field-0.0 (IsCaused c.join_squares.new.pool) c.from_residual-in_err-join_squares.ensures.0 c.from_residual-in_err-join_squares.ensures.1 (c.in_err-join_squares.ensures.caused)
+
+pub returns-in_err-number_of-clause-ok : goal.returns-in_err-number_of-clause-ok
+returns-in_err-number_of-clause-ok g c = none_given c.from_residual-in_err-number_of.result _ c.from_residual-in_err-number_of.ensures.0
+
+pub returns-in_err-number_of-clause-kept : goal.returns-in_err-number_of-clause-kept
+returns-in_err-number_of-clause-kept g c = none_kept c.from_residual-in_err-number_of.result _ c.from_residual-in_err-number_of.ensures.0
+
+pub returns-in_err-number_of-clause-faults : goal.returns-in_err-number_of-clause-faults
+returns-in_err-number_of-clause-faults g c = passed_on c.from_residual-in_err-number_of.result (fault.Full c.in_err-number_of.field-0.0) (Faults c.args.pool.now c.number_of.new.pool) c.from_residual-in_err-number_of.ensures.0 c.from_residual-in_err-number_of.ensures.1 (refuses_after (kept_after c.in_ok-sum.ensures.kept c.in_ok-join_squares.ensures.kept) c.in_err-number_of.ensures.full)
+
+pub returns-in_err-number_of-clause-caused : goal.returns-in_err-number_of-clause-caused
+returns-in_err-number_of-clause-caused g c = passed_on c.from_residual-in_err-number_of.result (fault.Full c.in_err-number_of.field-0.0) (IsCaused c.number_of.new.pool) c.from_residual-in_err-number_of.ensures.0 c.from_residual-in_err-number_of.ensures.1 (c.in_err-number_of.ensures.caused)
+
+pub returns-in_err-number_of-clause-overflow : goal.returns-in_err-number_of-clause-overflow
+returns-in_err-number_of-clause-overflow g c = passed_on c.from_residual-in_err-number_of.result (fault.Full c.in_err-number_of.field-0.0) (OfOverflow (SquareOverflows (value (tree_of c.args.a.now c.args.pool.now)))) c.from_residual-in_err-number_of.ensures.0 c.from_residual-in_err-number_of.ensures.1 (tt)
+
+pub returns-clause-kept : goal.returns-clause-kept
+returns-clause-kept g c = kept_after c.in_ok-sum.ensures.kept (kept_after c.in_ok-join_squares.ensures.kept c.in_ok-number_of.ensures.kept)
