@@ -38,7 +38,6 @@ pub(crate) enum Joint {
 }
 
 /// The sum or the product of two Numbers, which are consumed. A rational that leaves each Number as it is leaves that tree.
-#[tactic(auto, using(crate::proofs::Kept::no_neutral))]
 pub(crate) fn calculate(
     pool: &mut Pool,
     joint: Joint,

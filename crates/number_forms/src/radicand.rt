@@ -5,7 +5,6 @@ ghost use Rattle.calc_algebra.specs.Clean.{is_clean};
 use square_parts::split;
 
 /// Whether a number is clean: no square is taken out of it.
-#[tactic(auto, using(crate::proofs::Recognized::one_root))]
 pub(crate) fn is_clean(r: u128) -> bool
     requires positive { 1 ≤ r }
     requires fits { r < 2 ^ 127 }

@@ -3,6 +3,8 @@ use Rattle.number_forms.proofs.Shared.{front_same, front_at, front_end, front_pu
 use Rattle.number_forms.proofs.{Shared.{refused_below, released_free, expression, seen, only_child, only_owned}, LastSums.{sum_is}, Shaped.{zero_sum, one_sum, more_sum, zero_number_of, two_from}}
 use Rattle.number_forms.proofs.{TermTrees.{if_given}, Rooms.{refusal_as}, adding.number_of.Goals.{After-children-terms}}
 use Rattle.surd_terms.proofs.Rationals.{whole_value as whole_is}
+use Rattle.number_forms.proofs.Refusals.{keeps_on, lacks_in, refuses_on}
+use Rattle.number_forms.proofs.Shared.{kept_after}
 use Rattle.number_forms.proofs.adding.number_of.Goals as goal
 
 pub returns-then-terms-eq0-clause-room : goal.returns-then-terms-eq0-clause-room
@@ -62,3 +64,15 @@ returns-else-terms-eq1-clause-ok c =
     let all : c.children-terms.result ≡ count (children_of sum) = terms (goal.at.returns-else-terms-eq1-clause-ok c).After-children-terms in
     let two : 2 ≤ c.children-terms.result = two_from c.children-terms.result c.if-terms-eq0.false c.if-terms-eq1.false in
     gives_as (gives_itself c.requires.sum) refl (λ t h. let e = h.1 in subst (IsNumberOver (value sum)) (sym e) (more_sum sum (children_of sum) told (sum_is sum told) (omega (arith, all, two))))
+
+pub returns-then-terms-eq0-clause-kept : goal.returns-then-terms-eq0-clause-kept
+returns-then-terms-eq0-clause-kept c = keeps_on _ c.number.result c.release.ensures.kept c.number.ensures.kept
+
+pub returns-then-terms-eq0-clause-full : goal.returns-then-terms-eq0-clause-full
+returns-then-terms-eq0-clause-full c = refuses_on _ _ c.number.result c.release.ensures.kept c.number.ensures.full
+
+pub returns-then-terms-eq0-clause-caused : goal.returns-then-terms-eq0-clause-caused
+returns-then-terms-eq0-clause-caused c = lacks_in _ _ _ c.number.result c.number.ensures.full
+
+pub returns-then-terms-eq1-clause-kept : goal.returns-then-terms-eq1-clause-kept
+returns-then-terms-eq1-clause-kept c = kept_after c.take_child-term.ensures.kept c.release-then-terms-eq1.ensures.kept

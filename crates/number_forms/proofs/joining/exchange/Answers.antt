@@ -1,6 +1,9 @@
 use Rattle.number_forms.proofs.Shared.{rules, ◌≡◌, ◌<◌, ◌≤◌, true, refl, sym, ap, subst, arith, Tree, count, is_add, term_of, Full, free_of, passed_on, Forest, Gives, children_of, without_root}
 use Rattle.number_forms.proofs.Shared.{lists_behind, given_rest, given_root, given_told, gives_as, gives_rest, other_plain, behind_first, behind_new, front_same, front_after, front_after_two}
 use Rattle.number_forms.proofs.{Exchanged.{exchanged_in}, LastSums.{sum_add}}
+use Rattle.number_forms.proofs.Refusals.{none_kept}
+use Rattle.number_forms.proofs.Shared.{kept_after}
+use Rattle.tree_handles.specs.Standing.{LacksBytes, Refuses}
 use Rattle.number_forms.proofs.joining.exchange.Goals as goal
 
 pub returns-in_err-new-clause-room : goal.returns-in_err-new-clause-room
@@ -24,3 +27,24 @@ returns-clause-ok g c =
 
 pub returns-clause-front : goal.returns-clause-front
 returns-clause-front g c = front_after_two behind_first (behind_new c.in_ok-new.ensures.ok.ends front_same) (front_after front_same c.place_term.ensures.front) c.exchange_child.ensures.front
+
+pub returns-in_err-new-clause-ok : goal.returns-in_err-new-clause-ok
+returns-in_err-new-clause-ok g c = none_kept c.from_residual.result _ c.from_residual.ensures.0
+
+pub returns-in_err-new-clause-kept : goal.returns-in_err-new-clause-kept
+returns-in_err-new-clause-kept g c = none_kept c.from_residual.result _ c.from_residual.ensures.0
+
+pub returns-in_err-new-clause-full : goal.returns-in_err-new-clause-full
+returns-in_err-new-clause-full g c = passed_on c.from_residual.result c.in_err-new.field-0.0 (Refuses c.args.pool.now c.place_term.new.pool) c.from_residual.ensures.0 c.from_residual.ensures.1 (c.in_err-new.ensures.full)
+
+pub returns-in_err-new-clause-caused : goal.returns-in_err-new-clause-caused
+returns-in_err-new-clause-caused g c = passed_on c.from_residual.result c.in_err-new.field-0.0 (LacksBytes c.place_term.new.pool) c.from_residual.ensures.0 c.from_residual.ensures.1 (c.in_err-new.ensures.caused)
+
+pub returns-in_err-new-clause-lists : goal.returns-in_err-new-clause-lists
+returns-in_err-new-clause-lists g c = none_kept c.from_residual.result _ c.from_residual.ensures.0
+
+pub returns-in_err-new-clause-front : goal.returns-in_err-new-clause-front
+returns-in_err-new-clause-front g c = front_after front_same c.place_term.ensures.front
+
+pub returns-clause-kept : goal.returns-clause-kept
+returns-clause-kept g c = kept_after c.in_ok-new.ensures.kept c.exchange_child.ensures.kept

@@ -3,6 +3,7 @@ use Rattle.number_forms.proofs.{Shared.{children_number}, Children.{IsNextChild,
 use Rattle.number_forms.proofs.{SquareFreeSums.{read_apart, read_joined, read_parts}, SumChanges.{term_of_sum}, Overflows.{join_overflow}, joining.match_anywhere.Goals.{In-Some}}
 use Rattle.calc_algebra.specs.Numbers.{term_of as term_of_tree}
 use Rattle.surd_terms.specs.declared.sums.Joined.TheVariants as joined
+use Rattle.number_forms.proofs.Refusals.{none_given}
 use Rattle.number_forms.proofs.joining.match_anywhere.Goals as goal
 
 next : (c : In-Some) → IsNextChild c.loop-child.at c.args.sum c.in-Some.child c.args.pool.now
@@ -68,3 +69,6 @@ returns-in_err-join-clause-overflow c =
     let n = next (goal.at.returns-in_err-join-clause-overflow c).In-Some in
     passed_on c.from_residual.result c.in_err-join.field-0.0 (JoinOverflows t (term_of c.args.term)) c.from_residual.ensures.0 c.from_residual.ensures.1
     (join_overflow t c.loop-child.at _ _ _ n.within (c.term_at-other.ensures ∙ ap term_of_tree n.is) c.in_err-join.ensures.overflow)
+
+pub returns-in_err-join-clause-ok : goal.returns-in_err-join-clause-ok
+returns-in_err-join-clause-ok c = none_given c.from_residual.result _ c.from_residual.ensures.0

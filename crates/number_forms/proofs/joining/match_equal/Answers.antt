@@ -3,6 +3,7 @@ use Rattle.number_forms.proofs.{SquareFreeSums.{read_apart, read_joined, read_pa
 use Rattle.number_forms.proofs.joining.match_equal.Goals.{After-children}
 use Rattle.calc_algebra.specs.Numbers.{term_of as term_of_tree}
 use Rattle.surd_terms.specs.declared.sums.Joined.TheVariants as joined
+use Rattle.number_forms.proofs.Refusals.{none_given}
 use Rattle.number_forms.proofs.joining.match_equal.Goals as goal
 
 many : (g : Over) (c : After-children g) → c.children.result ≡ count (children_of (plain (tree_at c.args.sum (forest c.args.pool.now))))
@@ -40,3 +41,6 @@ returns-then-radicand-clause-ok g c = λ l e. c.if-radicand.true
 pub returns-in-Apart-clause-ok : goal.returns-in-Apart-clause-ok
 returns-in-Apart-clause-ok g c = λ l e. other_radicand (term_of c.args.term).radicand _ c.args.term.positive
     (read_apart c.in_ok-joined.joined (term_of c.term_at-other.result) (term_of c.args.term) _ _ c.in-Apart.is c.in_ok-joined.ensures.joins c.term_at-other.ensures c.child.ensures.plain) e
+
+pub returns-in_err-joined-clause-ok : goal.returns-in_err-joined-clause-ok
+returns-in_err-joined-clause-ok g c = none_given c.from_residual.result _ c.from_residual.ensures.0

@@ -1,5 +1,9 @@
 use Rattle.number_forms.proofs.Shared.{inl, ◌+◌, gives_without, behind_first, behind_later, front_same, front_at, front_without, front_after, given_other, handed_beside, handed_at, owned}
 use Rattle.number_forms.proofs.{Shared.{product_need, size, free_of, LacksRoom, passed_on, tree_of}, Rooms.{full_as, product_lacks}}
+use Rattle.number_forms.proofs.Refusals.{none_given, none_kept}
+use Rattle.number_forms.proofs.Shared.{kept_after}
+use Rattle.tree_handles.specs.Causes.{IsCaused}
+use Rattle.tree_handles.specs.Faults.{Faults}
 use Rattle.number_forms.proofs.multiplying.multiply_others.Goals as goal
 
 pub returns-in_err-product-clause-room : goal.returns-in_err-product-clause-room
@@ -28,3 +32,21 @@ returns-clause-front c =
     let gone = c.release.ensures.owned (owned (given_other product c.requires.first)) in
     let b = handed_at (handed_beside c.args.a c.requires.apart (given_other product c.requires.second)) gone in
     front_at (front_without (behind_later behind_first) (front_at (front_without behind_first (front_after front_same c.product_of.ensures.front)) gone)) (c.release-2.ensures.owned (owned b))
+
+pub returns-in_err-product-clause-ok : goal.returns-in_err-product-clause-ok
+returns-in_err-product-clause-ok c = none_given c.from_residual.result _ c.from_residual.ensures.0
+
+pub returns-in_err-product-clause-kept : goal.returns-in_err-product-clause-kept
+returns-in_err-product-clause-kept c = none_kept c.from_residual.result _ c.from_residual.ensures.0
+
+pub returns-in_err-product-clause-faults : goal.returns-in_err-product-clause-faults
+returns-in_err-product-clause-faults c = passed_on c.from_residual.result c.in_err-product.field-0.0 (Faults c.args.pool.now c.product_of.new.pool) c.from_residual.ensures.0 c.from_residual.ensures.1 (c.in_err-product.ensures.faults)
+
+pub returns-in_err-product-clause-caused : goal.returns-in_err-product-clause-caused
+returns-in_err-product-clause-caused c = passed_on c.from_residual.result c.in_err-product.field-0.0 (IsCaused c.product_of.new.pool) c.from_residual.ensures.0 c.from_residual.ensures.1 (c.in_err-product.ensures.caused)
+
+pub returns-in_err-product-clause-front : goal.returns-in_err-product-clause-front
+returns-in_err-product-clause-front c = front_after front_same c.product_of.ensures.front
+
+pub returns-clause-kept : goal.returns-clause-kept
+returns-clause-kept c = kept_after c.in_ok-product.ensures.kept (kept_after c.release.ensures.kept c.release-2.ensures.kept)

@@ -1,6 +1,9 @@
 use Rattle.number_forms.proofs.Shared.{◌<◌, ◌*◌, List, length, take, subst, arith, length-take-le, take_all, Trees, forest, free_of, front_after, front_same, kept_after, kept_same}
 use Rattle.number_forms.proofs.{Shared.{passed_on, Adds, trees_of}, ListedTerms.{terms_size, trees_more}, Placings.{given_is}, Planted.{adds_free, adds_more, adds_none}}
 use Rattle.surd_terms.specs.declared.term.Term.{Term}
+use Rattle.number_forms.proofs.Refusals.{none_given, none_kept}
+use Rattle.tree_handles.proofs.Refused.{refuses_after}
+use Rattle.tree_handles.specs.Standing.{LacksBytes, Refuses}
 use Rattle.number_forms.proofs.placing.place_all.Goals as goal
 
 pub loop-term-init : goal.loop-term-init
@@ -35,3 +38,21 @@ returns-in_err-_term-clause-room c =
     let few : free_of c.loop-term.pool < 96 = grind (arith, c.in_err-_term.ensures.room) in
     passed_on c.from_residual.result c.in_err-_term.field-0.0 (λ full. free_of c.args.pool.now < 96 * length c.args.terms.now) c.from_residual.ensures.0 c.from_residual.ensures.1
     (omega (arith, free, few, terms_size (take n c.args.terms.now), length-take-le n c.args.terms.now (omega (arith, c.loop-term-test.true)), c.loop-term-test.true))
+
+pub returns-in_err-_term-clause-ok : goal.returns-in_err-_term-clause-ok
+returns-in_err-_term-clause-ok c = none_kept c.from_residual.result _ c.from_residual.ensures.0
+
+pub returns-in_err-_term-clause-kept : goal.returns-in_err-_term-clause-kept
+returns-in_err-_term-clause-kept c = none_kept c.from_residual.result _ c.from_residual.ensures.0
+
+pub returns-in_err-_term-clause-full : goal.returns-in_err-_term-clause-full
+returns-in_err-_term-clause-full c = passed_on c.from_residual.result c.in_err-_term.field-0.0 (Refuses c.args.pool.now c.place_term.new.pool) c.from_residual.ensures.0 c.from_residual.ensures.1 (refuses_after c.loop-term.invariant.kept c.in_err-_term.ensures.full)
+
+pub returns-in_err-_term-clause-caused : goal.returns-in_err-_term-clause-caused
+returns-in_err-_term-clause-caused c = passed_on c.from_residual.result c.in_err-_term.field-0.0 (LacksBytes c.place_term.new.pool) c.from_residual.ensures.0 c.from_residual.ensures.1 (c.in_err-_term.ensures.caused)
+
+pub returns-in_err-_term-clause-count : goal.returns-in_err-_term-clause-count
+returns-in_err-_term-clause-count c = none_given c.from_residual.result _ c.from_residual.ensures.0
+
+pub returns-in_err-_term-clause-front : goal.returns-in_err-_term-clause-front
+returns-in_err-_term-clause-front c = front_after c.loop-term.invariant.front c.place_term.ensures.front

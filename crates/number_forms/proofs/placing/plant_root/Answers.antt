@@ -1,5 +1,9 @@
 use Rattle.number_forms.proofs.Shared.{rules, ◌<◌, ap, refl, arith, ◌∙◌, forest, free_of, front_end, front_same, gives_as, passed_on, num, root}
 use Rattle.number_forms.proofs.Planted.{adds_more, adds_none, adopts, can_adopt, node_free, number_refused}
+use Rattle.number_forms.proofs.Refusals.{none_given, none_kept}
+use Rattle.number_forms.proofs.Shared.{front_after, kept_after}
+use Rattle.tree_handles.proofs.Refused.{refuses_after}
+use Rattle.tree_handles.specs.Standing.{LacksBytes, Refuses}
 use Rattle.number_forms.proofs.placing.plant_root.Goals as goal
 
 pub adopt-requires : goal.adopt-requires
@@ -21,3 +25,33 @@ returns-in_err-_radicand-clause-room c =
     passed_on c.from_residual-in_err-_radicand.result c.in_err-_radicand.field-0.0
     (λ full. free_of c.args.pool.now < 48) c.from_residual-in_err-_radicand.ensures.0 c.from_residual-in_err-_radicand.ensures.1
     (omega (arith, free, number_refused c.whole.result c.in_err-_radicand.ensures.full))
+
+pub returns-in_err-root-clause-ok : goal.returns-in_err-root-clause-ok
+returns-in_err-root-clause-ok c = none_given c.from_residual.result _ c.from_residual.ensures.0
+
+pub returns-in_err-root-clause-kept : goal.returns-in_err-root-clause-kept
+returns-in_err-root-clause-kept c = none_kept c.from_residual.result _ c.from_residual.ensures.0
+
+pub returns-in_err-root-clause-full : goal.returns-in_err-root-clause-full
+returns-in_err-root-clause-full c = passed_on c.from_residual.result c.in_err-root.field-0.0 (Refuses c.args.pool.now c.node.new.pool) c.from_residual.ensures.0 c.from_residual.ensures.1 (c.in_err-root.ensures.full.refuses)
+
+pub returns-in_err-root-clause-caused : goal.returns-in_err-root-clause-caused
+returns-in_err-root-clause-caused c = passed_on c.from_residual.result c.in_err-root.field-0.0 (LacksBytes c.node.new.pool) c.from_residual.ensures.0 c.from_residual.ensures.1 (c.in_err-root.ensures.full.lacks)
+
+pub returns-in_err-_radicand-clause-ok : goal.returns-in_err-_radicand-clause-ok
+returns-in_err-_radicand-clause-ok c = none_given c.from_residual-in_err-_radicand.result _ c.from_residual-in_err-_radicand.ensures.0
+
+pub returns-in_err-_radicand-clause-kept : goal.returns-in_err-_radicand-clause-kept
+returns-in_err-_radicand-clause-kept c = none_kept c.from_residual-in_err-_radicand.result _ c.from_residual-in_err-_radicand.ensures.0
+
+pub returns-in_err-_radicand-clause-full : goal.returns-in_err-_radicand-clause-full
+returns-in_err-_radicand-clause-full c = passed_on c.from_residual-in_err-_radicand.result c.in_err-_radicand.field-0.0 (Refuses c.args.pool.now c.number.new.pool) c.from_residual-in_err-_radicand.ensures.0 c.from_residual-in_err-_radicand.ensures.1 (refuses_after c.in_ok-root.ensures.kept c.in_err-_radicand.ensures.full.refuses)
+
+pub returns-in_err-_radicand-clause-caused : goal.returns-in_err-_radicand-clause-caused
+returns-in_err-_radicand-clause-caused c = passed_on c.from_residual-in_err-_radicand.result c.in_err-_radicand.field-0.0 (LacksBytes c.number.new.pool) c.from_residual-in_err-_radicand.ensures.0 c.from_residual-in_err-_radicand.ensures.1 (c.in_err-_radicand.ensures.full.lacks)
+
+pub returns-in_err-_radicand-clause-front : goal.returns-in_err-_radicand-clause-front
+returns-in_err-_radicand-clause-front c = front_after c.node.ensures.front c.number.ensures.front
+
+pub returns-clause-kept : goal.returns-clause-kept
+returns-clause-kept c = kept_after c.in_ok-root.ensures.kept (kept_after c.in_ok-_radicand.ensures.kept c.adopt.ensures.kept)
