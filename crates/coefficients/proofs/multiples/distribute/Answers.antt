@@ -4,6 +4,11 @@ use Rattle.coefficients.proofs.{Shared.{counted, SpansTree, Tree, add, append, m
 use Rattle.coefficients.proofs.{Loops.{part_next, part_all, part_free, term_reduced}, Named.{passed_named, multiple_of, leads_behind}, Lacks.{passed_lacks, factor_of, sum_whole}}
 use Rattle.coefficients.proofs.{Rooms.{term_lacks, spanned_sum, spans_at}, multiples.distribute.Goals.{After-children-terms, After-open_child-hole}}
 use Rattle.tree_room.specs.Needs as need
+use Rattle.calc_terms.proofs.SmallLaws.{passed_on}
+use Rattle.number_forms.proofs.Refusals.{faults_after, none_given, none_kept}
+use Rattle.tree_handles.proofs.Refused.{kept_after}
+use Rattle.tree_handles.specs.Causes.{IsCaused}
+use Rattle.tree_handles.specs.Faults.{Faults}
 use Rattle.coefficients.proofs.multiples.distribute.Goals as goal
 
 many : (c : After-children-terms) → c.children-terms.result ≡ count (children_of (tree_of c.args.sum c.args.pool.now))
@@ -78,3 +83,18 @@ returns-in_err-multiple-clause-room c gs z o s =
     (λ k. subst (λ (v : Tree). OfFull (λ g. free_of c.open_child-hole.new.pool + size v < need.tree_bytes (counted v) (2 ^ length gs) + 104) c.in_err-multiple.field-0.0) y.1
     (c.in_err-multiple.ensures.room gs z o (subst (SpansTree gs) (sym y.1) (spans_at gs n.done n.t n.rest x.spans)) (ap leads_sum y.1 ∙ k))))
     (λ g l. subst (λ (v : Tree). free_of c.args.pool.now + size v < put_room (counted v) (2 ^ length gs)) (sym parts) l)
+
+pub returns-in_err-multiple-clause-ok : goal.returns-in_err-multiple-clause-ok
+returns-in_err-multiple-clause-ok c = none_given c.from_residual.result _ c.from_residual.ensures.0
+
+pub returns-in_err-multiple-clause-kept : goal.returns-in_err-multiple-clause-kept
+returns-in_err-multiple-clause-kept c = none_kept c.from_residual.result _ c.from_residual.ensures.0
+
+pub returns-in_err-multiple-clause-faults : goal.returns-in_err-multiple-clause-faults
+returns-in_err-multiple-clause-faults c = passed_on c.from_residual.result c.in_err-multiple.field-0.0 (Faults c.args.pool.now c.rational_times_term.new.pool) c.from_residual.ensures.0 c.from_residual.ensures.1 (faults_after _ c.in_err-multiple.field-0.0 (kept_after c.loop-at.invariant.kept c.open_child-hole.ensures.kept) c.in_err-multiple.ensures.faults)
+
+pub returns-in_err-multiple-clause-caused : goal.returns-in_err-multiple-clause-caused
+returns-in_err-multiple-clause-caused c = passed_on c.from_residual.result c.in_err-multiple.field-0.0 (IsCaused c.rational_times_term.new.pool) c.from_residual.ensures.0 c.from_residual.ensures.1 (c.in_err-multiple.ensures.caused)
+
+pub returns-clause-kept : goal.returns-clause-kept
+returns-clause-kept c = kept_after c.loop-at.invariant.kept c.move_last.ensures.kept

@@ -1,6 +1,16 @@
 use Rattle.coefficients.proofs.Shared.{ap, ◌∙◌, sym, refl, arith, released_free, rational, ratio_of, value_of, Fraction, num, Leads, IsMultiple, tree_of, behind_first, front_after, front_at}
 use Rattle.coefficients.proofs.{Shared.{front_same, front_without, gives_as, owned, seen, kind_of_root, product_kind, if_map}, Named.{named, multiple_named, leads_number}}
 use Rattle.coefficients.proofs.{LedFactors.{times_number, times_product, times_other}, Free.{number_refused}, Lacks.{refusal_lacks}}
+use Rattle.calc_terms.proofs.SmallLaws.{passed_on}
+use Rattle.node_pool.specs.State.{free_of}
+use Rattle.number_forms.proofs.Refusals.{none_given, none_kept}
+use Rattle.std.proofs.Common.{subst}
+use Rattle.tree_handles.proofs.Refused.{kept_after, kept_same, refuses_after}
+use Rattle.tree_handles.specs.Causes.{IsCaused, Overflows}
+use Rattle.tree_handles.specs.Faults.{Faults, OfOverflow}
+use Rattle.tree_handles.specs.Lacking.{OfFull}
+use Rattle.tree_handles.specs.declared.fault.NumberFault.TheVariants as fault
+use Rattle.coefficients.proofs.Shared.{◌<◌}
 use Rattle.coefficients.proofs.multiples.rational_times.Goals as goal
 
 pub returns-in_err-number-in-Num-clause-front : goal.returns-in_err-number-in-Num-clause-front
@@ -53,3 +63,57 @@ returns-in_err-number-in-Num-clause-few c =
     let more = released_free c.requires.stands c.release.ensures.stands c.release.ensures.kept c.requires.handed (c.release.ensures.owned (owned c.requires.handed)) in
     refusal_lacks c.from_residual-in_err-number-in-Num.result c.in_err-number-in-Num.field-0.0 _ c.from_residual-in_err-number-in-Num.ensures.1
     (omega (arith, number_refused (rational (ratio_of c.in_ok-product-in-Num.product)) c.in_err-number-in-Num.ensures.full, more))
+
+pub returns-in_err-product-in-Num-clause-ok : goal.returns-in_err-product-in-Num-clause-ok
+returns-in_err-product-in-Num-clause-ok c = none_given c.from_residual.result _ c.from_residual.ensures.0
+
+pub returns-in_err-product-in-Num-clause-kept : goal.returns-in_err-product-in-Num-clause-kept
+returns-in_err-product-in-Num-clause-kept c = none_kept c.from_residual.result _ c.from_residual.ensures.0
+
+pub returns-in_err-product-in-Num-clause-faults : goal.returns-in_err-product-in-Num-clause-faults
+returns-in_err-product-in-Num-clause-faults c = passed_on c.from_residual.result (fault.Overflow c.in_err-product-in-Num.field-0.0) (Faults c.args.pool.now c.args.pool.now) c.from_residual.ensures.0 c.from_residual.ensures.1 (kept_same c.args.pool.now)
+
+pub returns-in_err-product-in-Num-clause-caused : goal.returns-in_err-product-in-Num-clause-caused
+returns-in_err-product-in-Num-clause-caused c = passed_on c.from_residual.result (fault.Overflow c.in_err-product-in-Num.field-0.0) (IsCaused c.args.pool.now) c.from_residual.ensures.0 c.from_residual.ensures.1 (subst Overflows (sym c.in_err-product-in-Num.ensures.named) (c.in_err-product-in-Num.ensures.refused.0 refl))
+
+pub returns-in_err-product-in-Num-clause-front : goal.returns-in_err-product-in-Num-clause-front
+returns-in_err-product-in-Num-clause-front c = front_same
+
+pub returns-in_err-product-in-Num-clause-few : goal.returns-in_err-product-in-Num-clause-few
+returns-in_err-product-in-Num-clause-few c = passed_on c.from_residual.result (fault.Overflow c.in_err-product-in-Num.field-0.0) (OfFull (λ full. free_of c.args.pool.now < 48)) c.from_residual.ensures.0 c.from_residual.ensures.1 (tt)
+
+pub returns-in_err-number-in-Num-clause-ok : goal.returns-in_err-number-in-Num-clause-ok
+returns-in_err-number-in-Num-clause-ok c = none_given c.from_residual-in_err-number-in-Num.result _ c.from_residual-in_err-number-in-Num.ensures.0
+
+pub returns-in_err-number-in-Num-clause-kept : goal.returns-in_err-number-in-Num-clause-kept
+returns-in_err-number-in-Num-clause-kept c = none_kept c.from_residual-in_err-number-in-Num.result _ c.from_residual-in_err-number-in-Num.ensures.0
+
+pub returns-in_err-number-in-Num-clause-faults : goal.returns-in_err-number-in-Num-clause-faults
+returns-in_err-number-in-Num-clause-faults c = passed_on c.from_residual-in_err-number-in-Num.result (fault.Full c.in_err-number-in-Num.field-0.0) (Faults c.args.pool.now c.number.new.pool) c.from_residual-in_err-number-in-Num.ensures.0 c.from_residual-in_err-number-in-Num.ensures.1 (refuses_after c.release.ensures.kept c.in_err-number-in-Num.ensures.full.refuses)
+
+pub returns-in_err-number-in-Num-clause-caused : goal.returns-in_err-number-in-Num-clause-caused
+returns-in_err-number-in-Num-clause-caused c = passed_on c.from_residual-in_err-number-in-Num.result (fault.Full c.in_err-number-in-Num.field-0.0) (IsCaused c.number.new.pool) c.from_residual-in_err-number-in-Num.ensures.0 c.from_residual-in_err-number-in-Num.ensures.1 (c.in_err-number-in-Num.ensures.full.lacks)
+
+pub returns-in_err-number-in-Num-clause-named : goal.returns-in_err-number-in-Num-clause-named
+returns-in_err-number-in-Num-clause-named c = passed_on c.from_residual-in_err-number-in-Num.result (fault.Full c.in_err-number-in-Num.field-0.0) (OfOverflow (IsMultiple (value_of c.args.q) (λ x. Leads x (tree_of c.args.term c.args.pool.now)))) c.from_residual-in_err-number-in-Num.ensures.0 c.from_residual-in_err-number-in-Num.ensures.1 (tt)
+
+pub returns-in_ok-number-in-Num-clause-kept : goal.returns-in_ok-number-in-Num-clause-kept
+returns-in_ok-number-in-Num-clause-kept c = kept_after c.release.ensures.kept c.in_ok-number-in-Num.ensures.kept
+
+pub returns-in_err-put_before-in_default-clause-ok : goal.returns-in_err-put_before-in_default-clause-ok
+returns-in_err-put_before-in_default-clause-ok c = none_given c.from_residual-in_err-put_before-in_default.result _ c.from_residual-in_err-put_before-in_default.ensures.0
+
+pub returns-in_err-put_before-in_default-clause-kept : goal.returns-in_err-put_before-in_default-clause-kept
+returns-in_err-put_before-in_default-clause-kept c = none_kept c.from_residual-in_err-put_before-in_default.result _ c.from_residual-in_err-put_before-in_default.ensures.0
+
+pub returns-in_err-put_before-in_default-clause-faults : goal.returns-in_err-put_before-in_default-clause-faults
+returns-in_err-put_before-in_default-clause-faults c = passed_on c.from_residual-in_err-put_before-in_default.result (fault.Full c.in_err-put_before-in_default.field-0.0) (Faults c.args.pool.now c.put_before.new.pool) c.from_residual-in_err-put_before-in_default.ensures.0 c.from_residual-in_err-put_before-in_default.ensures.1 (c.in_err-put_before-in_default.ensures.full)
+
+pub returns-in_err-put_before-in_default-clause-caused : goal.returns-in_err-put_before-in_default-clause-caused
+returns-in_err-put_before-in_default-clause-caused c = passed_on c.from_residual-in_err-put_before-in_default.result (fault.Full c.in_err-put_before-in_default.field-0.0) (IsCaused c.put_before.new.pool) c.from_residual-in_err-put_before-in_default.ensures.0 c.from_residual-in_err-put_before-in_default.ensures.1 (c.in_err-put_before-in_default.ensures.caused)
+
+pub returns-in_err-put_before-in_default-clause-named : goal.returns-in_err-put_before-in_default-clause-named
+returns-in_err-put_before-in_default-clause-named c = passed_on c.from_residual-in_err-put_before-in_default.result (fault.Full c.in_err-put_before-in_default.field-0.0) (OfOverflow (IsMultiple (value_of c.args.q) (λ x. Leads x (tree_of c.args.term c.args.pool.now)))) c.from_residual-in_err-put_before-in_default.ensures.0 c.from_residual-in_err-put_before-in_default.ensures.1 (tt)
+
+pub returns-in_err-put_before-in_default-clause-few : goal.returns-in_err-put_before-in_default-clause-few
+returns-in_err-put_before-in_default-clause-few c = passed_on c.from_residual-in_err-put_before-in_default.result (fault.Full c.in_err-put_before-in_default.field-0.0) (OfFull (λ full. free_of c.args.pool.now < 48)) c.from_residual-in_err-put_before-in_default.ensures.0 c.from_residual-in_err-put_before-in_default.ensures.1 (c.in_err-put_before-in_default.ensures.few)

@@ -4,6 +4,16 @@ use Rattle.coefficients.proofs.{Shared.{given_root, owned, over_product, over_ha
 use Rattle.coefficients.proofs.{LedFactors.{IsRationalLed, first_led, first_seen, led_taken, led_dropped, added_front, times_to_one, times_to_other, times_unled}, Lengths.{long}}
 use Rattle.coefficients.proofs.{Free.{taken_free, number_refused}, Lacks.{refusal_lacks}, multiples.rational_times_factors.Goals.{After-take_child-old, After-release}}
 use Rattle.calc_terms.specs.declared.kind.Kind.TheVariants as kind
+use Rattle.calc_terms.proofs.SmallLaws.{passed_on}
+use Rattle.node_pool.specs.State.{free_of}
+use Rattle.number_forms.proofs.Refusals.{none_given, none_kept}
+use Rattle.tree_handles.proofs.Fronts.{front_same}
+use Rattle.tree_handles.proofs.Refused.{kept_after, kept_same, refuses_after}
+use Rattle.tree_handles.specs.Causes.{IsCaused, Overflows}
+use Rattle.tree_handles.specs.Faults.{Faults, OfOverflow}
+use Rattle.tree_handles.specs.Lacking.{OfFull}
+use Rattle.tree_handles.specs.declared.fault.NumberFault.TheVariants as fault
+use Rattle.coefficients.proofs.Shared.{◌<◌}
 use Rattle.coefficients.proofs.multiples.rational_times_factors.Goals as goal
 
 pub child_id-first-requires-clause-within : goal.child_id-first-requires-clause-within
@@ -103,3 +113,36 @@ returns-in_err-put_first-in-Num-clause-few c =
     let more = released_free c.take_child-old.ensures.stands c.release.ensures.stands c.release.ensures.kept (given_handed x.1.gives) (c.release.ensures.owned (owned (given_handed x.1.gives))) in
     refusal_lacks c.from_residual-in_err-put_first-in-Num.result c.in_err-put_first-in-Num.field-0.0 _ c.from_residual-in_err-put_first-in-Num.ensures.1
     (omega (arith, number_refused (rational (ratio_of c.in_ok-leading-in-Num.leading)) c.in_err-put_first-in-Num.ensures.full, same, more))
+
+pub returns-in_err-leading-in-Num-clause-ok : goal.returns-in_err-leading-in-Num-clause-ok
+returns-in_err-leading-in-Num-clause-ok c = none_given c.from_residual.result _ c.from_residual.ensures.0
+
+pub returns-in_err-leading-in-Num-clause-kept : goal.returns-in_err-leading-in-Num-clause-kept
+returns-in_err-leading-in-Num-clause-kept c = none_kept c.from_residual.result _ c.from_residual.ensures.0
+
+pub returns-in_err-leading-in-Num-clause-faults : goal.returns-in_err-leading-in-Num-clause-faults
+returns-in_err-leading-in-Num-clause-faults c = passed_on c.from_residual.result (fault.Overflow c.in_err-leading-in-Num.field-0.0) (Faults c.args.pool.now c.args.pool.now) c.from_residual.ensures.0 c.from_residual.ensures.1 (kept_same c.args.pool.now)
+
+pub returns-in_err-leading-in-Num-clause-caused : goal.returns-in_err-leading-in-Num-clause-caused
+returns-in_err-leading-in-Num-clause-caused c = passed_on c.from_residual.result (fault.Overflow c.in_err-leading-in-Num.field-0.0) (IsCaused c.args.pool.now) c.from_residual.ensures.0 c.from_residual.ensures.1 (subst Overflows (sym c.in_err-leading-in-Num.ensures.named) (c.in_err-leading-in-Num.ensures.refused.0 refl))
+
+pub returns-in_err-leading-in-Num-clause-front : goal.returns-in_err-leading-in-Num-clause-front
+returns-in_err-leading-in-Num-clause-front c = front_same
+
+pub returns-in_err-leading-in-Num-clause-few : goal.returns-in_err-leading-in-Num-clause-few
+returns-in_err-leading-in-Num-clause-few c = passed_on c.from_residual.result (fault.Overflow c.in_err-leading-in-Num.field-0.0) (OfFull (λ full. free_of c.args.pool.now < 48)) c.from_residual.ensures.0 c.from_residual.ensures.1 (tt)
+
+pub returns-in_err-put_first-in-Num-clause-ok : goal.returns-in_err-put_first-in-Num-clause-ok
+returns-in_err-put_first-in-Num-clause-ok c = none_given c.from_residual-in_err-put_first-in-Num.result _ c.from_residual-in_err-put_first-in-Num.ensures.0
+
+pub returns-in_err-put_first-in-Num-clause-kept : goal.returns-in_err-put_first-in-Num-clause-kept
+returns-in_err-put_first-in-Num-clause-kept c = none_kept c.from_residual-in_err-put_first-in-Num.result _ c.from_residual-in_err-put_first-in-Num.ensures.0
+
+pub returns-in_err-put_first-in-Num-clause-faults : goal.returns-in_err-put_first-in-Num-clause-faults
+returns-in_err-put_first-in-Num-clause-faults c = passed_on c.from_residual-in_err-put_first-in-Num.result (fault.Full c.in_err-put_first-in-Num.field-0.0) (Faults c.args.pool.now c.put_first.new.pool) c.from_residual-in_err-put_first-in-Num.ensures.0 c.from_residual-in_err-put_first-in-Num.ensures.1 (refuses_after (kept_after c.take_child-old.ensures.kept c.release.ensures.kept) c.in_err-put_first-in-Num.ensures.full.refuses)
+
+pub returns-in_err-put_first-in-Num-clause-caused : goal.returns-in_err-put_first-in-Num-clause-caused
+returns-in_err-put_first-in-Num-clause-caused c = passed_on c.from_residual-in_err-put_first-in-Num.result (fault.Full c.in_err-put_first-in-Num.field-0.0) (IsCaused c.put_first.new.pool) c.from_residual-in_err-put_first-in-Num.ensures.0 c.from_residual-in_err-put_first-in-Num.ensures.1 (c.in_err-put_first-in-Num.ensures.full.lacks)
+
+pub returns-in_err-put_first-in-Num-clause-named : goal.returns-in_err-put_first-in-Num-clause-named
+returns-in_err-put_first-in-Num-clause-named c = passed_on c.from_residual-in_err-put_first-in-Num.result (fault.Full c.in_err-put_first-in-Num.field-0.0) (OfOverflow (IsMultiple (value_of c.args.q) (λ x. Leads x (tree_of c.args.product c.args.pool.now)))) c.from_residual-in_err-put_first-in-Num.ensures.0 c.from_residual-in_err-put_first-in-Num.ensures.1 (tt)

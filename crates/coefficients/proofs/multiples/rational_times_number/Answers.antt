@@ -3,6 +3,11 @@ use Rattle.coefficients.proofs.Shared.{rational_times, count, changes_front, cha
 use Rattle.coefficients.proofs.{Shared.{SpansTree, Tree, add, size, free_of, tree_of}, Loops.{IsNext, next_at, sum_row, none_done, part_within, part_told, part_next, part_all, part_free}}
 use Rattle.coefficients.proofs.{Loops.{term_reduced}, Named.{passed_named, multiple_of, leads_behind}, Lacks.{passed_lacks, factor_of, sum_whole}, Rooms.{number_lacks}}
 use Rattle.coefficients.proofs.multiples.rational_times_number.Goals.{After-children-terms, After-open_child-hole}
+use Rattle.calc_terms.proofs.SmallLaws.{passed_on}
+use Rattle.number_forms.proofs.Refusals.{faults_after, none_given, none_kept}
+use Rattle.tree_handles.proofs.Refused.{kept_after}
+use Rattle.tree_handles.specs.Causes.{IsCaused}
+use Rattle.tree_handles.specs.Faults.{Faults}
 use Rattle.coefficients.proofs.multiples.rational_times_number.Goals as goal
 
 many : (c : After-children-terms) → c.children-terms.result ≡ count (children_of (tree_of c.args.sum c.args.pool.now))
@@ -73,3 +78,18 @@ returns-in_err-multiple-clause-room c gs z o k s =
     (λ g l. subst (λ (v : Tree). free_of c.args.pool.now + size v < 96 * 2 ^ length gs + 56) (sym parts)
     (number_lacks gs (value_of c.args.q) n.done n.t n.rest (free_of c.args.pool.now) (free_of c.open_child-hole.new.pool) (factor_of (value_of c.args.q) z o)
     (sym (ap is_number parts) ∙ k) (subst (SpansTree gs) parts s) (omega (arith, free, c.open_child-hole.ensures.free)) l))
+
+pub returns-in_err-multiple-clause-ok : goal.returns-in_err-multiple-clause-ok
+returns-in_err-multiple-clause-ok c = none_given c.from_residual.result _ c.from_residual.ensures.0
+
+pub returns-in_err-multiple-clause-kept : goal.returns-in_err-multiple-clause-kept
+returns-in_err-multiple-clause-kept c = none_kept c.from_residual.result _ c.from_residual.ensures.0
+
+pub returns-in_err-multiple-clause-faults : goal.returns-in_err-multiple-clause-faults
+returns-in_err-multiple-clause-faults c = passed_on c.from_residual.result c.in_err-multiple.field-0.0 (Faults c.args.pool.now c.rational_times.new.pool) c.from_residual.ensures.0 c.from_residual.ensures.1 (faults_after _ c.in_err-multiple.field-0.0 (kept_after c.loop-at.invariant.kept c.open_child-hole.ensures.kept) c.in_err-multiple.ensures.faults)
+
+pub returns-in_err-multiple-clause-caused : goal.returns-in_err-multiple-clause-caused
+returns-in_err-multiple-clause-caused c = passed_on c.from_residual.result c.in_err-multiple.field-0.0 (IsCaused c.rational_times.new.pool) c.from_residual.ensures.0 c.from_residual.ensures.1 (c.in_err-multiple.ensures.caused)
+
+pub returns-clause-kept : goal.returns-clause-kept
+returns-clause-kept c = kept_after c.loop-at.invariant.kept c.move_last.ensures.kept

@@ -4,6 +4,11 @@ use Rattle.coefficients.proofs.Shared.{changes_last_front, hole_stays, set_child
 use Rattle.coefficients.proofs.{Named.{passed_named, multiple_of, leads_coefficient}, LedFactors.{IsSumLed, sum_led, led_children, led_reduced, times_led, times_sum_unled}, Lacks.{passed_lacks}}
 use Rattle.coefficients.proofs.{Rooms.{coefficient_lacks}, multiples.rational_times_term.Goals.{After-open_child-hole, After-fill}}
 use Rattle.tree_room.specs.Needs as need
+use Rattle.calc_terms.proofs.SmallLaws.{passed_on}
+use Rattle.number_forms.proofs.Refusals.{faults_after, none_given, none_kept}
+use Rattle.tree_handles.proofs.Refused.{kept_after}
+use Rattle.tree_handles.specs.Causes.{IsCaused}
+use Rattle.tree_handles.specs.Faults.{Faults}
 use Rattle.coefficients.proofs.multiples.rational_times_term.Goals as goal
 
 pub is_led_by_sum-requires-clause-expression : goal.is_led_by_sum-requires-clause-expression
@@ -82,3 +87,18 @@ returns-in_err-multiple-clause-room c gs z o s leads =
     (λ g k. subst (λ (v : Tree). free_of c.args.pool.now + size v < need.tree_bytes (counted v) (2 ^ length gs) + 104) (sym l.whole)
     (coefficient_lacks gs l.terms l.rest (free_of c.args.pool.now) (sym (ap is_reduced l.whole) ∙ c.requires.reduced) l.number spans.1.1
     (omega (arith, c.open_child-hole.ensures.free, ap size d.1, k))))
+
+pub returns-in_err-multiple-clause-ok : goal.returns-in_err-multiple-clause-ok
+returns-in_err-multiple-clause-ok c = none_given c.from_residual.result _ c.from_residual.ensures.0
+
+pub returns-in_err-multiple-clause-kept : goal.returns-in_err-multiple-clause-kept
+returns-in_err-multiple-clause-kept c = none_kept c.from_residual.result _ c.from_residual.ensures.0
+
+pub returns-in_err-multiple-clause-faults : goal.returns-in_err-multiple-clause-faults
+returns-in_err-multiple-clause-faults c = passed_on c.from_residual.result c.in_err-multiple.field-0.0 (Faults c.args.pool.now c.rational_times_number.new.pool) c.from_residual.ensures.0 c.from_residual.ensures.1 (faults_after _ c.in_err-multiple.field-0.0 c.open_child-hole.ensures.kept c.in_err-multiple.ensures.faults)
+
+pub returns-in_err-multiple-clause-caused : goal.returns-in_err-multiple-clause-caused
+returns-in_err-multiple-clause-caused c = passed_on c.from_residual.result c.in_err-multiple.field-0.0 (IsCaused c.rational_times_number.new.pool) c.from_residual.ensures.0 c.from_residual.ensures.1 (c.in_err-multiple.ensures.caused)
+
+pub returns-clause-kept : goal.returns-clause-kept
+returns-clause-kept c = kept_after c.open_child-hole.ensures.kept (kept_after c.in_ok-multiple.ensures.kept (kept_after c.fill.ensures.kept c.move_last.ensures.kept))

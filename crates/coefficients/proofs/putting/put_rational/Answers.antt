@@ -1,6 +1,13 @@
 use Rattle.coefficients.proofs.Shared.{◌∙◌, sym, ap, refl, arith, released_free, rational, ratio_of, value_of, num, behind_first, front_after, front_at, front_end, front_same, front_without, gives}
 use Rattle.coefficients.proofs.{Shared.{gives_as, owned, represents_handed, if_map, counted, tree_of, zero_value}, Puttings.{with_zero, with_one, with_other}, Free.{number_refused}}
 use Rattle.coefficients.proofs.{Lacks.{refusal_lacks}, Rooms.{few_for_put}}
+use Rattle.calc_terms.proofs.SmallLaws.{passed_on}
+use Rattle.coefficients.specs.Overflows.{NamesPut}
+use Rattle.number_forms.proofs.Refusals.{none_given, none_kept}
+use Rattle.tree_handles.proofs.Refused.{kept_after, refuses_after}
+use Rattle.tree_handles.specs.Causes.{IsCaused}
+use Rattle.tree_handles.specs.Faults.{Faults, OfOverflow}
+use Rattle.tree_handles.specs.declared.fault.NumberFault.TheVariants as fault
 use Rattle.coefficients.proofs.putting.put_rational.Goals as goal
 
 pub returns-in_err-number-clause-front : goal.returns-in_err-number-clause-front
@@ -36,3 +43,21 @@ returns-in_err-number-clause-room c gs s =
 
 pub returns-clause-room : goal.returns-clause-room
 returns-clause-room c gs s = c.put_other_rational.ensures.room gs (sym c.if-is_zero.ensures) (sym c.if-is_one.ensures) s
+
+pub returns-in_err-number-clause-ok : goal.returns-in_err-number-clause-ok
+returns-in_err-number-clause-ok c = none_given c.from_residual.result _ c.from_residual.ensures.0
+
+pub returns-in_err-number-clause-kept : goal.returns-in_err-number-clause-kept
+returns-in_err-number-clause-kept c = none_kept c.from_residual.result _ c.from_residual.ensures.0
+
+pub returns-in_err-number-clause-faults : goal.returns-in_err-number-clause-faults
+returns-in_err-number-clause-faults c = passed_on c.from_residual.result (fault.Full c.in_err-number.field-0.0) (Faults c.args.pool.now c.number.new.pool) c.from_residual.ensures.0 c.from_residual.ensures.1 (refuses_after c.release.ensures.kept c.in_err-number.ensures.full.refuses)
+
+pub returns-in_err-number-clause-caused : goal.returns-in_err-number-clause-caused
+returns-in_err-number-clause-caused c = passed_on c.from_residual.result (fault.Full c.in_err-number.field-0.0) (IsCaused c.number.new.pool) c.from_residual.ensures.0 c.from_residual.ensures.1 (c.in_err-number.ensures.full.lacks)
+
+pub returns-in_err-number-clause-named : goal.returns-in_err-number-clause-named
+returns-in_err-number-clause-named c = passed_on c.from_residual.result (fault.Full c.in_err-number.field-0.0) (OfOverflow (NamesPut (num (value_of c.args.q)) (tree_of c.args.part c.args.pool.now))) c.from_residual.ensures.0 c.from_residual.ensures.1 (tt)
+
+pub returns-then-is_zero-clause-kept : goal.returns-then-is_zero-clause-kept
+returns-then-is_zero-clause-kept c = kept_after c.release.ensures.kept c.in_ok-number.ensures.kept
