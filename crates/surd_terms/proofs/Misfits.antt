@@ -36,6 +36,14 @@ pub passed_list : (cs ds : List Calculation) → None ≡ first_misfit cs → fi
 passed_list [] ds h = refl
 passed_list (c ∷ cs) ds h = passed_more c cs ds (does_fit c) refl (passed_list cs ds) h
 
+-- and one whose first misfit is known has that first, whatever follows
+stopped_more : (c m : Calculation) (cs ds : List Calculation) (b : Bool) → does_fit c ≡ b → (Some m ≡ first_misfit cs → Some m ≡ first_misfit (cs ++ ds)) → Some m ≡ first_misfit (c ∷ cs) → Some m ≡ first_misfit (c ∷ cs ++ ds)
+stopped_more c m cs ds b e h k = grind arith
+
+pub stopped_list : (cs ds : List Calculation) (m : Calculation) → Some m ≡ first_misfit cs → Some m ≡ first_misfit (cs ++ ds)
+stopped_list [] ds m h = grind arith
+stopped_list (c ∷ cs) ds m h = stopped_more c m cs ds (does_fit c) refl (stopped_list cs ds m) h
+
 -- an overflow that is passed on
 pub refused_for : {A : Type 0} (r : Result A Overflow) (o : Overflow) (m : Option Calculation) → IsErr r → IsErrAnd r (λ x. x ≡ o) → Some (calculation_of o) ≡ m → misfit_of r ≡ m
 refused_for r o m h a e = grind arith

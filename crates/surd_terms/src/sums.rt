@@ -46,6 +46,17 @@ pub fn join(a: Term, b: Term) -> Result<Joined, Overflow>
         let coefficient = add(a.coefficient(), b.coefficient())?;
         return Ok(multiple(coefficient, a.radicand()));
     }
+    join_two(a, b)
+}
+
+/// The same by way of what the radicands share.
+fn join_two(a: Term, b: Term) -> Result<Joined, Overflow>
+    ensures joins { IfOk result (λ joined. Joins joined (term_of a) (term_of b)) }
+    ensures sum { IfOk result (λ joined. IfTerm joined (λ t. IsSum t (term_of a) (term_of b))) }
+    ensures apart { are_alike (term_of a).radicand (term_of b).radicand ≡ false → result ≡ Ok Joined.Apart }
+    ensures overflow { misfit_of result ≡ first_misfit (joining_calculations (term_of a) (term_of b)) }
+    ensures caused { IfErr result (λ e. DoesNotFit e.op (value_of e.a) (value_of e.b)) }
+{
     let Some((shared, first, second)) = alike(a.radicand(), b.radicand()) else {
         return Ok(Joined::Apart);
     };
