@@ -1,5 +1,5 @@
 //! Products of two terms.
-ghost use Rattle.std.specs.Prelude.{◌≡◌, ◌↔◌, ◌*◌, ◌/◌, pos, ◌<◌, ◌≤◌, ◌^◌, ◌⊎◌, IsErr, IfOk, IfErr, MatchOption, [], ◌∷◌};
+ghost use Rattle.std.specs.Prelude.{◌≡◌, ◌≢◌, ◌↔◌, ◌*◌, ◌/◌, pos, ◌<◌, ◌≤◌, ◌^◌, ◌⊎◌, IsErr, IfOk, IfErr, MatchOption, [], ◌∷◌};
 ghost use Rattle.calc_algebra.specs.Clean.{IsClean};
 ghost use Rattle.calc_terms.specs.Fractions.{whole_fraction};
 ghost use Rattle.calc_terms.specs.Gcd.{gcd as gcd_of};
@@ -64,6 +64,19 @@ pub fn product_with(a: Term, b: Term, clean: u128) -> Result<Term, Overflow>
         let coefficient = mul(a.coefficient(), b.coefficient())?;
         return Ok(Term::new(coefficient, a.radicand()));
     }
+    product_of_roots(a, b, clean)
+}
+
+/// The same of two terms with a root.
+fn product_of_roots(a: Term, b: Term, clean: u128) -> Result<Term, Overflow>
+    requires clean { IsClean clean }
+    requires first { (term_of a).radicand ≢ 1 }
+    requires second { (term_of b).radicand ≢ 1 }
+    ensures product { IfOk result (λ t. Same (term_of t ∷ []) (term_times (term_of a) (term_of b) ∷ [])) }
+    ensures extracted { IfOk result (λ t. IsExtracted (term_of t) (term_times (term_of a) (term_of b))) }
+    ensures overflow { IsProductMisfit (term_of a) (term_of b) (misfit_of result) }
+    ensures caused { IfErr result (λ e. DoesNotFit e.op (value_of e.a) (value_of e.b)) }
+{
     let (root, radicand) = square_part(a.radicand(), b.radicand(), clean)?;
     let coefficient = scaled_product(a.coefficient(), b.coefficient(), root)?;
     Ok(Term::new(coefficient, radicand))

@@ -1,6 +1,6 @@
 use Rattle.surd_terms.proofs.Shared.{◌≡◌, ◌*◌, inl, inr, pos, [], refl, ap, sym, ◌∙◌, arith, times, whole_fraction, Term, term, term_times, Mul, IsExtracted, term_of}
 use Rattle.surd_terms.proofs.{Misfits.{refused_for, step_misfit, step_fits}, ProductMisfits.{rational_misfit, coefficients_misfit, two_roots, cancelled_for}, Rationals.{whole_not_zero}}
-use Rattle.surd_terms.proofs.{Values.{times_not_zero, extracted_nothing, extracted_value}, products.product_with.Goals.{After-new, After-new-then-radicand-eq1-2, In_ok-root, After-new-2}}
+use Rattle.surd_terms.proofs.{Values.{times_not_zero, extracted_nothing, extracted_value}, products.product_with.Goals.{After-new, After-new-then-radicand-eq1-2}}
 use Rattle.surd_terms.proofs.products.product_with.Goals as goal
 
 -- ---- with a rational factor
@@ -58,32 +58,3 @@ pub returns-then-radicand-eq1-2-clause-overflow : goal.returns-then-radicand-eq1
 returns-then-radicand-eq1-2-clause-overflow c =
     rational_misfit (term_of c.args.a) (term_of c.args.b) _ (inr (sym c.radicand-2.ensures.value ∙ c.if-radicand-eq1-2.true)) c.args.a.clean c.args.b.clean
     (sym (step_fits Mul _ _ _ _ [] c.coefficient-then-radicand-eq1-2.ensures.value c.coefficient-then-radicand-eq1-2-2.ensures.value c.in_ok-coefficient-2.ensures.refused.1))
-
--- ---- with two roots
-
-pub new-requires-2-clause-not_zero : goal.new-requires-2-clause-not_zero
-new-requires-2-clause-not_zero c =
-    let factors = times_not_zero _ _ _ _ _ c.args.a.not_zero c.args.b.not_zero refl c.coefficient-2.ensures.value c.coefficient-3.ensures.value in
-    times_not_zero _ _ _ _ _ factors (whole_not_zero c.in_ok-root.root c.in_ok-root.ensures.root_positive) c.in_ok-coefficient-3.ensures.product refl refl
-
-taken_out : (c : After-new-2) → IsExtracted (term_of c.new-2.result) (term_times (term_of c.args.a) (term_of c.args.b))
-taken_out c = record {
-  root = c.in_ok-root.root;
-  square = (λ i. sym c.radicand-3.ensures.value i * sym c.radicand-4.ensures.value i) ∙ c.in_ok-root.ensures.product ∙ ap (λ (t : Term). c.in_ok-root.root * c.in_ok-root.root * t.radicand) (sym c.new-2.ensures);
-  coefficient = ap (λ (t : Term). t.coefficient) c.new-2.ensures ∙ c.in_ok-coefficient-3.ensures.product ∙ (λ i. times (times (c.coefficient-2.ensures.value i) (c.coefficient-3.ensures.value i)) (whole_fraction (pos c.in_ok-root.root)));
-}
-
-pub returns-in_err-coefficient-3-clause-overflow : goal.returns-in_err-coefficient-3-clause-overflow
-returns-in_err-coefficient-3-clause-overflow c =
-    coefficients_misfit (term_of c.args.a) (term_of c.args.b) _ c.in_ok-root.root c.in_ok-root.radicand
-    (two_roots (term_of c.args.a) (term_of c.args.b) c.radicand-3.result c.radicand-4.result c.radicand-3.ensures.value c.radicand-4.ensures.value
-    (λ e. c.if-radicand-eq1.false (c.radicand.ensures.value ∙ sym c.radicand-3.ensures.value ∙ e)) (λ e. c.if-radicand-eq1-2.false (c.radicand-2.ensures.value ∙ sym c.radicand-4.ensures.value ∙ e)) c.in_ok-root.ensures.overflow)
-    ((λ i. sym c.radicand-3.ensures.value i * sym c.radicand-4.ensures.value i) ∙ c.in_ok-root.ensures.product) c.in_ok-root.ensures.clean
-    (cancelled_for c.from_residual-in_err-coefficient-3.result c.in_err-coefficient-3.field-0.0 _ _ _ _ _ c.from_residual-in_err-coefficient-3.ensures.0 c.from_residual-in_err-coefficient-3.ensures.1 c.coefficient-2.ensures.value c.coefficient-3.ensures.value
-    c.in_err-coefficient-3.ensures.overflow)
-
-pub returns-clause-product : goal.returns-clause-product
-returns-clause-product c = extracted_value _ _ (taken_out c)
-
-pub returns-clause-extracted : goal.returns-clause-extracted
-returns-clause-extracted c = taken_out c
