@@ -162,7 +162,6 @@ impl NameTable {
 
     /// Removes the entry of a stored name. Its tree is released where no other entry holds it. Tells whether the name
     /// was stored.
-    #[tactic(auto, using(crate::proofs::Steps::entry_root))]
     pub fn forget(&mut self, pool: &mut Pool, name: Name) -> bool
         requires stands { Stands pool.old }
         requires held { IsHeld self.old (forest pool.old) }
