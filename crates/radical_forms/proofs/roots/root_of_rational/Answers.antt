@@ -3,6 +3,7 @@ use Rattle.radical_forms.proofs.Shared.{free_of, ratio_parts, told, whole_value,
 use Rattle.radical_forms.proofs.{Shared.{passed_on, tree_of, OfFull, term_tree, Overflow, LacksRoot, NamesProduct}, RootLaws.{zero_answer, positive_answer, negative_answer, not_above_zero}}
 use Rattle.radical_forms.proofs.RootLaws.{not_above_negative, answer_as, root_as, wide_as, positive_num, negative_num, not_negative_num, not_overflow, is_overflow, named_overflow, term_tree_is}
 use Rattle.radical_forms.proofs.{RootLaws.{term_lacks}, RootBits.{term_measured, zero_measured}, roots.root_of_rational.Goals.{Then-num-lt0, Then-num-eq0, Else-num-eq0}}
+use Rattle.std.proofs.lemmas.Bool.{false≢true}
 use Rattle.surd_terms.specs.Terms.{term_of}
 use Rattle.tree_handles.specs.declared.fault.NumberFault.TheVariants as fault
 use Rattle.radical_forms.proofs.roots.root_of_rational.Goals as goal
@@ -32,7 +33,7 @@ returns-in_err-zero-clause-overflows c =
 pub returns-in_err-zero-clause-full_below_96_bytes : goal.returns-in_err-zero-clause-full_below_96_bytes
 returns-in_err-zero-clause-full_below_96_bytes c = λ full.
     let free = released_free c.requires.stands c.release.ensures.stands c.release.ensures.kept c.requires.handed (c.release.ensures.owned (owned c.requires.handed)) in
-    let lacking : root_size (num (value_of c.args.q)) ≤ free_of c.release.new.pool → ⊥ = λ le. absurd (cc (c.in_err-zero.ensures.exactly.1 le)) in
+    let lacking : root_size (num (value_of c.args.q)) ≤ free_of c.release.new.pool → ⊥ = λ le. absurd (false≢true (c.in_err-zero.ensures.exactly.1 le)) in
     omega (arith, free, lacking, num_most (value_of c.args.q))
 
 pub returns-in_err-zero-clause-front : goal.returns-in_err-zero-clause-front
@@ -69,12 +70,12 @@ returns-in_err-term-clause-named c =
 pub returns-in_err-value-clause-overflows : goal.returns-in_err-value-clause-overflows
 returns-in_err-value-clause-overflows c =
     let p = ratio_parts c.args.q in
-    (λ x. absurd (not_overflow _ _ c.from_residual-in_err-value.ensures.1 x), λ w. absurd (cc (c.in_ok-term.ensures.refused.1 (wide_as _ _ _ _ p.num p.den w.1))))
+    (λ x. absurd (not_overflow _ _ c.from_residual-in_err-value.ensures.1 x), λ w. absurd (false≢true (c.in_ok-term.ensures.refused.1 (wide_as _ _ _ _ p.num p.den w.1))))
 
 pub returns-in_err-value-clause-full_below_96_bytes : goal.returns-in_err-value-clause-full_below_96_bytes
 returns-in_err-value-clause-full_below_96_bytes c = λ full.
     let free = released_free c.requires.stands c.release-2.ensures.stands c.release-2.ensures.kept c.requires.handed (c.release-2.ensures.owned (owned c.requires.handed)) in
-    let lacking : 96 ≤ free_of c.release-2.new.pool → ⊥ = λ le. absurd (cc (c.in_err-value.ensures.room le)) in
+    let lacking : 96 ≤ free_of c.release-2.new.pool → ⊥ = λ le. absurd (false≢true (c.in_err-value.ensures.room le)) in
     omega (arith, free, lacking)
 
 pub returns-in_err-value-clause-front : goal.returns-in_err-value-clause-front
@@ -90,7 +91,7 @@ returns c =
     record {
       ok = gives_as c.in_ok-value.ensures.ok gone
           (λ t e. positive_answer (value_of c.args.q) t (term_of c.in_ok-term.term) positive e (root_as _ _ _ _ _ (sym p.num) (sym p.den) c.in_ok-term.ensures.root));
-      overflows = (λ x. absurd x, λ w. absurd (cc (c.in_ok-term.ensures.refused.1 (wide_as _ _ _ _ p.num p.den w.1))));
+      overflows = (λ x. absurd x, λ w. absurd (false≢true (c.in_ok-term.ensures.refused.1 (wide_as _ _ _ _ p.num p.den w.1))));
       named = tt;
       measured = λ h. term_measured (value_of c.args.q) _ (term_of c.in_ok-term.term) _ positive (λ i. record { num = sym p.num i; den = sym p.den i }) c.in_ok-term.ensures.extracted told.0 told.1;
       room = omega (arith, released_free c.requires.stands c.release-2.ensures.stands c.release-2.ensures.kept c.requires.handed gone, least, ap size c.in_ok-value.ensures.tree);
@@ -119,7 +120,7 @@ pub returns-in_err-zero-clause-first_lack : goal.returns-in_err-zero-clause-firs
 returns-in_err-zero-clause-first_lack c =
     let free = released_free c.requires.stands c.release.ensures.stands c.release.ensures.kept c.requires.handed (c.release.ensures.owned (owned c.requires.handed)) in
     let enough : root_size (num (value_of c.args.q)) ≤ free_of c.release.new.pool = omega (arith, free, ap size c.requires.root) in
-    absurd (cc (c.in_err-zero.ensures.exactly.1 enough))
+    absurd (false≢true (c.in_err-zero.ensures.exactly.1 enough))
 
 pub returns-in_err-term-clause-first_lack : goal.returns-in_err-term-clause-first_lack
 returns-in_err-term-clause-first_lack c =
@@ -139,7 +140,7 @@ returns-in_err-value-clause-first_lack c =
 -- ---- how large it is
 
 pub returns-then-num-lt0-clause-measured : goal.returns-then-num-lt0-clause-measured
-returns-then-num-lt0-clause-measured c = λ h. absurd (cc (negative (goal.at.returns-then-num-lt0-clause-measured c).Then-num-lt0, h))
+returns-then-num-lt0-clause-measured c = λ h. absurd (false≢true (sym h ∙ negative (goal.at.returns-then-num-lt0-clause-measured c).Then-num-lt0))
 
 pub returns-then-num-eq0-clause-measured : goal.returns-then-num-eq0-clause-measured
 returns-then-num-eq0-clause-measured c = λ h. zero_measured (value_of c.args.q) _ (given_told c.in_ok-zero.ensures.given) (zero_num (goal.at.returns-then-num-eq0-clause-measured c).Then-num-eq0)
