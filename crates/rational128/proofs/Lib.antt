@@ -4,6 +4,7 @@ pub mod Coprime
 pub mod LowestTerms
 pub mod FitTests
 pub mod Signed
+pub mod Orders
 pub mod Products
 pub mod Sums
 pub mod PowerLaws
