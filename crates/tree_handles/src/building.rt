@@ -54,8 +54,7 @@ pub fn node_over_two(
     ensures stands { Stands pool.new }
 {
     if let Some(begin) = begin_of_last(pool, &left, &right) {
-        let over = node_over_last(pool, kind, 2, begin)?;
-        return Ok(over);
+        return node_over_last(pool, kind, 2, begin);
     }
     let pair = node(pool, kind)?;
     add_child(pool, &pair, 0, right);

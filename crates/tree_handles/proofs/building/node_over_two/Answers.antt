@@ -1,6 +1,8 @@
-use Rattle.tree_handles.proofs.{Shared.{ap, refl, Ends, bare, forest, join, one_tree, root_tree, without_root}, Fronts.{behind_first, behind_later, front_same, front_end, front_without}}
+use Rattle.tree_handles.proofs.Shared.{◌≡◌, ℕ, List, ap, refl, Ends, Err, Forest, Full, IfErr, IfOk, IsRefused, KeepsFront, Result, State, bare, forest, last_trees, one_tree}
+use Rattle.tree_handles.proofs.{Outcomes.if_map, Fronts.{behind_first, behind_later, front_same, front_at, front_end, front_without}}
 use Rattle.tree_handles.proofs.Given.{represents_none, represents_handed, represents_join, represents_with, represents_node, gives, gives_as, handed_beside}
-use Rattle.tree_handles.proofs.{Lasts.{ends_as, last_held, last_apart, other_root}, Roots.{tree-without, without-swap}, building.node_over_two.Goals.{In_ok-over}}
+use Rattle.tree_handles.proofs.{Lasts.{ends_as, last_held, last_apart, other_root}, Roots.{tree-without, without-swap}}
+use Rattle.std.specs.Prelude.{Ok}
 use Rattle.node_pool.proofs.Ids.{eqb_sym as eqb-sym}
 use Rattle.tree_handles.proofs.building.node_over_two.Goals as goal
 
@@ -40,13 +42,19 @@ returns-clause-front c =
 
 -- ---- where both stand last
 
-ends : (c : In_ok-over) → Ends c.in_ok-over.over (one_tree c.in_ok-over.over (bare c.args.kind) (join (root_tree c.args.left (forest c.args.pool.now)) (root_tree c.args.right (forest c.args.pool.now)))) (without_root c.args.left (without_root c.args.right (forest c.args.pool.now))) (forest c.node_over_last.new.pool)
-ends c = ends_as c.in_ok-over.ensures.ok (ap (one_tree c.in_ok-over.over (bare c.args.kind)) c.in-Some.ensures.trees) c.in-Some.ensures.others
-
 pub returns-in-Some-clause-ok : goal.returns-in-Some-clause-ok
-returns-in-Some-clause-ok c =
-    gives_as (gives (ends c) (represents_node c.in_ok-over.over (bare c.args.kind) (represents_join (represents_handed c.requires.first) (represents_handed c.requires.second)) c.requires.takes) refl)
-    (without-swap c.args.left c.args.right (forest c.args.pool.now) c.requires.apart) (λ t e. e)
+returns-in-Some-clause-ok c = if_map c.node_over_last.result _ _ c.node_over_last.ensures.ok (λ h e.
+    gives_as
+    (gives (ends_as e (ap (one_tree h (bare c.args.kind)) c.in-Some.ensures.trees) c.in-Some.ensures.others)
+    (represents_node h (bare c.args.kind) (represents_join (represents_handed c.requires.first) (represents_handed c.requires.second)) c.requires.takes) refl)
+    (without-swap c.args.left c.args.right (forest c.args.pool.now) c.requires.apart) (λ t e. e))
+
+-- what stood first, whatever the answer is
+kept : (n : ℕ) (s t : State) {handed : List ℕ} {f g : Forest} (r : Result ℕ Full) (T : ℕ → Forest) → IfOk r (λ h. Ends h (T h) f (forest t)) → f ≡ g → IfErr r (IsRefused n s t) → KeepsFront handed (forest s) g → KeepsFront handed (forest s) (forest t)
+kept n s t (Ok h) T e q r k = front_end (ends_as e refl q) k
+kept n s t (Err x) T e q r k = front_at front_same r.same
 
 pub returns-in-Some-clause-front : goal.returns-in-Some-clause-front
-returns-in-Some-clause-front c = front_end (ends c) (front_without behind_first (front_without (behind_later behind_first) front_same))
+returns-in-Some-clause-front c =
+    kept _ c.args.pool.now c.node_over_last.new.pool c.node_over_last.result (λ h. one_tree h (bare c.args.kind) (last_trees 2 (forest c.args.pool.now))) c.node_over_last.ensures.ok c.in-Some.ensures.others c.node_over_last.ensures.full
+    (front_without behind_first (front_without (behind_later behind_first) front_same))
