@@ -1,6 +1,6 @@
 -- How many terms are listed, and why none is listed any more.
-use Rattle.polynomials.proofs.Shared.{◌≡◌, ℕ, zero, suc, ◌+◌, ◌*◌, ◌^◌, ◌<◌, ◌≤◌, max, List, ◌++◌, length, take, ap, arith, length-append, mul-le-mul_left, mul_comm, pow-le-pow_right, pow-suc}
-use Rattle.polynomials.proofs.{Shared.{pow-zero, IfErr, IsErr, IsErrAnd, Result, Term, Unfit, AreBelow, IsCaused, OfCoefficient}, MergeLoops.{IsMerged}, Merges.{pushed}}
+use Rattle.polynomials.proofs.Shared.{◌≡◌, ℕ, zero, suc, ◌+◌, ◌*◌, ◌^◌, ◌<◌, ◌≤◌, max, List, ◌++◌, length, take, ap, arith, length-append, length-take-le, mul-le-mul_left, mul_comm, pow-le-pow_right, pow-suc}
+use Rattle.polynomials.proofs.{Shared.{pow-zero, IfErr, IfOk, IsErr, IsErrAnd, OnOk, Result, Term, Unfit, AreBelow, IsCaused, OfCoefficient}, MergeLoops.{IsMerged}, Merges.{pushed}}
 use Rattle.polynomials.proofs.Products.{IsPowerTo, IsProductTo}
 
 pub caused_more : {P Q : Type 0} (u : Unfit) → (P → Q) → IsCaused P u → IsCaused Q u
@@ -8,6 +8,14 @@ caused_more u f h = grind arith
 
 pub pushed_length : (xs : List Term) (t : Term) → length (pushed xs t) ≤ length xs + 1
 pushed_length xs t = grind (arith, length-append {A = Term})
+
+-- ---- where a call is refused
+
+pub not_given : {A E : Type 0} (r : Result A E) (P : A → Type 0) → IsErr r → IfOk r P
+not_given r P h = grind arith
+
+pub not_done : {A E : Type 0} (r : Result A E) (P : Type 0) → IsErr r → OnOk r P
+not_done r P h = grind arith
 
 -- ---- what loops keep
 
@@ -30,6 +38,12 @@ pub record IsPowerIn (base : List Term) (room i : ℕ) (list : List Term) (now :
   pub powers : IsPowerTo base i list
   pub few : length list ≤ length base ^ i
   pub room-kept : room ≤ now
+
+pub copied_full : {old terms : List Term} {limit room i : ℕ} {list : List Term} {now : ℕ} → IsCopied old terms limit room i list now → i < length terms → now ≤ length list → room < length old + length terms
+copied_full {old = old} {terms = terms} {i = i} k h full = omega (arith, k.room-kept, ap length k.items, length-append old (take i terms), length-take-le i terms (omega arith))
+
+pub merged_full : {sum terms : List Term} {f : Term} {room j : ℕ} {list rest : List Term} {now : ℕ} → IsMergedIn sum terms f room j list rest now → j < length terms → now < length list + length rest → room < length sum + length terms
+merged_full k h full = omega (arith, k.few, k.room-kept)
 
 -- ---- powers
 

@@ -1,5 +1,6 @@
 -- Two lists of terms on the way to one.
-use Rattle.polynomials.proofs.Shared.{◌≡◌, ℕ, zero, suc, ◌+◌, ◌<◌, ◌≤◌, List, [], ◌∷◌, ◌++◌, length, get_or, take, refl, sym, ap, ◌∙◌, subst, arith, append_assoc, map-append, take_more, Term}
+use Rattle.std.proofs.Common.{take_all}
+use Rattle.polynomials.proofs.Shared.{◌≡◌, ℕ, zero, suc, ◌+◌, ◌-◌, ◌<◌, ◌≤◌, List, [], ◌∷◌, ◌++◌, StartsFrom, drop, le_refl, length, length-drop, take-append-drop, get_or, take, refl, sym, ap, ◌∙◌, subst, arith, append_assoc, map-append, take_more, Term}
 use Rattle.polynomials.proofs.{Shared.{Polynomial, Summand, AreSame, HasExponents, HaveExponents, row, summand_times, AreBelow, AreTermsOf, IsNormal, polynomial_of, summand_of}, Merges.{terms_same}}
 use Rattle.polynomials.proofs.{Normal.{rises}, Worth.{same_cons, same_is, same_trans, same_turned}}
 
@@ -70,3 +71,36 @@ module _ (sum terms : List Term) (f : Term) (j : ℕ) (list rest : List Term) (m
       );
       below = λ n d a b. below (f.monomial + (get_or terms n d).monomial) (next n d a b);
     }
+
+-- all products are merged
+pub merged_all : (sum terms : List Term) (f : Term) (j : ℕ) (list rest new : List Term) → IsMerged sum terms f j list rest → length terms ≤ j → new ≡ list ++ rest → AreTermsOf (polynomial_of sum ++ row (summand_of f) (polynomial_of terms)) new
+merged_all sum terms f j list rest new m h e =
+    subst (λ (l : List Term). AreTermsOf (polynomial_of sum ++ row (summand_of f) (polynomial_of l)) new) (take_all j terms h)
+    (subst (AreTermsOf (polynomial_of sum ++ row (summand_of f) (polynomial_of (take j terms)))) (sym e) m.terms-are)
+
+-- ---- terms that are copied
+
+rest_is : (xs : List Term) (j : ℕ) → take (length xs - j) (drop j xs) ≡ drop j xs
+rest_is xs j = take_all (length xs - j) (drop j xs) (omega (arith, length-drop j xs))
+
+-- what was copied and what is left
+pub copied_and_rest : (list old xs : List Term) (j : ℕ) → list ≡ old ++ take j xs → list ++ take (length xs - j) (drop j xs) ≡ old ++ xs
+copied_and_rest list old xs j e = rw (rest_is xs j) (ap (λ (l : List Term). l ++ drop j xs) e ∙ append_assoc old (take j xs) (drop j xs) ∙ ap (λ (l : List Term). old ++ l) (take-append-drop j xs))
+
+pub all_copied : (list old xs : List Term) (j : ℕ) → length xs ≤ j → list ≡ old ++ take j xs → list ++ take (length xs - length xs) (drop (length xs) xs) ≡ old ++ xs
+all_copied list old xs j h e = copied_and_rest list old xs (length xs) (e ∙ ap (λ (l : List Term). old ++ l) (take_all j xs h ∙ sym (take_all (length xs) xs (le_refl (length xs)))))
+
+starts_at : (k : ℕ) (xs : List Term) (j : ℕ) (x : Term) → j < length xs → x ≡ get_or xs j x → k ≤ x.monomial → StartsFrom k (drop j xs)
+starts_at k [] j x h e l = absurd (omega arith)
+starts_at k (y ∷ xs) zero x h e l = subst (λ (t : Term). k ≤ t.monomial) e l
+starts_at k (y ∷ xs) (suc j) x h e l = starts_at k xs j x (omega arith) e l
+
+pub rest_starts : (k : ℕ) (xs : List Term) (j : ℕ) (x : Term) → j < length xs → x ≡ get_or xs j x → k ≤ x.monomial → StartsFrom k (take (length xs - j) (drop j xs))
+rest_starts k xs j x h e l = subst (StartsFrom k) (sym (rest_is xs j)) (starts_at k xs j x h e l)
+
+pub none_starts : (k : ℕ) (xs : List Term) → StartsFrom k (take (length xs - length xs) (drop (length xs) xs))
+none_starts k xs = subst (StartsFrom k) (sym (rest_is xs (length xs) ∙ none xs)) tt
+  where
+    none : (ys : List Term) → drop (length ys) ys ≡ []
+    none [] = refl
+    none (y ∷ ys) = none ys

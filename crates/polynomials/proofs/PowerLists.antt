@@ -5,6 +5,7 @@ use Rattle.polynomials.proofs.Shared.{whole, Rat, ArePowers, choices, summand_po
 use Rattle.polynomials.proofs.{Shared.{polynomial_of, summand_of}, BinomialTheorem.{binomial, choices_bound, mixed, mixed_to, power_exponents}, Exponents.{exponents_times, one_exponents}}
 use Rattle.polynomials.proofs.{Merges.{terms_same}, Worth.{same_cons, same_is, same_trans}}
 use Rattle.calc_terms.specs.Fractions.{one_fraction}
+use Rattle.std.proofs.Common.{nat_abs, refl}
 
 -- ---- powers
 
@@ -54,6 +55,20 @@ pub record AreMixedIn (first second : Term) (n room k count : ℕ) (list : List 
   pub few : length list ≤ k
   pub room-kept : room ≤ now
 
+choices_none : (n : ℕ) → 1 ≡ choices n 0
+choices_none zero = refl
+choices_none (suc n) = refl
+
+-- before the first product
+pub mixed_start : (first second : Term) (n room : ℕ) (list : List Term) (now : ℕ) → list ≡ [] → room ≤ now → AreMixedIn first second n room 0 1 list now
+mixed_start first second n room list now e h = record {
+  terms-are = subst (AreTermsOf (mixed_to (summand_of first) (summand_of second) n 0)) (sym e) (record { normal = tt; same = same_is refl });
+  exponents = λ d g k. subst (λ (l : List Term). HaveExponents (n * d) (polynomial_of l)) (sym e) tt;
+  count-is = choices_none n;
+  few = omega (arith, ap length e);
+  room-kept = h;
+}
+
 -- the product of three is the summand with a count
 pub mixed_is : (s t : Summand) (c i j : ℕ) (r : Rat) (x a b p y : Term) → ratio_of r ≡ whole (pos c) → summand_of x ≡ summand (value_of r) one_monomial
     → summand_of a ≡ summand_power s i → summand_of b ≡ summand_power t j → summand_of p ≡ summand_times (summand_of a) (summand_of b) → summand_of y ≡ summand_times (summand_of x) (summand_of p)
@@ -64,6 +79,9 @@ mixed_is s t c i j r x a b p y e f g h k l =
 -- of 64 bits
 pub count_told : (z : ℤ) (n : ℕ) → z ≡ pos n → n < 2 ^ 64 → to_z w128 (of_z w128 z) ≡ pos n
 count_told z n e l = ap (λ (y : ℤ). to_z w128 (of_z w128 y)) e ∙ to_z-of_z w128 (pos n) (omega (arith, l))
+
+pub count_small : (z : ℤ) (n : ℕ) → z ≡ pos n → n < 2 ^ 64 → nat_abs (to_z w128 (of_z w128 z)) < 2 ^ 127
+count_small z n e l = subst (λ (y : ℤ). nat_abs y < 2 ^ 127) (sym (count_told z n e l)) (omega (arith, l))
 
 -- the count of the next one fits
 pub count_fits : (n k c d : ℕ) → n ≤ 32 → c ≡ choices n k → d ≤ n → c * d < 2 ^ 64

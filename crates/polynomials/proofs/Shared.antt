@@ -10,4 +10,4 @@ pub use Rattle.std.proofs.Common.{Bool, List, [], add_assoc, add_comm, ap, appen
 pub use Rattle.std.proofs.Common.{mul-div_cancel, mul-le-mul, of_z, pos, refl, subst, suc, sym, take, take-append-drop, to_z, true, zero, ℕ, ℤ, ◌%◌, ◌*◌, ◌++◌, ◌+◌, ◌-◌, ◌/◌, ◌<◌, ◌^◌, ◌∙◌, ◌∷◌, ◌≡◌}
 pub use Rattle.std.proofs.{Common.{◌≢◌, ◌≤◌, ◌⊎◌}, lemmas.Result.{IfErr-weaker, on_ok_weaker}, lemmas.List.{get_or_append_left, get_or_push, length-drop, length-take-le, map-append, take_more}}
 pub use Rattle.std.proofs.{Math.Nat.{mul-le-mul_left, mul-le-mul_right, mul_comm, pow-le-pow_right, pow-suc, pow-zero}, lemmas.Int.{to_z-of_z}}
-pub use Rattle.std.specs.{Prelude.{IfErr, IsErr, IsErrAnd, OnOk, Result, if◌then◌else◌, insert, remove, vec_capacity}, Int.{w128}}
+pub use Rattle.std.specs.{Prelude.{IfErr, IfOk, IsErr, IsErrAnd, OnOk, Result, if◌then◌else◌, insert, remove, vec_capacity}, Int.{w128}}

@@ -1,6 +1,9 @@
 use Rattle.polynomials.proofs.Shared.{◌≡◌, ℕ, ◌+◌, ◌-◌, ◌*◌, ◌/◌, ◌≤◌, get_or, ap, ◌∙◌, sym, subst, arith, whole, choices, summand_power, HasExponents, Summand, summand_of}
-use Rattle.polynomials.proofs.{BinomialTheorem.{choices_next, mixed}, Exponents.{exponents_times, one_exponents}, PowerLists.{all_mixed, count_fits, count_told, factors_within, listed_exponents}}
-use Rattle.polynomials.proofs.{PowerLists.{mixed_exponents, mixed_is, mixed_terms}, binomials.binomial_power.Goals.{After-index-in-loop-k}}
+use Rattle.polynomials.proofs.{BinomialTheorem.{choices_next, mixed}, Exponents.{exponents_times, one_exponents}, PowerLists.{all_mixed, count_fits, count_small, count_told, factors_within, listed_exponents}}
+use Rattle.std.specs.Prelude.{vec_len}
+use Rattle.std.proofs.Common.{rules}
+use Rattle.polynomials.proofs.{Shared.{passed_on, length, ◌<◌, ◌^◌}, Causes.{caused_more, not_done}}
+use Rattle.polynomials.proofs.{PowerLists.{mixed_exponents, mixed_is, mixed_start, mixed_terms}, binomials.binomial_power.Goals.{After-index-in-loop-k}}
 use Rattle.polynomials.proofs.binomials.binomial_power.Goals as goal
 
 -- the two powers
@@ -81,3 +84,107 @@ loop-k-preserved c =
 pub returns-clause-terms : goal.returns-clause-terms
 returns-clause-terms c =
     all_mixed c.args.first c.args.second c.args.exponent c.loop-k.k c.loop-k.list.items (omega arith) c.loop-k.invariant.terms-are
+
+-- ---- refusals
+
+pub returns-in_err-list_powers : goal.returns-in_err-list_powers
+returns-in_err-list_powers c =
+    let r = c.from_residual in
+    let u = c.in_err-list_powers.field-0.0 in
+    record {
+      terms = not_done r.result _ r.ensures.0;
+      exponents = λ d h g. not_done r.result _ r.ensures.0;
+      few = not_done r.result _ r.ensures.0;
+      unfit = passed_on r.result u _ r.ensures.0 r.ensures.1 (caused_more u (λ h. omega (arith, h)) c.in_err-list_powers.ensures.unfit);
+    }
+
+pub returns-in_err-list_powers-2 : goal.returns-in_err-list_powers-2
+returns-in_err-list_powers-2 c =
+    let r = c.from_residual-in_err-list_powers-2 in
+    let u = c.in_err-list_powers-2.field-0.0 in
+    record {
+      terms = not_done r.result _ r.ensures.0;
+      exponents = λ d h g. not_done r.result _ r.ensures.0;
+      few = not_done r.result _ r.ensures.0;
+      unfit = passed_on r.result u _ r.ensures.0 r.ensures.1 (caused_more u (λ h. omega (arith, h)) c.in_err-list_powers-2.ensures.unfit);
+    }
+
+pub returns-in_err-product : goal.returns-in_err-product
+returns-in_err-product c =
+    let r = c.from_residual-in_err-product in
+    let u = c.in_err-product.field-0.0 in
+    record {
+      terms = not_done r.result _ r.ensures.0;
+      exponents = λ d h g. not_done r.result _ r.ensures.0;
+      few = not_done r.result _ r.ensures.0;
+      unfit = passed_on r.result u _ r.ensures.0 r.ensures.1 (caused_more u (λ h. absurd h) c.in_err-product.ensures.unfit);
+    }
+
+pub returns-in_err-times : goal.returns-in_err-times
+returns-in_err-times c =
+    let r = c.from_residual-in_err-times in
+    let u = c.in_err-times.field-0.0 in
+    record {
+      terms = not_done r.result _ r.ensures.0;
+      exponents = λ d h g. not_done r.result _ r.ensures.0;
+      few = not_done r.result _ r.ensures.0;
+      unfit = passed_on r.result u _ r.ensures.0 r.ensures.1 (caused_more u (λ h. absurd h) c.in_err-times.ensures.unfit);
+    }
+
+pub returns-in_err-insert : goal.returns-in_err-insert
+returns-in_err-insert c =
+    let r = c.from_residual-in_err-insert in
+    let u = c.in_err-insert.field-0.0 in
+    record {
+      terms = not_done r.result _ r.ensures.0;
+      exponents = λ d h g. not_done r.result _ r.ensures.0;
+      few = not_done r.result _ r.ensures.0;
+      unfit = passed_on r.result u _ r.ensures.0 r.ensures.1 (caused_more u (λ h. omega (arith, h, c.loop-k.invariant.few, c.loop-k.invariant.room-kept)) c.in_err-insert.ensures.unfit);
+    }
+
+-- ---- the loop
+
+pub loop-k-init : goal.loop-k-init
+loop-k-init c = mixed_start _ _ _ _ _ _ c.clear.ensures.items (omega arith)
+
+within : (k n : ℕ) → k < n + 1 → k ≤ n
+within k n h = omega arith
+
+less : (n k : ℕ) → n - k ≤ n
+less n k = omega arith
+
+listed : (r i n len many : ℕ) → r ≡ i → i ≤ n → many ≡ n + 1 → len ≡ many → r < len
+listed r i n len many e h m l = omega arith
+
+counted_on : (r k n : ℕ) → r ≡ k → k < n + 1 → n ≤ 32 → r + 1 < 2 ^ 64
+counted_on r k n e h l = omega arith
+
+pub index-requires : goal.index-requires
+index-requires c =
+    let v = c.list_powers.new.powers in
+    let len : vec_len v ≡ length v.items = search rules in
+    listed c.from.result (c.args.exponent - c.loop-k.k) c.args.exponent (vec_len v) (length v.items) c.from.ensures (less c.args.exponent c.loop-k.k) c.in_ok-list_powers.ensures.powers.many len
+
+pub index-requires-in-loop-k : goal.index-requires-in-loop-k
+index-requires-in-loop-k c =
+    let v = c.list_powers-2.new.powers in
+    let len : vec_len v ≡ length v.items = search rules in
+    listed c.from-in-loop-k.result c.loop-k.k c.args.exponent (vec_len v) (length v.items) c.from-in-loop-k.ensures (within c.loop-k.k c.args.exponent c.loop-k-test.true) c.in_ok-list_powers-2.ensures.powers.many len
+
+pub whole-requires : goal.whole-requires
+whole-requires c = count_small c.from-in-loop-k-2.result c.loop-k.choices c.from-in-loop-k-2.ensures c.loop-k.auto.choices-fits.fits
+
+pub insert-requires : goal.insert-requires
+insert-requires c = record { normal = c.loop-k.invariant.terms-are.normal }
+
+pub overflow_sub-exponent : goal.overflow_sub-exponent
+overflow_sub-exponent c = within c.loop-k.k c.args.exponent c.loop-k-test.true
+
+pub overflow_sub-exponent-in-loop-k : goal.overflow_sub-exponent-in-loop-k
+overflow_sub-exponent-in-loop-k c = within c.loop-k.k c.args.exponent c.loop-k-test.true
+
+pub overflow_add-choices : goal.overflow_add-choices
+overflow_add-choices c = record { fits = counted_on c.from-in-loop-k-4.result c.loop-k.k c.args.exponent c.from-in-loop-k-4.ensures c.loop-k-test.true c.requires.small }
+
+pub returns-clause-exponents : goal.returns-clause-exponents
+returns-clause-exponents c = c.loop-k.invariant.exponents
