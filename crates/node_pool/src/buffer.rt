@@ -10,15 +10,15 @@ ghost use Rattle.node_pool.specs.Places.{since, between, without, swapped, excha
 ghost use Rattle.node_pool.specs.Contents.{bytes_in, IsContents};
 
 use crate::node;
-use crate::store::Store;
 use calc_terms::{Header, Kind, Leaf, Name, Rat, size_by_code};
+use raw_region::Region;
 use std::alloc::{AllocError, Global};
 use std::marker::Model;
 
 /// The nodes, the bytes that they take, and how many there are.
 #[derive(Drop)]
 pub struct Buffer {
-    store: Store,
+    store: Region,
     used: u32,
     count: u32,
 }
@@ -42,7 +42,7 @@ impl Buffer {
         ensures { IfOk result (λ buffer. buffer ≡ record { nodes = []; size = size }) }
     {
         Ok(Buffer {
-            store: Store::new(alloc, size)?,
+            store: Region::new(alloc, size)?,
             used: 0,
             count: 0,
         })
@@ -78,21 +78,7 @@ impl Buffer {
         self.store.bytes()
     }
 
-    /// The header of the node that begins at a place.
-    #[inline(always)]
-    pub fn header(&self, at: u32) -> Header
-        requires boundary { IsBoundary at self.now.nodes }
-        requires inside { at < used self.now.nodes }
-        ensures value { result ≡ header_of (first_of (since at self.now.nodes)) }
-        ensures next { IsBoundary (at + size_of_header result) self.now.nodes }
-        ensures rest { since at self.now.nodes ≡ first_of (since at self.now.nodes) ∷ since (at + size_of_header result) self.now.nodes }
-        ensures within { at + size_of_header result ≤ used self.now.nodes }
-        ensures kept { IsContents self.now }
-    {
-        self.header_in(self.store.bytes(), at)
-    }
-
-    /// The same from the buffer's bytes, which a loop takes once.
+    /// The header of the node that begins at a place, from the buffer's bytes, which a loop takes once.
     #[inline(always)]
     pub fn header_in(&self, bytes: &[u8], at: u32) -> Header
         requires bytes { bytes.now ≡ bytes_in self.now }

@@ -8,7 +8,6 @@ mod identifiers;
 mod node;
 mod places;
 mod pool;
-mod store;
 
 pub use full::Full;
 pub use id::Id;

@@ -14,9 +14,11 @@ ghost use Rattle.calc_terms.specs.Leaf.{payload_of, name_of, IsUsable};
 ghost use Rattle.calc_terms.specs.Node.{header_in, header_of, kind_at, short_at, ratio_at, number_at, fresh, encoding, header_bytes, low_bytes, payload_bytes, ratio_bytes, from_bytes};
 ghost use Rattle.raw_region.specs.Bytes.{put};
 
-use crate::store::Store;
 use calc_terms::{Header, Kind, Leaf, Name, Rat};
-use raw_region::read;
+use raw_region::{Region, read};
+
+/// What the low half of a number of sixteen bytes stays below.
+const HALF: u128 = 1 << 64;
 
 /// The header of the node whose bytes stand at a place. It is inlined, so that a caller decodes only the fields that it
 /// uses.
@@ -28,7 +30,7 @@ pub fn header_at(bytes: &[u8], at: u32) -> Header
     let front: [u8; 8] = read(bytes, at as usize);
     Header {
         kind: kind_in(front),
-        short: is_short_in(front),
+        short: front[1] == 1,
         id: pair_in(front, 2),
         count: pair_in(front, 4),
         children: pair_in(front, 6),
@@ -36,7 +38,7 @@ pub fn header_at(bytes: &[u8], at: u32) -> Header
 }
 
 /// The rational of the node whose bytes stand at a place.
-pub fn rational_at(store: &Store, at: u32) -> Rat
+pub fn rational_at(store: &Region, at: u32) -> Rat
     requires inside { at + size_by_form Num (short_at (drop at store.now)) ≤ length store.now }
     requires small { length store.now < 2 ^ 32 }
     requires rat { IsRat (number_at (short_at (drop at store.now)) (drop (at + 8) store.now)) }
@@ -50,69 +52,77 @@ pub fn rational_at(store: &Store, at: u32) -> Rat
 }
 
 /// The number of the short form.
-fn short_at(store: &Store, at: u32) -> Rat
+fn short_at(store: &Region, at: u32) -> Rat
     requires inside { at + 8 + 8 ≤ length store.now }
     requires small { length store.now < 2 ^ 32 }
     ensures { ratio_of result ≡ number_at true (drop (at + 8) store.now) }
 {
-    Rat::whole(i128::from(store.long(at + 8).cast_signed()))
+    let value = u64::from_le_bytes(store.read(at + 8));
+    Rat::whole(i128::from(value.cast_signed()))
 }
 
 /// The number of the long form.
-fn long_at(store: &Store, at: u32) -> Rat
+fn long_at(store: &Region, at: u32) -> Rat
     requires inside { at + 8 + 32 ≤ length store.now }
     requires small { length store.now < 2 ^ 32 }
     requires rat { IsRat (ratio_at (drop (at + 8) store.now)) }
     ensures { ratio_of result ≡ ratio_at (drop (at + 8) store.now) }
 {
-    let num = store.wide(at + 8);
-    let den = store.wide(at + 24);
+    let num = wide_at(store, at + 8);
+    let den = wide_at(store, at + 24);
     Rat::lowest(num.cast_signed(), den.cast_signed())
 }
 
+/// The number in sixteen bytes, the lowest byte first.
+fn wide_at(store: &Region, at: u32) -> u128
+    requires { at + 16 ≤ length store.now }
+    ensures { result ≡ from_bytes (take 16 (drop at store.now)) }
+{
+    u128::from_le_bytes(store.read(at))
+}
+
 /// The name of the node whose bytes stand at a place.
-pub fn name_at(store: &Store, at: u32) -> Name
+pub fn name_at(store: &Region, at: u32) -> Name
     requires inside { at + 8 + 8 ≤ length store.now }
     requires small { length store.now < 2 ^ 32 }
     requires name { HoldsName (take 8 (drop (at + 8) store.now)) }
     ensures { name_of result ≡ before_zero (take 8 (drop (at + 8) store.now)) }
 {
-    Name::from_padded(store.eight(at + 8))
+    Name::from_padded(store.read(at + 8))
 }
 
 /// Writes a new node, held once and without children, of which the header is told.
-pub fn write_node(store: &mut Store, at: u32, header: Header, leaf: Leaf)
+pub fn write_node(store: &mut Region, at: u32, header: Header, leaf: Leaf)
     requires usable { IsUsable leaf }
     requires header { header ≡ header_of (fresh header.id (payload_of leaf)) }
     requires inside { at + size_of_payload (payload_of leaf) ≤ length store.old }
     requires small { length store.old < 2 ^ 32 }
-    ensures put { store.new ≡ put store.old at (encoding (fresh header.id (payload_of leaf))) }
-    ensures len { length store.new ≡ length store.old }
+    ensures { store.new ≡ put store.old at (encoding (fresh header.id (payload_of leaf))) }
 {
     write_header(store, at, header);
     match leaf {
         Leaf::Num(value) => write_number(store, at + 8, value, header.short),
-        Leaf::Sym(name) => store.put(at + 8, &name.padded()),
+        Leaf::Sym(name) => store.write(at + 8, &name.padded()),
         Leaf::Plain(_) => {}
     }
 }
 
 /// Writes the count of the node at a place.
-pub fn write_count(store: &mut Store, at: u32, count: u16)
+pub fn write_count(store: &mut Region, at: u32, count: u16)
     requires inside { at + 8 ≤ length store.old }
     requires small { length store.old < 2 ^ 32 }
     ensures { store.new ≡ put store.old (at + 4) (low_bytes 2 count) }
 {
-    store.put_pair(at + 4, count);
+    store.write(at + 4, &count.to_le_bytes());
 }
 
 /// Writes the number of children of the node at a place.
-pub fn write_children(store: &mut Store, at: u32, children: u16)
+pub fn write_children(store: &mut Region, at: u32, children: u16)
     requires inside { at + 8 ≤ length store.old }
     requires small { length store.old < 2 ^ 32 }
     ensures { store.new ≡ put store.old (at + 6) (low_bytes 2 children) }
 {
-    store.put_pair(at + 6, children);
+    store.write(at + 6, &children.to_le_bytes());
 }
 
 /// The kind that a header's bytes tell.
@@ -126,14 +136,6 @@ fn kind_in(front: [u8; 8]) -> Kind
     }
 }
 
-/// Whether a header's bytes tell the short form.
-#[inline(always)]
-fn is_short_in(front: [u8; 8]) -> bool
-    ensures { result ≡ short_at front }
-{
-    front[1] == 1
-}
-
 /// The number in two bytes of a header, the lower byte first.
 #[inline(always)]
 fn pair_in(front: [u8; 8], at: usize) -> u16
@@ -144,7 +146,7 @@ fn pair_in(front: [u8; 8], at: usize) -> u16
 }
 
 /// Whether the header at a place tells the short form.
-fn is_short_at(store: &Store, at: u32) -> bool
+fn is_short_at(store: &Region, at: u32) -> bool
     requires inside { at + 2 ≤ length store.now }
     requires small { length store.now < 2 ^ 32 }
     ensures { result ≡ short_at (drop at store.now) }
@@ -153,13 +155,13 @@ fn is_short_at(store: &Store, at: u32) -> bool
 }
 
 /// Writes the header of the node at a place, its eight bytes at once.
-pub fn write_header(store: &mut Store, at: u32, header: Header)
+pub fn write_header(store: &mut Region, at: u32, header: Header)
     requires inside { at + 8 ≤ length store.old }
     requires small { length store.old < 2 ^ 32 }
     ensures put { store.new ≡ put store.old at (header_bytes header) }
     ensures len { length store.new ≡ length store.old }
 {
-    store.put(
+    store.write(
         at,
         &[
             header.kind.code(),
@@ -175,26 +177,36 @@ pub fn write_header(store: &mut Store, at: u32, header: Header)
 }
 
 /// Writes a number in its form.
-fn write_number(store: &mut Store, at: u32, value: Rat, short: bool)
+fn write_number(store: &mut Region, at: u32, value: Rat, short: bool)
     requires form { short ≡ has_short_form (rational (ratio_of value)) }
     requires inside { at + size_of_payload (rational (ratio_of value)) ≤ length store.old + 8 }
     requires small { length store.old < 2 ^ 32 }
-    ensures put { store.new ≡ put store.old at (payload_bytes (rational (ratio_of value))) }
-    ensures len { length store.new ≡ length store.old }
+    ensures { store.new ≡ put store.old at (payload_bytes (rational (ratio_of value))) }
 {
     if short {
-        store.put_long(at, (value.num() as i64).cast_unsigned());
+        store.write(at, &(value.num() as i64).cast_unsigned().to_le_bytes());
     } else {
         write_rational(store, at, value);
     }
 }
 
-fn write_rational(store: &mut Store, at: u32, value: Rat)
+fn write_rational(store: &mut Region, at: u32, value: Rat)
     requires inside { at + 32 ≤ length store.old }
     requires small { length store.old < 2 ^ 32 }
-    ensures put { store.new ≡ put store.old at (ratio_bytes (ratio_of value)) }
-    ensures len { length store.new ≡ length store.old }
+    ensures { store.new ≡ put store.old at (ratio_bytes (ratio_of value)) }
 {
-    store.put_wide(at, value.num().cast_unsigned());
-    store.put_wide(at + 16, value.den().cast_unsigned());
+    store.write(at, &wide_bytes(value.num().cast_unsigned()));
+    store.write(at + 16, &wide_bytes(value.den().cast_unsigned()));
+}
+
+/// The halves one by one, since the machine writes eight bytes at once.
+fn wide_bytes(number: u128) -> [u8; 16]
+    ensures { result ≡ low_bytes 16 number }
+{
+    let low = (number % HALF) as u64;
+    let high = (number / HALF) as u64;
+    let mut bytes = [0; 16];
+    bytes[..8].copy_from_slice(&low.to_le_bytes());
+    bytes[8..].copy_from_slice(&high.to_le_bytes());
+    bytes
 }

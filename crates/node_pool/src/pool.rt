@@ -53,9 +53,9 @@ impl Pool {
         requires { IsPoolSize size }
         ensures { IfOk result (λ pool. pool ≡ record { nodes = []; size = size; refusals = 0; last_refused = record { needed = 0; free = 0 } }) }
     {
-        let buffer = Buffer::new(alloc, size)?;
-        let taken = Identifiers::new(alloc, size / 8)?;
         let places = Places::new(alloc, size / 8)?;
+        let taken = Identifiers::new(alloc, size / 8)?;
+        let buffer = Buffer::new(alloc, size)?;
         Ok(Pool {
             buffer,
             taken,
@@ -141,7 +141,7 @@ impl Pool {
         ensures value { result ≡ header_of (first_of (since at self.now.nodes)) }
         ensures pool { IsPool self.now }
     {
-        self.buffer.header(at)
+        self.buffer.header_in(self.buffer.bytes(), at)
     }
 
     /// The bytes of the node that begins at a place.

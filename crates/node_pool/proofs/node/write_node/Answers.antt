@@ -2,14 +2,14 @@ use Rattle.node_pool.proofs.{Shared.{◌+◌, ◌∙◌, ap, sym, arith, payload
 use Rattle.calc_terms.proofs.Sizes.{payload_least as size_leaf}
 use Rattle.node_pool.proofs.node.write_node.Goals as goal
 
-pub returns-in-Num-clause-put : goal.returns-in-Num-clause-put
-returns-in-Num-clause-put c = node_put c.args.store.now c.write_header.new.store _ c.args.at c.args.header.id (payload_of c.args.leaf) c.args.header (omega (arith, c.requires.inside, size_leaf (payload_of c.args.leaf))) c.requires.header c.write_header.ensures.put
-    (c.write_number.ensures.put ∙ ap (λ (x : Leaf). put c.write_header.new.store (c.args.at + 8) (payload_bytes (payload_of x))) (sym c.in-Num.is))
+pub returns-in-Num : goal.returns-in-Num
+returns-in-Num c = node_put c.args.store.now c.write_header.new.store _ c.args.at c.args.header.id (payload_of c.args.leaf) c.args.header (omega (arith, c.requires.inside, size_leaf (payload_of c.args.leaf))) c.requires.header c.write_header.ensures.put
+    (c.write_number.ensures ∙ ap (λ (x : Leaf). put c.write_header.new.store (c.args.at + 8) (payload_bytes (payload_of x))) (sym c.in-Num.is))
 
-pub returns-in-Sym-clause-put : goal.returns-in-Sym-clause-put
-returns-in-Sym-clause-put c = node_put c.args.store.now c.write_header.new.store _ c.args.at c.args.header.id (payload_of c.args.leaf) c.args.header (omega (arith, c.requires.inside, size_leaf (payload_of c.args.leaf))) c.requires.header c.write_header.ensures.put
-    (c.put.ensures ∙ ap (put c.write_header.new.store (c.args.at + 8)) c.padded.ensures.value ∙ ap (λ (x : Leaf). put c.write_header.new.store (c.args.at + 8) (payload_bytes (payload_of x))) (sym c.in-Sym.is))
+pub returns-in-Sym : goal.returns-in-Sym
+returns-in-Sym c = node_put c.args.store.now c.write_header.new.store _ c.args.at c.args.header.id (payload_of c.args.leaf) c.args.header (omega (arith, c.requires.inside, size_leaf (payload_of c.args.leaf))) c.requires.header c.write_header.ensures.put
+    (c.write.ensures ∙ ap (put c.write_header.new.store (c.args.at + 8)) c.padded.ensures.value ∙ ap (λ (x : Leaf). put c.write_header.new.store (c.args.at + 8) (payload_bytes (payload_of x))) (sym c.in-Sym.is))
 
-pub returns-in-Plain-clause-put : goal.returns-in-Plain-clause-put
-returns-in-Plain-clause-put c = node_put c.args.store.now c.write_header.new.store _ c.args.at c.args.header.id (payload_of c.args.leaf) c.args.header (omega (arith, c.requires.inside, size_leaf (payload_of c.args.leaf))) c.requires.header c.write_header.ensures.put
+pub returns-in-Plain : goal.returns-in-Plain
+returns-in-Plain c = node_put c.args.store.now c.write_header.new.store _ c.args.at c.args.header.id (payload_of c.args.leaf) c.args.header (omega (arith, c.requires.inside, size_leaf (payload_of c.args.leaf))) c.requires.header c.write_header.ensures.put
     (put-nil c.write_header.new.store (c.args.at + 8) ∙ ap (λ (x : Leaf). put c.write_header.new.store (c.args.at + 8) (payload_bytes (payload_of x))) (sym c.in-Plain.is))

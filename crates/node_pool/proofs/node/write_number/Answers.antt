@@ -1,5 +1,6 @@
-use Rattle.node_pool.proofs.Shared.{Bool, false, ap, arith, length, refl, sym, true, ℕ, ℤ, ◌+◌, ◌∙◌, ◌≡◌, ◌≤◌, ◌<◌, ◌^◌, FitsSigned, unsigned_abs, w64, w128, cast_signed, cast_unsigned, ints}
-use Rattle.node_pool.proofs.Shared.{to_z-of_z, size_by_form, low_bytes, number_bytes, rational, has_short_form, ratio_of, Ratio, length-low_bytes, short_parts, put, length-put, Num}
+use Rattle.node_pool.proofs.Shared.{Bool, ap, arith, refl, sym, true, ℕ, ℤ, ◌∙◌, ◌≡◌, ◌<◌, ◌^◌, FitsSigned, unsigned_abs, w64, w128, cast_signed, cast_unsigned, ints}
+use Rattle.node_pool.proofs.Shared.{to_z-of_z, low_bytes, number_bytes, rational, has_short_form, ratio_of, Ratio, short_parts, put}
+use Rattle.node_pool.proofs.Numbers.{written_is}
 use Rattle.node_pool.proofs.node.write_number.Goals as goal
 
 wide : (z : ℤ) → unsigned_abs z < 2 ^ 127 → FitsSigned w128 z
@@ -20,18 +21,10 @@ formed b f e = rw e refl
 written : (r : ℕ) (x y : ℤ) → unsigned_abs y < 2 ^ 127 → FitsSigned w64 y → x ≡ y → r ≡ cast_unsigned w64 (cast_signed w64 (cast_unsigned w64 (cast_signed w128 (cast_unsigned w128 x)))) → r ≡ cast_unsigned w64 y
 written r x y small fits e h = h ∙ ap (λ (z : ℤ). cast_unsigned w64 (cast_signed w64 (cast_unsigned w64 z))) (same x y small e) ∙ ap (cast_unsigned w64) (to_z-of_z w64 y fits)
 
-room : (b : Bool) (at n : ℕ) → b ≡ true → at + size_by_form Num b ≤ n + 8 → at + 8 ≤ n
-room true at n e h = omega arith
-room false at n e h = absurd cc
-
 pub returns-then-short : goal.returns-then-short
 returns-then-short c =
     let f = ratio_of c.args.value in
     let s : has_short_form (rational f) ≡ true = sym c.requires.form ∙ c.if-short.true in
     let number = written c.cast_unsigned.result c.num.result f.num c.num.ensures.rat.num_fits (short_parts f c.num.ensures.rat s).fits c.num.ensures.value c.cast_unsigned.ensures in
-    let n = c.cast_unsigned.result in
-    let inside = room (has_short_form (rational (ratio_of c.args.value))) c.args.at (length c.args.store.now) (sym c.requires.form ∙ c.if-short.true) c.requires.inside in
-    record {
-      put = c.put_long.ensures ∙ ap (λ (n : ℕ). put c.args.store.now c.args.at (low_bytes 8 n)) number ∙ ap (put c.args.store.now c.args.at) (formed (has_short_form (rational f)) f s);
-      len = ap length c.put_long.ensures ∙ length-put c.args.store.now c.args.at (low_bytes 8 n) (omega (arith, length-low_bytes 8 n));
-    }
+    let bytes = c.to_le_bytes.ensures ∙ written_is 8 c.cast_unsigned.result in
+    c.write.ensures ∙ ap (put c.args.store.now c.args.at) (bytes ∙ ap (low_bytes 8) number ∙ formed (has_short_form (rational f)) f s)

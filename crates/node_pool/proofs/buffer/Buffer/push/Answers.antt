@@ -12,7 +12,7 @@ all c =
     let p = c.self.inside in
     let o = opened p s c.self.invariant c.self.view_is in
     done p _ s _ c.self.view_is (pushed p _ s.nodes c.args.header.id (payload_of c.args.leaf) o (usable c.args.leaf c.requires.usable) (omega arith)
-    (omega (arith, c.requires.room, size_is p s c.self.view_is)) c.write_node.ensures.put (ap (λ (k : ℕ). p.used + k) c.requires.size) refl)
+    (omega (arith, c.requires.room, size_is p s c.self.view_is)) c.write_node.ensures (ap (λ (k : ℕ). p.used + k) c.requires.size) refl)
 
 pub invariant_of-self : goal.invariant_of-self
 invariant_of-self c = (all c).laid

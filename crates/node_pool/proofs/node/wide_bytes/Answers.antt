@@ -1,5 +1,5 @@
 use Rattle.node_pool.proofs.{Shared.{◌∙◌, ◌≡◌, ◌%◌, ◌/◌, ◌^◌, to_le_bytes, w64}, Numbers.halves_are}
-use Rattle.node_pool.proofs.store.wide_bytes.Goals as goal
+use Rattle.node_pool.proofs.node.wide_bytes.Goals as goal
 
 pub returns : goal.returns
 returns c =

@@ -1,5 +1,0 @@
-use Rattle.node_pool.proofs.{Shared.{◌∙◌, ap, put}, Numbers.written_is}
-use Rattle.node_pool.proofs.store.Store.put_pair.Goals as goal
-
-pub returns : goal.returns
-returns c = c.put.ensures ∙ ap (put c.args.self.now c.args.at) (c.to_le_bytes.ensures ∙ written_is 2 c.args.number)
