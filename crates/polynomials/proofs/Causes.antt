@@ -6,6 +6,9 @@ use Rattle.polynomials.proofs.Products.{IsPowerTo, IsProductTo}
 pub caused_more : {P Q : Type 0} (u : Unfit) → (P → Q) → IsCaused P u → IsCaused Q u
 caused_more u f h = grind arith
 
+pub like_more : {P Q : Type 0} (u : Unfit) → (P → Q) → OfCoefficient P u → OfCoefficient Q u
+like_more u f h = grind arith
+
 pub pushed_length : (xs : List Term) (t : Term) → length (pushed xs t) ≤ length xs + 1
 pushed_length xs t = grind (arith, length-append {A = Term})
 

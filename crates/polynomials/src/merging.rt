@@ -56,7 +56,6 @@ fn copy_below<'a>(list: &mut Vec<Term>, terms: &'a [Term], limit: u64) -> Result
 }
 
 /// Puts a term between a list and the terms behind it. Tells what is behind it then.
-#[tactic(auto, using(crate::proofs::Merges::put_below))]
 fn put<'a>(list: &mut Vec<Term>, rest: &'a [Term], term: Term) -> Result<&'a [Term], Unfit>
     requires normal { IsNormal (list.old.items ++ rest.now) }
     requires below { AreBelow term.monomial list.old.items }

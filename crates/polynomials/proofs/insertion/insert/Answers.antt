@@ -1,5 +1,6 @@
 use Rattle.polynomials.proofs.Shared.{◌≡◌, ◌<◌, ◌≤◌, ℕ, List, length, take, drop, get_or, sym, ap, ◌∙◌, subst, arith, take-append-drop, length-drop, on_ok_weaker, Term, AreBelow, StartsFrom}
-use Rattle.polynomials.proofs.{Shared.{IsBelowAll, IsNormal}, Causes.{like_anyway, pushed_length}, Insertions.{exchange_exponents, exchange_others, exchange_terms, first_dropped, insert_exponents}}
+use Rattle.std.proofs.Common.{rules}
+use Rattle.polynomials.proofs.{Shared.{IsBelowAll, IsNormal, IfErr-weaker, passed_on}, Causes.{caused_more, like_anyway, like_more, not_done, pushed_length}, Insertions.{exchange_exponents, exchange_others, exchange_terms, first_dropped, insert_exponents}}
 use Rattle.polynomials.proofs.{Insertions.{insert_others, insert_terms, appended, inserted}, Normal.{behind_none, behind_other, normal_end, stands_at}, insertion.insert.Goals.{After-len}}
 use Rattle.polynomials.proofs.insertion.insert.Goals as goal
 
@@ -76,10 +77,20 @@ returns-clause-exponents c = λ d h.
     (not_last k c.if-at-len.false) c.index-other.ensures (e ∙ ap (λ (l : List Term). inserted l (at k) c.in_ok-total.total) c.remove.ensures.items)
     c.if-other-term.false c.in_ok-total.ensures.monomial d h) c.insert_at-2.ensures.ok
 
-pub returns-in_err-total-clause-like : goal.returns-in_err-total-clause-like
-returns-in_err-total-clause-like c =
-    let k = (goal.at.returns-in_err-total-clause-like c).After-len in
-    like_anyway _ c.from_residual.result (stands_at c.args.term.monomial (xs k) (at k) c.index-other.result.now (not_last k c.if-at-len.false) c.index-other.ensures c.if-other-term.false)
+pub returns-in_err-total : goal.returns-in_err-total
+returns-in_err-total c =
+    let k = (goal.at.returns-in_err-total c).After-len in
+    let r = c.from_residual in
+    let u = c.in_err-total.field-0.0 in
+    record {
+      terms = not_done r.result _ r.ensures.0;
+      exponents = λ d h. not_done r.result _ r.ensures.0;
+      others = λ m. not_done r.result _ r.ensures.0;
+      few = not_done r.result _ r.ensures.0;
+      unfit = passed_on r.result u _ r.ensures.0 r.ensures.1 (caused_more u (λ h. absurd h) c.in_err-total.ensures.unfit);
+      like = like_anyway _ r.result (stands_at c.args.term.monomial (xs k) (at k) c.index-other.result.now (not_last k c.if-at-len.false) c.index-other.ensures c.if-other-term.false);
+      room = search rules;
+    }
 
 pub returns-then-at-len-clause-others : goal.returns-then-at-len-clause-others
 returns-then-at-len-clause-others c = λ m.
@@ -98,3 +109,12 @@ returns-clause-others c = λ m.
     on_ok_weaker c.insert_at-2.result (λ e. exchange_others (xs k) (at k) c.index-other.result.now c.args.term c.in_ok-total.total c.insert_at-2.new.list.items
     (not_last k c.if-at-len.false) c.index-other.ensures (e ∙ ap (λ (l : List Term). inserted l (at k) c.in_ok-total.total) c.remove.ensures.items)
     c.if-other-term.false c.in_ok-total.ensures.monomial m) c.insert_at-2.ensures.ok
+
+pub returns-clause-like : goal.returns-clause-like
+returns-clause-like c = IfErr-weaker c.insert_at-2.result _ _ (λ u h. like_more u (λ x. absurd x) h) c.insert_at-2.ensures.like
+
+pub returns-then-at-len-clause-like : goal.returns-then-at-len-clause-like
+returns-then-at-len-clause-like c = IfErr-weaker c.push_nonzero.result _ _ (λ u h. like_more u (λ x. absurd x) h) c.push_nonzero.ensures.like
+
+pub returns-then-other-term-clause-like : goal.returns-then-other-term-clause-like
+returns-then-other-term-clause-like c = IfErr-weaker c.insert_at.result _ _ (λ u h. like_more u (λ x. absurd x) h) c.insert_at.ensures.like
