@@ -6,8 +6,8 @@ use Rattle.sum_reduce.proofs.Shared.{product_tree, Same, surd_of, Permuted, perm
 use Rattle.sum_reduce.proofs.Shared.{rational_before, with_coefficient, IsMonic, mapped, rational_times_term, monic_sum, monic_no_number, IsNumberOf, AreLike, sum_of_coefficients, Collects}
 use Rattle.sum_reduce.proofs.Shared.{collects_opened, collects_ordered, collects_numbers, collects_like, collects_then, terms_of_loose, opened, terms_of_number, sum_tree, leads_number, written_tree}
 use Rattle.sum_reduce.proofs.Shared.{Counts, counts, added, is_counted, are_counted, counts_of, counts_of_all, IsWithin, IsCountedWithin, KeepsSumBounds, whole_plus, whole_times, Same-sym}
-use Rattle.sum_reduce.proofs.{Shared.{joined_radicand, Same-append, Same-eq, zero_term, of_lists}, CollectedCounts.{collected_formed, like_monic}, CountedMultiples.{within_same, within_after}}
-use Rattle.sum_reduce.proofs.CountedMultiples.{within_both, nothing_within, sum_within, product_within, multiple_added}
+use Rattle.sum_reduce.proofs.Shared.{joined_radicand, Same-append, Same-eq, zero_term, of_lists, AreTerms, IsTerm, Rises, length, root, term_of, terms_of}
+use Rattle.sum_reduce.proofs.{CollectedCounts.{collected_formed, like_monic}, CountedMultiples.{within_same, within_after, within_both, nothing_within, sum_within, product_within, multiple_added}}
 use Rattle.number_forms.proofs.RationalCalls.{rational_value as num_value}
 use Rattle.tree_bits.specs.Exponents.{multiple}
 pub use Rattle.calc_measures.proofs.LiteralValues.{whole_of}
@@ -82,8 +82,27 @@ pub record IsWhole (t : Tree) : Type 0 where
   pub z : ℤ
   pub is : t ≡ num (whole_fraction z)
 
+-- of the terms of a Number, a rational alone counts, and a Number has one rational at most
+counted_term : (t : Tree) → IsTerm t → is_counted t ≡ true → (term_of t).radicand ≡ 1
+counted_term (num q) h k = refl
+counted_term (mult (more (num q) (more (root (num r)) none))) h k = absurd (false≢true (and_parts (q.den == 1) false k).1)
+counted_term (root (num r)) h k = absurd (false≢true k)
+counted_term t h k = absurd h
+
+no_counted_sum : (ts : Trees) → 2 ≤ length (terms_of ts) → AreTerms ts → Rises (terms_of ts) → are_counted ts ≡ true → ⊥
+no_counted_sum none l h r k = absurd (omega (arith, l))
+no_counted_sum (more t none) l h r k = absurd (omega (arith, l))
+no_counted_sum (more t (more u ts)) l h r k =
+    let (x, y) = and_parts (is_counted t) (are_counted (more u ts)) k in
+    let z = (and_parts (is_counted u) (are_counted ts) y).0 in
+    omega (arith, counted_term t h.0 x, counted_term u h.1.0 z, r.0.0)
+
 pub whole_number : (t : Tree) → IsNumber t → is_counted t ≡ true → IsWhole t
-whole_number t h k = grind (arith, whole_of)
+whole_number (num q) h k = record { z = q.num; is = ap num (whole_of q k) }
+whole_number (add ts) h k = absurd (no_counted_sum ts h.0 h.1 h.2 k)
+whole_number (mult (more (num q) (more (root (num r)) none))) h k = absurd (false≢true (and_parts (q.den == 1) false k).1)
+whole_number (root (num r)) h k = absurd (false≢true k)
+whole_number t h k = absurd h
 
 -- what is the whole number z
 pub as_whole : (n : Tree) (z : ℤ) → is_number n ≡ true → Same (value n) (surd_of (whole_fraction z)) → n ≡ num (whole_fraction z)
@@ -255,7 +274,10 @@ both_counts (more t ts) us = let a = both_counts ts us in record { up = omega (a
 pub exponents_collected : {ts us : Trees} → Collects ts us → AllPartsOf HasForm ts → are_counted ts ≡ true → AreCounted us (counts_of_all ts)
 exponents_collected (collects_opened {ts}) f h = opened_counted ts h
 exponents_collected (collects_ordered {ts} {us} k) f h = permuted_counted (of_lists ts us k) h
-exponents_collected (collects_numbers {ts} {a} {b} {n} x y k) f h = grind (arith, counted_after, more_counted, numbers_counted, within_same)
+exponents_collected (collects_numbers {ts} {a} {b} {n} x y k) f h =
+    let (p, q) = and_parts (is_counted a) (are_counted (more b ts)) h in
+    let (r, s) = and_parts (is_counted b) (are_counted ts) q in
+    counted_after (more_counted (numbers_counted a b n x y p r k) (record { all = s; within = within_same (counts_of_all ts) })) (record { up = omega arith; down = omega arith })
 exponents_collected (collects_like {ts} us c p l a k) f h =
     let (x, y) = parts_of us ts h in
     counted_after (more_counted (like_counted us c p l a (first_parts HasForm us ts f) x k) (record { all = y; within = within_same (counts_of_all ts) })) (both_counts us ts)

@@ -1,6 +1,6 @@
 -- What is known of a result, in other words.
 use Rattle.std.proofs.Common.{arith}
-use Rattle.std.specs.Prelude.{Result, Option, IfOk, IfSome, MatchOption, OnOk}
+use Rattle.std.specs.Prelude.{Result, Option, IfSome, MatchOption, OnOk}
 
 pub on_ok_map : {A E P Q : Type 0} (r : Result A E) → OnOk r P → (P → Q) → OnOk r Q
 on_ok_map r h f = grind arith

@@ -1,6 +1,6 @@
 -- What is answered for settled terms.
-use Rattle.sum_reduce.proofs.Shared.{less_of, ⊤, IsSortedByKey, suc, ◌≤◌, arith, add-one, ◌≡◌, Bool, true, false, if◌then◌else◌, refl, sym, ap, ◌∙◌, subst, true≢false, Ordering, Less, is_eq, is_lt}
-use Rattle.sum_reduce.proofs.Shared.{ordering_reverse, nest, nest_of, is_number, are_numbers, part_of, NoneIs, RisesBy, HasForm, is_reduced, tree_cmp, Tree, undef, add, Trees, none, more, append}
+use Rattle.sum_reduce.proofs.Shared.{less_of, ⊤, IsSortedByKey, suc, ◌≤◌, arith, add-one, ◌≡◌, Bool, true, false, if◌then◌else◌, refl, sym, ap, ◌∙◌, subst, true≢false, is_eq, is_lt}
+use Rattle.sum_reduce.proofs.Shared.{nest, nest_of, is_number, are_numbers, part_of, NoneIs, RisesBy, HasForm, is_reduced, tree_cmp, Tree, undef, add, Trees, none, more, append}
 use Rattle.sum_reduce.proofs.Shared.{count, names, names_of, is_add, AllParts, in_add, has_undef, KeepsMeanings, single_sum, number_test, numbers_defined, tree_cmp_total, parts_reduced, parts_defined}
 use Rattle.sum_reduce.proofs.Shared.{list_of, keeps, reduces_after, NoPairBetween, IsLead, IsSettled, IsStage, IsSumAnswer, AreFormed, is_loose, is_partner, terms_of_number, sum_tree, written_tree}
 use Rattle.sum_reduce.proofs.{Shared.{Within, no_new_name, within_left, within_none, undef_part, undef_inside}, WrittenSums.{AreOthers, written_sum, written_formed, written_keeps, written_names}}

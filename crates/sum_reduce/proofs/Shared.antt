@@ -17,7 +17,7 @@ pub use Rattle.calc_measures.proofs.Nests.{nest-append, nest_number, nest_permut
 pub use Rattle.calc_measures.specs.{Loads.{nest, nest_of}, PlainValues.{PlainValue, calculated, fold_values, plain_value}, PlainTrees.{IsPlainAnswer}}
 pub use Rattle.calc_room.proofs.{TreeBytes.{counted_number, none_counted, number_counts}, NumberSpans.{spans_append, spans_same, term_spanned, tree_spanned, value_spanned}}
 pub use Rattle.calc_room.specs.{Counts.{counted, counted_among}, Powers.{HasPowersOf, IsPowerOf}, Spans.{Spans, SpansRoot, SpansTree, SpansTrees}, Needs.{sum_need}}
-pub use Rattle.calc_terms.proofs.{FractionFacts.{no_zero, one_is, whole_denominator, whole_numerator, zero_test}, SmallLaws.{if_ok_both, less_of, sizes_append, two_count}}
+pub use Rattle.calc_terms.proofs.{FractionFacts.{no_zero, one_is, whole_denominator, whole_numerator, zero_test}, SmallLaws.{if_ok_both, less_of, passed_on, sizes_append, two_count}}
 pub use Rattle.calc_terms.specs.{Fits.{add_op}, Fractions.{Fraction, is_one_fraction, is_zero_fraction, mul_pos, times, whole_fraction}, Trees.{AllParts, AllPartsOf, HasTwo, Tree, Trees, add, append}}
 pub use Rattle.calc_terms.specs.Trees.{are_rationals, count, has_undef, in_add, is_add, is_mult, is_num, is_undef, more, mult, names, names_of, nodes, nodes_of, none, num, root, size, sizes, symbol}
 pub use Rattle.calc_terms.specs.Trees.{undef}
@@ -42,7 +42,7 @@ pub use Rattle.like_children.specs.{Numbers.{IsNextNumber, NoNumberBetween}, Chi
 pub use Rattle.node_order.specs.{Sorting.{IsSorting, SortsChildren, list_of}, Keys.{IsKey, key_tree, trees_behind}, declared.keys.Key.{Key}}
 pub use Rattle.node_pool.proofs.Ids.{eqb_sym as eqb-sym}
 pub use Rattle.node_pool.specs.{State.{State, free_of}, declared.full.Full.{Full}}
-pub use Rattle.number_forms.proofs.{Shaped.{term_number as number_of_term, term_value}, Rooms.{full_as, number_size, sum_spans}}
+pub use Rattle.number_forms.proofs.{Shaped.{term_number as number_of_term, term_value}, Refusals.{faults_after, none_given, none_kept}, Rooms.{full_as, number_size, sum_spans}}
 pub use Rattle.number_forms.specs.{Answers.{AnswersRationals, IsNumberOf, IsNumberOver}, Readers.{is_zero}, Sums.{removed}, Overflows.{SumOverflows}}
 pub use Rattle.rational128.specs.declared.overflow.Overflow.{Overflow}
 pub use Rattle.std.proofs.{Math.Nat.{pow-le-pow_right}, lemmas.Bool.{and_from, and_parts, false≢true, ltb-true, not_from_false, true≢false}, lemmas.Nat.{mul-le, pow-add, pow_pos}, Common.{Bool, List}}
@@ -66,8 +66,8 @@ pub use Rattle.tree_handles.proofs.{Given.{gives_as, handed_beside, handed_by_pu
 pub use Rattle.tree_handles.proofs.{Outcomes.{by_test, if_map, passed_result}, Over.{IsOver, over_beside, over_end, over_handed, over_plain, over_put, over_same, over_sum, without_put}}
 pub use Rattle.tree_handles.proofs.{Roots.{put-left, put-put, put-same, root-put, root_held, tree-left, tree-put, tree-without, without-put}, Seen.{expression, live, product_kind, seen}}
 pub use Rattle.tree_handles.proofs.{FreeBytes.{all_bytes}, Filling.{as_before, hole_behind, hole_beside, hole_stays}, Beside.{gives_without}, Cuts.{represents_count}, UndefChildren.{undef_inside}}
-pub use Rattle.tree_handles.specs.{Expressions.{IsExpression, children_of, inserted, nth, plain, plains}, Faults.{OfOverflow}, Forest.{Forest, arity, bytes_in, join, kids, merged_nth, root_count}}
-pub use Rattle.tree_handles.specs.{Forest.{tree_nth, with_nth, without_nth}, Handed.{Ends, Gives, IsHanded, KeepsFront, Represents, tree_of}, Inside.{holds, kids_of, tree_at}}
+pub use Rattle.tree_handles.specs.{Expressions.{IsExpression, children_of, inserted, nth, plain, plains}, Faults.{Faults, OfOverflow}, Forest.{Forest, arity, bytes_in, join, kids, merged_nth}}
+pub use Rattle.tree_handles.specs.{Forest.{root_count, tree_nth, with_nth, without_nth}, Handed.{Ends, Gives, IsHanded, KeepsFront, Represents, tree_of}, Inside.{holds, kids_of, tree_at}}
 pub use Rattle.tree_handles.specs.{Roots.{has_root, root_tree, without_root}, Standing.{KeepsRefusals, Stands, forest}, declared.fault.NumberFault.{NumberFault}}
 pub use Rattle.tree_handles.specs.{Holes.{ChangesTree, IsHole, Place, set_child, set_tree}, Causes.{IsCaused}}
 pub use Rattle.tree_room.proofs.{Counts.{all_appended, appended, counts_one, number_counts_one, numbers_and_others}, Coefficients.{part_counts}, Handed.{sum_bytes}}

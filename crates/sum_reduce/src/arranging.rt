@@ -70,7 +70,7 @@ fn sort_terms(pool: &mut Pool, sum: &Handle)
 }
 
 /// Sums among the terms are opened, the Numbers become one, and the other terms are put in order.
-#[tactic(auto, using(crate::proofs::Opened::opened_formed, crate::proofs::Opened::opened_some, tree_handles::proofs::Fronts::front_after_one, tree_handles::proofs::Fronts::behind_first, crate::proofs::Sums::changes_front, crate::proofs::Opened::opened_tight, crate::proofs::Sums::changes_after, crate::proofs::Stages::stage_after, crate::proofs::Orders::opened_stage))]
+#[tactic(auto, using(crate::proofs::Opened::opened_formed, crate::proofs::Opened::opened_some, crate::proofs::Opened::opened_tight, crate::proofs::Sums::changes_after))]
 fn arrange(pool: &mut Pool, sum: &Handle) -> Result<(), NumberFault>
     requires stands { Stands pool.old }
     requires sum { IsSum sum.now (forest pool.old) }
@@ -118,7 +118,7 @@ fn pair_behind(pool: &Pool, sum: &Handle, at: u16) -> Option<u16>
 }
 
 /// From a pair on, each term and its partners become one, up to the first that becomes a sum.
-#[tactic(auto, using(crate::proofs::Sums::changes_same, crate::proofs::Stages::stage_same, tree_handles::proofs::Fronts::front_same, tree_handles::proofs::Refused::kept_same, coefficients::proofs::Named::passed_named, crate::proofs::Hindered::overflows_after, crate::proofs::Held::few_after))]
+#[tactic(auto, using(crate::proofs::Sums::changes_same, crate::proofs::Stages::stage_same, tree_handles::proofs::Fronts::front_same, tree_handles::proofs::Refused::kept_same))]
 fn join_pairs(pool: &mut Pool, sum: &Handle, first: u16) -> Result<(), NumberFault>
     requires stands { Stands pool.old }
     requires sum { IsSum sum.now (forest pool.old) }
@@ -149,7 +149,7 @@ fn join_pairs(pool: &mut Pool, sum: &Handle, first: u16) -> Result<(), NumberFau
 }
 
 /// Terms with identical parts are joined until there are none. A joined term that is a sum is opened again.
-#[tactic(auto, using(crate::proofs::Orders::arranged_flat, coefficients::proofs::Named::passed_named, crate::proofs::Hindered::overflows_after, crate::proofs::Sorted::formed_nth, crate::proofs::Held::few_after))]
+#[tactic(auto, using(crate::proofs::Sorted::formed_nth))]
 pub fn settle(pool: &mut Pool, sum: &Handle) -> Result<(), NumberFault>
     requires stands { Stands pool.old }
     requires sum { IsSum sum.now (forest pool.old) }

@@ -122,7 +122,6 @@ fn add_partner(
 }
 
 /// The coefficients of the partners behind a part are added to a coefficient, and the partners are released.
-#[tactic(auto, using(tree_handles::proofs::Fronts::front_same, tree_handles::proofs::Refused::kept_same, like_children::proofs::Kids::count_removed))]
 fn add_partners(
     pool: &mut Pool,
     sum: &Handle,

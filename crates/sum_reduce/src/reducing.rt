@@ -33,7 +33,7 @@ use tree_handles::{Handle, NumberFault, undefined};
 /// added from left to right, and the coefficients of terms with identical parts, all before their sum
 /// is put back; a term whose coefficient is 0 is dropped. The Number's terms come first, then the others in
 /// the order of their parts. A sum with Undef in it is Undef.
-#[tactic(auto, using(crate::proofs::Rationals::undef_rationals, like_children::proofs::Parts::reduced_formed, tree_handles::proofs::Outcomes::passed_result, crate::proofs::Rationals::rationals_fault, tree_handles::proofs::Fronts::front_end, tree_handles::proofs::Fronts::front_without, tree_handles::proofs::Fronts::behind_first, coefficients::proofs::Named::passed_named))]
+#[tactic(auto, using(like_children::proofs::Parts::reduced_formed))]
 pub fn reduce_sum(pool: &mut Pool, sum: Handle) -> Result<Handle, NumberFault>
     requires stands { Stands pool.old }
     requires handed { IsHanded sum (forest pool.old) }

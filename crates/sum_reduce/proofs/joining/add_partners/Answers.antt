@@ -1,7 +1,7 @@
 use Rattle.sum_reduce.proofs.Shared.{suc, add-one, arith, rules, forest, keeps_after, behind_first, front_after_two, terms_in, coefficient_of, fault_named, nth, tree_of, NamesSum, Overflows, free_of}
-use Rattle.sum_reduce.proofs.{Shared.{full_as, removed}, Joins.{joining_formed, joining_less, next_partner, partner_step, partner_within}, Numbered.{beside_behind}, Sorted.{formed_nth}}
-use Rattle.sum_reduce.proofs.{Sums.{takes_handed, takes_apart, takes_after}, Hindered.{partner_hinders}, Rooms.{joining_spans, spans_next, partner_lacks}, SumBytes.{taken_free}}
-use Rattle.sum_reduce.proofs.FewBits.{next_partner_few}
+use Rattle.sum_reduce.proofs.{Shared.{full_as, removed, ◌+◌, ap, count, count_removed, front_same, keeps_none, faults_after}, Joins.{joining_formed, joining_less, next_partner, partner_step}}
+use Rattle.sum_reduce.proofs.{Joins.{partner_within}, Numbered.{beside_behind}, Sorted.{formed_nth}, Sums.{takes_handed, takes_apart, takes_after}, Hindered.{partner_hinders}}
+use Rattle.sum_reduce.proofs.{Rooms.{joining_spans, spans_next, partner_lacks}, SumBytes.{taken_free}, FewBits.{next_partner_few}}
 use Rattle.sum_reduce.proofs.joining.add_partners.Goals as goal
 
 pub is_pair-requires-clause-handed : goal.is_pair-requires-clause-handed
@@ -32,6 +32,22 @@ add_partner-requires c =
       so_far = j.number;
     }
 
+pub loop-pool-init : goal.loop-pool-init
+loop-pool-init c = record {
+  takes = λ f t. t;
+  within = c.requires.within;
+  joining = λ ts less j. j;
+  front = front_same;
+  kept = keeps_none c.args.pool.now;
+  stands = c.requires.stands;
+}
+
+pub loop-pool-smaller : goal.loop-pool-smaller
+loop-pool-smaller c =
+    let us = terms_in c.args.sum.now (forest c.loop-pool.pool) in
+    let w = (c.is_pair.ensures.pair c.loop-pool-test.true).within in
+    omega (arith, ap count c.in-Ok.ensures.terms, count_removed (c.args.at + 1) us (omega (arith, w)))
+
 pub loop-pool-preserved : goal.loop-pool-preserved
 loop-pool-preserved c =
     let i = c.loop-pool.invariant in
@@ -61,7 +77,7 @@ returns-in-Err c =
       joining = λ ts less j. tt;
       front = front_after_two behind_first (beside_behind c.requires.taken.1 (i.takes _ c.requires.taken.1)) i.front c.add_partner.ensures.front;
       kept = tt;
-      faults = search rules;
+      faults = faults_after _ c.in-Err.fault i.kept told.faults;
       caused = told.caused;
       overflow = λ ts less j. fault_named c.in-Err.fault (NamesSum d (coefficient_of (nth (suc c.args.at) us))) (Overflows ts) (rw add-one at told.overflow)
           (partner_hinders ts d us c.args.at less (i.joining ts less j) pair);

@@ -1,8 +1,9 @@
 use Rattle.sum_reduce.proofs.Shared.{◌∙◌, inl, ap, sym, subst, arith, rules, passed_result, permuted_parts, is_number, plain_value, add, more, AnswersFold, forest, keeps_none, behind_first}
 use Rattle.sum_reduce.proofs.Shared.{front_same, front_after_two, given_root, rational_others, tree_of, root_held, terms_in, passed_named, Overflows, SpansRoot, SpansTree, SpansTrees, passed_lacks}
-use Rattle.sum_reduce.proofs.{Shared.{HaveFewBits, addends_of_each, taken_permuted}, Sorted.{formed_nth}, Numbered.{gathered, next_hinders, next_fits, numbered, unnumbered, formed_behind, led_folded}}
-use Rattle.sum_reduce.proofs.{Numbered.{rationals_taken, total_folded, total_faulted}, Sums.{taken_given, taken_on, sum_beside, takes_apart, changes_same, changes_front, sum_within, term_out}}
-use Rattle.sum_reduce.proofs.{Sums.{takes_front, takes_behind, put_in, roots_apart}, Hindered.{overflows_after, overflows_as, taken_first}, SumBytes.{out_free}, Held.{few_after, held_permuted}}
+use Rattle.sum_reduce.proofs.{Shared.{HaveFewBits, addends_of_each, taken_permuted, IsCaused, keeps_after, passed_on, faults_after, none_kept, Faults}, Sorted.{formed_nth}, Numbered.{gathered}}
+use Rattle.sum_reduce.proofs.{Numbered.{next_hinders, next_fits, numbered, unnumbered, formed_behind, led_folded, rationals_taken, total_folded, total_faulted}, Sums.{taken_given, taken_on}}
+use Rattle.sum_reduce.proofs.Sums.{sum_beside, takes_apart, changes_same, changes_front, sum_within, term_out, takes_front, takes_behind, put_in, roots_apart}
+use Rattle.sum_reduce.proofs.{Hindered.{overflows_after, overflows_as, taken_first}, SumBytes.{out_free}, Held.{few_after, held_permuted}}
 use Rattle.sum_reduce.proofs.numbers.join_numbers.Goals as goal
 
 pub take_child-number-requires-clause-within : goal.take_child-number-requires-clause-within
@@ -13,7 +14,7 @@ pub collect_numbers-requires : goal.collect_numbers-requires
 collect_numbers-requires c =
     let o = term_out c.in-Some.at c.requires.sum c.in-Some.ensures.within (c.take_child-number.ensures.last c.requires.sum.handed.root) in
     record {
-      stands = search rules;
+      stands = c.take_child-number.ensures.stands;
       parent = (sum_beside c.take_child-number.result (takes_apart o.takes) o.takes.sum).handed;
       many = inl o.takes.sum.sum;
       reduced = λ n l. formed_nth n _ l (formed_behind c.in-Some.at (terms_in c.args.sum.now (forest c.args.pool.now)) _ c.in-Some.ensures.within c.requires.formed o.terms);
@@ -25,7 +26,7 @@ add_child-requires c =
     let o = term_out c.in-Some.at c.requires.sum c.in-Some.ensures.within (c.take_child-number.ensures.last c.requires.sum.handed.root) in
     let t = (taken_on o.takes c.in_ok-total-in-Some.ensures.ok).takes in
     record {
-      stands = search rules;
+      stands = c.in_ok-total-in-Some.ensures.stands;
       live = root_held c.args.sum.now _ t.sum.handed.root;
       within = search rules;
       root = given_root t.given;
@@ -50,7 +51,7 @@ returns-in_ok-total-in-Some c =
           let r = rationals_taken c.in-Some.at ts _ _ c.in-Some.ensures q o.terms o.tree in
           total_folded _ _ _ _ _ r.plain (total.rationals r.first r.others) (left.terms ∙ rational_others us r.others) x.terms;
       front = changes_front x.changes;
-      kept = search rules;
+      kept = keeps_after _ _ _ (keeps_after _ _ _ c.take_child-number.ensures.kept total.kept) c.add_child.ensures.kept;
       faults = tt;
       caused = tt;
       overflow = tt;
@@ -70,17 +71,18 @@ returns-in_err-total-in-Some c =
     let told = c.in_err-total-in-Some.ensures in
     let free = out_free c.requires.stands c.take_child-number.ensures.stands c.take_child-number.ensures.kept c.in-Some.ensures.within o in
     record {
-      ok = search rules;
-      joined = search rules;
+      ok = none_kept c.from_residual.result _ c.from_residual.ensures.0;
+      joined = none_kept c.from_residual.result _ c.from_residual.ensures.0;
       rationals = λ q.
           let r = rationals_taken c.in-Some.at ts _ _ c.in-Some.ensures q o.terms o.tree in
           let vs = terms_in c.args.sum.now (forest c.collect_numbers.new.pool) in
           passed_result c.from_residual.result fault (AnswersFold (plain_value (add ts)) vs) c.from_residual.ensures.0 c.from_residual.ensures.1
           (total_faulted _ _ c.collect_numbers.new.pool vs _ r.plain (told.rationals r.first r.others));
       front = front_after_two behind_first (takes_behind o.takes) (takes_front o.takes) c.collect_numbers.ensures.front;
-      kept = search rules;
-      faults = search rules;
-      caused = search rules;
+      kept = none_kept c.from_residual.result _ c.from_residual.ensures.0;
+      faults = passed_on c.from_residual.result fault (Faults c.args.pool.now c.collect_numbers.new.pool) c.from_residual.ensures.0 c.from_residual.ensures.1
+          (faults_after _ fault c.take_child-number.ensures.kept told.faults);
+      caused = passed_on c.from_residual.result fault (IsCaused c.collect_numbers.new.pool) c.from_residual.ensures.0 c.from_residual.ensures.1 told.caused;
       overflow = passed_named c.from_residual.result fault _ (Overflows ts) c.from_residual.ensures.1 told.overflow
           (λ x h. overflows_after (taken_first c.in-Some.at ts c.in-Some.ensures.within) x (overflows_as (λ i. more (o.tree i) (o.terms i)) x (next_hinders _ _ number formed x h)));
       bits = λ b. passed_named c.from_residual.result fault (λ o. ⊥) (λ o. ⊥) c.from_residual.ensures.1
