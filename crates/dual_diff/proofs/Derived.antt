@@ -5,7 +5,7 @@ use Rattle.dual_diff.proofs.Shared.{more, append, whole_num, Assignment, IsWhole
 use Rattle.dual_diff.proofs.Shared.{Inverts-surd_times, Means-Same, Same-sym, Same-trans, Same-Agree, Agree, Agree-refl, Agree-sym, Agree-trans, Agree-eq, Agree-append, Agree-Same, surd_times-nil}
 use Rattle.dual_diff.proofs.Shared.{surd_times-surd_one, surd_times-surd_of, Same-refl, Same-eq, whole_value, opposite, whole_literal, occurs, occurs_in, Pair, SamePair, pair_over, HasPair}
 use Rattle.dual_diff.proofs.Shared.{HasPairSum, HasPairProduct, IsPowerSlope, IsRootPair, two, where_occurs, quotient_rule, lowered, power_rule, literal_power_rule, root_rule, sum_of_products}
-use Rattle.dual_diff.proofs.Shared.{derivative, derivatives, products, ints, bytes_eq, one_fraction, negsuc, ◌*ℤ◌, product_more, product_one, product_two, product_append, whole_times, fraction_whole}
+use Rattle.dual_diff.proofs.Shared.{derivative, derivatives, products, ints, bytes_eq, one_fraction, negsuc, ◌*ℤ◌, product_more, product_one, product_two, product_append, whole_times}
 use Rattle.dual_diff.proofs.{Shared.{power_whole}, Occurring.{neither}, SlopeLaws.{zero_number, product_slope, product_still, quotient_slope, quotient_still, scale_right, half_inverts}, Still.{still}}
 use Rattle.std.specs.Prelude.{ℤ, ◌-ℤ◌}
 
@@ -103,11 +103,14 @@ opposite_by None q n d h = absurd cc
 opposite_literal : (q : Fraction) (n : ℤ) → opposite (whole_value q) ≡ Some n → whole_fraction n ≡ times minus_one_fraction q
 opposite_literal q n h = opposite_by (whole_value q) q n refl h
 
+no_literal : {A : Type 0} {n : ℤ} → None ≡ Some n → A
+no_literal h = absurd cc
+
 -- what an exponent that is a whole literal means
 literal_value : (f : Assignment) (e : Tree) (n : ℤ) → whole_literal e ≡ Some n → Means e f (surd_of (whole_fraction n))
 literal_value f (num q) n h = rational_literal q n h
 literal_value f (neg (num q)) n h = (surd_of q, Same-refl (surd_of q), Same-eq (ap (λ (z : Fraction). surd_of z) (opposite_literal q n h)))
-literal_value f e n h = cc
+literal_value f e n h = no_literal h
 
 whole_power_means : (f : Assignment) (b e : Tree) (n : ℤ) (w v : Surd) → whole_literal e ≡ Some n → Means b f w → IsWholePower n w v → Means (power b e) f v
 whole_power_means f b e n w v l m p = (w, surd_of (whole_fraction n), m, literal_value f e n l, inl (n, Same-refl (surd_of (whole_fraction n)), p))

@@ -1,5 +1,5 @@
 -- Exponents that are whole literals, and the powers that are derivable.
-use Rattle.dual_diff.proofs.Shared.{value_by, opposite_by, arith, ◌≡◌, ℕ, List, ℤ, ◌≤◌, Bool, true, false, sym, ap, ◌∙◌, ◌==◌, ◌↔◌, Contains, IsTrue, Some, None, neg_ℤ, nat_abs, if◌then◌else◌}
+use Rattle.dual_diff.proofs.Shared.{value_by, opposite_by, arith, ◌≡◌, ℕ, List, ℤ, ◌≤◌, Bool, true, false, sym, ap, ◌∙◌, ◌↔◌, Contains, IsTrue, Some, None, nat_abs}
 use Rattle.dual_diff.proofs.Shared.{whole_value, opposite, whole_literal, Rat, Fraction, negative, ratio_of, value_of, Tree, names, root_kind, ratio_parts, nth, children_of, IsDerivable}
 use Rattle.dual_diff.proofs.{Shared.{IsDerivableExponent, exponent_limit, occurs, eq-eqb, negative_parts}, Occurring.{told, names_occur}}
 use Rattle.calc_terms.specs.declared.kind.Kind.TheVariants as kind

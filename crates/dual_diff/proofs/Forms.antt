@@ -1,5 +1,5 @@
 -- The form of a tree by the kind of its root, and its children.
-use Rattle.dual_diff.proofs.Shared.{nodes_nth, ◌≡◌, ℕ, zero, suc, ◌+◌, ◌<◌, ◌≤◌, refl, sym, ap, ◌∙◌, arith, Tree, root, div, Trees, none, more, append, count, root_kind, nodes, nodes_of, size, sizes}
+use Rattle.dual_diff.proofs.Shared.{nodes_nth, ◌≡◌, ℕ, zero, suc, ◌+◌, ◌<◌, ◌≤◌, refl, sym, ap, ◌∙◌, arith, Tree, root, div, Trees, none, more, append, count, root_kind, nodes, size, sizes}
 use Rattle.dual_diff.proofs.Shared.{nth, children_of, behind, first, ◌==◌, true, Kind, bare, compound, size_of_payload, takes_kind, eqb-true}
 use Rattle.tree_handles.proofs.Plains.{nodes_grown as nodes_children}
 pub use Rattle.dual_diff.specs.WritingLaws.{sizes_append}

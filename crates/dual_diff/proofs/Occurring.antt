@@ -1,7 +1,7 @@
 -- Where a name occurs.
 use Rattle.dual_diff.proofs.Shared.{one_of, nobody, ◌≡◌, ℕ, List, [], ◌∷◌, ◌++◌, Bool, true, false, subst, inl, inr, arith, ◌||◌, ◌↔◌, Contains, IsTrue, Tree, symbol, add, mult, power, root, neg, sub}
-use Rattle.dual_diff.proofs.Shared.{div, Trees, none, more, names, names_of, occurs, occurs_in, ◌⊎◌, or_left, or_right, Contains-append_left, Contains-append_right, Contains-append_cases}
-use Rattle.dual_diff.proofs.Shared.{Contains-push, Contains-push_cases, bytes_eq-Decides}
+use Rattle.dual_diff.proofs.Shared.{div, Trees, none, more, names, names_of, occurs, occurs_in, or_left, or_right, Contains-append_left, Contains-append_right, Contains-append_cases}
+use Rattle.dual_diff.proofs.Shared.{Contains-push, bytes_eq-Decides}
 use Rattle.calc_terms.proofs.SmallLaws.{only_one as alone}
 
 pub neither : (a b : Bool) → a ≡ false → b ≡ false → (a || b) ≡ false

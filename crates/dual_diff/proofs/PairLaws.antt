@@ -1,5 +1,5 @@
 -- What is the same as a pair of a tree is one too.
-use Rattle.dual_diff.proofs.Shared.{arith, ℕ, List, inl, inr, Tree, num, symbol, undef, add, mult, power, root, neg, sub, div, Assignment, IsRoot, IsRootOf, Same, Surd, Inverts-Same, Means-Same}
+use Rattle.dual_diff.proofs.Shared.{arith, ℕ, List, inl, inr, Tree, num, symbol, undef, add, mult, power, root, neg, sub, div, Assignment, IsRoot, Same, Surd, Inverts-Same, Means-Same}
 use Rattle.dual_diff.proofs.Shared.{Same-sym, Same-trans, Same-refl, Pair, SamePair, HasPair, IsPowerSlope, IsStill, IsWholePower-Same}
 use Rattle.calc_algebra.proofs.MeaningLaws.{root_same as root_of_same}
 use Rattle.std.specs.Prelude.{ℤ}

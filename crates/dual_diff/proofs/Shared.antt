@@ -21,7 +21,7 @@ pub use Rattle.dual_diff.specs.{Writing.{Holds, IsWriting, Places, one, tree_of}
 pub use Rattle.node_pool.specs.{State.{State, free_of}, Nodes.{used}}
 pub use Rattle.rational128.proofs.{LowestTerms.{ratio_parts}, Signed.{told}, Reciprocals.{negative_parts}}
 pub use Rattle.std.proofs.Common.{Bool, List, [], ap, append-nil, arith, false, inl, inr, length, nat_eq, of_z, refl, rules, subst, suc, sym, to_z, true, zero, ℕ, ℤ, ◌*◌, ◌++◌, ◌+◌, ◌-◌, ◌<◌, ◌^◌}
-pub use Rattle.std.proofs.{Common.{◌∙◌, ◌∷◌, ◌≡◌, ◌≤◌}, lemmas.Bool.{eq-eqb, eqb-true, or_left, or_right}, lemmas.List.{length-append}, lemmas.Int.{fits_signed_from_abs, ints, to_z-of_z}}
+pub use Rattle.std.proofs.{Common.{◌∙◌, ◌∷◌, ◌≡◌, ◌≤◌}, lemmas.Bool.{eq-eqb, eqb-true, false≢true, or_left, or_right}, lemmas.List.{length-append}, lemmas.Int.{fits_signed_from_abs, ints, to_z-of_z}}
 pub use Rattle.std.proofs.{lemmas.List.Elements.{Contains-append_cases, Contains-append_left, Contains-append_right, Contains-push, Contains-push_cases}, lemmas.Slice.Eq.{bytes_eq-Decides}}
 pub use Rattle.std.specs.{Int.{w128}, Str.{bytes_eq}, Prelude.{Contains, FitsSigned, IsTrue, None, Option, Some, if◌then◌else◌, nat_abs, neg_ℤ, negsuc, pos, ◌*ℤ◌, ◌==◌, ◌||◌, ◌↔◌, ◌⊎◌}}
 pub use Rattle.tree_handles.proofs.{Given.{gives, gives_as, represents_node}, Lasts.{ends_as}, NextChildren.{last_child, next_child}, Plains.{count-plains, size-plain}}

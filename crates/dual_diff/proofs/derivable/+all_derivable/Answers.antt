@@ -1,12 +1,12 @@
-use Rattle.dual_diff.proofs.Shared.{◌≡◌, ℕ, sym, subst, length, arith, true, refl, name_of, AllPartsOf, HasDerivative, IsDerivable, first, next_child, last_child, children_of, kids_of}
-use Rattle.dual_diff.proofs.{Shared.forest, Shared.tree_of, AllNodes.{of_root, of_child, of_node, one_more, all_of}, Forms.smaller_child, Turns.{left_after, turn}}
+use Rattle.dual_diff.proofs.Shared.{◌≡◌, ℕ, sym, subst, length, arith, true, refl, name_of, AllPartsOf, HasDerivative, IsDerivable, first, next_child, last_child, children_of, kids_of, forest}
+use Rattle.dual_diff.proofs.{Shared.{tree_of, ◌∙◌, false≢true}, AllNodes.{of_root, of_child, of_node, one_more, all_of}, Forms.{smaller_child}, Turns.{left_after, turn}}
 use Rattle.dual_diff.proofs.derivable.+all_derivable.Goals as goal
 
 pub returns-then-not-is_derivable : goal.returns-then-not-is_derivable
 returns-then-not-is_derivable t c = (
-  λ h. absurd cc,
-  λ h. let yes : c.is_derivable.result ≡ true = c.is_derivable.ensures.1 (of_root (name_of c.args.name) (tree_of c.args.node c.args.pool.now) h) in absurd
-      (cc (yes, c.if-not-is_derivable.true)),
+  λ h. absurd (false≢true h),
+  λ h. let yes : c.is_derivable.result ≡ true = c.is_derivable.ensures.1 (of_root (name_of c.args.name) (tree_of c.args.node c.args.pool.now) h) in
+      absurd (false≢true (sym c.if-not-is_derivable.true ∙ yes)),
 )
 
 pub all_derivable-requires : goal.all_derivable-requires
@@ -19,9 +19,9 @@ returns-then-not-all_derivable t c =
     let n = next_child c.requires.stands c.requires.expression c.loop-child.invariant.ids c.in-Some.ensures.steps in
     let x = name_of c.args.name in
     let u = tree_of c.args.node c.args.pool.now in (
-      λ h. absurd cc,
+      λ h. absurd (false≢true h),
       λ h. let yes : c.all_derivable.result ≡ true = c.all_derivable.ensures.1
-          (subst (HasDerivative x) (sym n.tree) (of_child x (length c.loop-child.yielded) u n.within h)) in absurd (cc (yes, c.if-not-all_derivable.true)),
+          (subst (HasDerivative x) (sym n.tree) (of_child x (length c.loop-child.yielded) u n.within h)) in absurd (false≢true (sym c.if-not-all_derivable.true ∙ yes)),
     )
 
 pub loop-child-preserved : goal.loop-child-preserved
