@@ -1,7 +1,7 @@
 -- The answers to the powers that no rule rewrites.
-use Rattle.power_reduce.proofs.Shared.{no_names, or_left, or_right, ◌≡◌, ◌<◌, ◌&&◌, ◌||◌, true, false, [], length, inl, inr, refl, sym, ap, ◌∙◌, arith, and_parts, Contains-append_left, Fraction}
-use Rattle.power_reduce.proofs.Shared.{zero_fraction, one_fraction, nest, load, is_number, IsNumber, is_reduced, IsPowerForm, num_one, Tree, num, undef, power, names, is_undef, itself, in_base}
-use Rattle.power_reduce.proofs.Shared.{in_exponent, number_words, number_test, power_one_is_base, power_zero_is_one, reduced_test, undef_part, reduced_parts, HasNoNewName, KeepsMeanings, keeps}
+use Rattle.power_reduce.proofs.Shared.{no_names, or_left, or_right, ◌≡◌, ◌&&◌, ◌||◌, true, false, [], inl, inr, refl, sym, ◌∙◌, arith, and_parts, Contains-append_left, Fraction}
+use Rattle.power_reduce.proofs.Shared.{zero_fraction, one_fraction, nest, is_number, IsNumber, is_reduced, IsPowerForm, num_one, Tree, num, undef, power, names, is_undef, itself, in_base}
+use Rattle.power_reduce.proofs.Shared.{in_exponent, number_words, number_test, power_one_is_base, power_zero_is_one, reduced_test, undef_part, reduced_parts, KeepsMeanings, keeps}
 use Rattle.power_reduce.proofs.Shared.{is_zero, has_no_power, has_number_power, IsWrittenPower, IsPowerAnswer, is_zero_or_one, names_of_terms, nest_terms, terms_parts}
 use Rattle.power_reduce.proofs.{Written.{zero_written, one_written, kept_written}, Bounds.{load_at_most_weight}}
 use Rattle.calc_measures.proofs.SmallLaws.{number_load as no_load}

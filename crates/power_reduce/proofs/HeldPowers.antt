@@ -8,9 +8,10 @@ use Rattle.power_reduce.proofs.Shared.{IsPowerAnswer, IsStep, goes_inside, is_ze
 use Rattle.power_reduce.proofs.Shared.{held_wider, nothing_held, number_held, Forest, tree_of, NumberFault, given_told, held_power, IsNoLargerThanPower, IsSumHeld, Counts, counts, counts_of}
 use Rattle.power_reduce.proofs.Shared.{is_counted, multiple, as_factor, Addend, addend, addend_of, IsPartHeld, factor_held, more_weighted, none_weighted, AreWeighted, no_factor_held, power_high}
 use Rattle.power_reduce.proofs.Shared.{power_low, raised_high, raised_low, IsHeldAsPower, Weighted, weighted, tree_as_sum, addend_raised, held_as_power, held_as_inverse, inverse_raised, one_counts}
-use Rattle.power_reduce.proofs.{Shared.{one_weighted, as_number, power_no_number}, Exponents.{as_whole, whole_no_half}, RationalPowers.{calculated_exactly}, Whole.{whole_is}}
-use Rattle.power_reduce.proofs.{Written.{number_power, one_exponent}, ByRule.{no_number_power as no_number_base}, WithinBits.{rational_raised, rational_inverted, number_is_held}}
-use Rattle.std.specs.Prelude.{if◌then◌else◌}
+use Rattle.power_reduce.proofs.{Shared.{one_weighted, as_number, power_no_number, AreTerms, IsTerm, Rises, term_of, terms_of, Trees, false≢true, are_counted}, Exponents.{as_whole, whole_no_half}}
+use Rattle.power_reduce.proofs.{RationalPowers.{calculated_exactly}, Whole.{whole_is}, Written.{number_power, one_exponent}, ByRule.{no_number_power as no_number_base}}
+use Rattle.power_reduce.proofs.WithinBits.{rational_raised, rational_inverted, number_is_held}
+use Rattle.std.specs.Prelude.{if◌then◌else◌, ◌==◌, Ok, Err}
 use Rattle.tree_bits.specs.HeldTrees.{base_in as factor_base, exponent_in as factor_exponent}
 use Rattle.reduce_port.specs.declared.step.Step.TheVariants as step
 
@@ -55,10 +56,15 @@ one_power z b t i e h l k = grind arith
 -- ---- powers of Numbers, as they are calculated
 
 pub positive_power : (z y : ℤ) (b a t : Tree) → pos 1 ≤ℤ z → y ≡ z → a ≡ b → IsNoLargerThanPower (value a) (nat_abs y) (value t) → IsHeldAsPower z (value b) (value t)
-positive_power z y b a t l i e m = grind (arith, held_as_power)
+positive_power (negsuc n) y b a t l i e m = absurd (omega (arith, l))
+positive_power (pos n) y b a t l i e m =
+    subst (λ (x : Tree). IsHeldAsPower (pos n) (value x) (value t)) e (held_as_power (value a) (value t) n (subst (λ (x : ℤ). IsNoLargerThanPower (value a) (nat_abs x) (value t)) i m))
 
 pub negative_power : (z y : ℤ) (b a i t : Tree) → z <ℤ pos 0 → y ≡ neg_ℤ z → a ≡ b → IsNoLargerThanInverse (value a) (value i) → IsNoLargerThanPower (value i) (nat_abs y) (value t) → IsHeldAsPower z (value b) (value t)
-negative_power z y b a i t l j e v m = grind arith
+negative_power (pos n) y b a i t l j e v m = grind (arith, l)
+negative_power (negsuc n) y b a i t l j e v m =
+    subst (λ (x : Tree). IsHeldAsPower (negsuc n) (value x) (value t)) e
+    (inverse_raised (value a) (value i) (value t) n (held_as_inverse (value a) (value i) v.held) (held_as_power (value i) (value t) (suc n) (subst (λ (x : ℤ). IsNoLargerThanPower (value i) (nat_abs x) (value t)) j m)))
 
 fraction_raised : (q r : Fraction) (n : ℕ) → calculated pow_op q (whole_fraction (pos (suc n))) ≡ exactly r → r ≡ fraction_power q (suc n)
 fraction_raised q r n e = calculated_exactly pow_op q (whole_fraction (pos (suc n))) r e ∙ ap (λ y. fraction_power q (nat_abs y)) (whole_numerator (pos (suc n)))
@@ -132,8 +138,27 @@ plain_held b z h l i j w n a =
 
 -- ---- an opaque exponent does not count
 
+-- of the terms of a Number a rational alone counts, and there is one at most
+counted_term : (t : Tree) → IsTerm t → is_counted t ≡ true → (term_of t).radicand ≡ 1
+counted_term (num q) h k = refl
+counted_term (mult (more (num q) (more (root (num r)) none))) h k = absurd (false≢true (and_parts (q.den == 1) false k).1)
+counted_term (root (num r)) h k = absurd (false≢true k)
+counted_term t h k = absurd h
+
+no_counted_sum : (ts : Trees) → 2 ≤ length (terms_of ts) → AreTerms ts → Rises (terms_of ts) → are_counted ts ≡ true → ⊥
+no_counted_sum none l h r k = absurd (omega (arith, l))
+no_counted_sum (more t none) l h r k = absurd (omega (arith, l))
+no_counted_sum (more t (more u ts)) l h r k =
+    let (x, y) = and_parts (is_counted t) (are_counted (more u ts)) k in
+    let z = (and_parts (is_counted u) (are_counted ts) y).0 in
+    omega (arith, counted_term t h.0 x, counted_term u h.1.0 z, r.0.0)
+
 not_counted : (f : Tree) → IsNumber f → is_whole_num f ≡ false → is_counted f ≡ true → ⊥
-not_counted f n w c = grind arith
+not_counted (num q) n w c = false≢true (sym w ∙ c)
+not_counted (add ts) n w c = no_counted_sum ts n.0 n.1 n.2 c
+not_counted (mult (more (num q) (more (root (num r)) none))) n w c = false≢true (and_parts (q.den == 1) false c).1
+not_counted (root (num r)) n w c = false≢true c
+not_counted t n w c = n
 
 opaque_held : {A : Type 0} (c f : Tree) (h l : ℕ) → is_opaque_exponent f ≡ true → IsFactorHeld (power c f) h l → A
 opaque_held c f h l o a =
@@ -232,4 +257,5 @@ step_held t others s (step.Again h) z i k p = tt
 
 pub if_step_held : (t : Tree) (others : Forest) (s : State) (r : Result Step NumberFault) (z : ℤ) → exponent_in t ≡ num (whole_fraction z) → IfOk r (IsStep t others s)
     → (is_number (base_in t) ≡ true → IfOk r (λ x. IfDone x (λ h. IsNumberPower z (base_in t) (tree_of h s)))) → IfOk r (λ x. IfDone x (λ h. IsHeldAsPowerOf z (base_in t) (tree_of h s)))
-if_step_held t others s r z i k p = grind (arith, step_held)
+if_step_held t others s (Ok x) z i k p = step_held t others s x z i k p
+if_step_held t others s (Err f) z i k p = tt

@@ -1,6 +1,5 @@
 -- Trees that the tests build.
 use Rattle.power_reduce.proofs.Shared.{◌≡◌, ℕ, List, true, inl, inr, Fraction, is_reduced, num, symbol, reduced_test}
-use Rattle.reduce_port.specs.declared.step.Step.TheVariants as step
 
 pub number_reduced : (q : Fraction) → is_reduced (num q) ≡ true
 number_reduced q = reduced_test (num q) (inr (inl tt))

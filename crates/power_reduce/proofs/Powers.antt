@@ -1,8 +1,8 @@
 -- A root of the pool that is a power: its sides, and what is left when they are taken.
 use Rattle.power_reduce.proofs.Shared.{once_one, ◌≡◌, ℕ, ◌+◌, ◌≤◌, [], ◌∷◌, refl, ap, ◌∙◌, arith, true, gives_without, Payload, bare, Tree, num, power, Trees, none, more, size, Fraction, one_fraction}
 use Rattle.power_reduce.proofs.Shared.{num_least, num_most, whole_size, least_size, GivesTwo, IsOver, IsTaken, taken, over_put, once_count, without_put, children_at, seen, expression, State, is_power}
-use Rattle.power_reduce.proofs.Shared.{base_in, exponent_in, tree_of, AllOnce, IsOwned, IsHanded, Ends, Gives, KeepsFront, nth, grown, plain, IsExpression, children_of, Forest, empty, tree, arity}
-use Rattle.power_reduce.proofs.Shared.{kids, root_payload, root_count, tree_nth, without_nth, tree_at, kids_of, root_tree, without_root, put, Stands, forest, all-kids, behind_first, front_same}
+use Rattle.power_reduce.proofs.Shared.{base_in, exponent_in, tree_of, IsOwned, IsHanded, Ends, Gives, KeepsFront, nth, grown, plain, IsExpression, children_of, Forest, arity}
+use Rattle.power_reduce.proofs.Shared.{kids, root_payload, tree_nth, without_nth, tree_at, kids_of, root_tree, without_root, put, Stands, forest, all-kids, behind_first, front_same}
 use Rattle.power_reduce.proofs.Shared.{front_at, front_end, front_put, front_without, gives_as, ends_without, ends_as, ends_at, children_of-plain, whole_kids, root_arity}
 use Rattle.calc_terms.specs.declared.kind.Kind.TheVariants as kind
 

@@ -1,5 +1,5 @@
 -- The factors of a product are raised to an exponent, one by one.
-use Rattle.power_reduce.proofs.Shared.{◌≡◌, ℕ, ◌+◌, ◌<◌, [], ◌∷◌, eqb, refl, sym, ap, ◌∙◌, subst, arith, true, false, Tree, is_mult, mult, power, Trees, none, more, count, raised, plain, children_of}
+use Rattle.power_reduce.proofs.Shared.{◌≡◌, ℕ, ◌+◌, ◌<◌, [], ◌∷◌, eqb, refl, sym, ap, ◌∙◌, subst, arith, false, Tree, mult, power, Trees, none, more, count, raised, plain, children_of}
 use Rattle.power_reduce.proofs.Shared.{compound, nth, Forest, Gives, KeepsFront, root_tree, without_root, given_rest, given_same, given_told, behind_first, behind_later, front_after_one, front_same}
 use Rattle.power_reduce.proofs.Shared.{front_without, tree-without, ChangesTree, IsHole, changes_as, changes_beside, changes_front, changes_same, eqb-sym, hole_beside, hole_stays, mapped, set_child}
 use Rattle.power_reduce.proofs.Shared.{IsAsBefore, Place, IsPart, part_all, part_next, part_nth}

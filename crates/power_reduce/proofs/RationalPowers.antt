@@ -1,7 +1,7 @@
 -- Whole powers of rationals.
 use Rattle.power_reduce.proofs.Shared.{◌≡◌, ◌≢◌, ℕ, ◌<◌, ◌^◌, ◌≤ℤ◌, ◌<ℤ◌, ℤ, pos, negsuc, neg_ℤ, ◌-ℤ◌, zero, suc, Bool, true, false, Result, refl, sym, ap, ◌∙◌, subst, arith, to_z, of_z, nat_abs}
 use Rattle.power_reduce.proofs.Shared.{IfErr, ints, w128, IsErrAnd, Operation, pow_op, fraction_power, operation_fits, result_of, Fraction, lowest, whole_fraction, zero_fraction, one_fraction}
-use Rattle.power_reduce.proofs.Shared.{inverse, is_zero_fraction, int_is_zero, PlainValue, calculated, powered, exactly, undefined, overflow, plain_value, Rat, ratio_of, value_of, Ratio, whole, Tree}
+use Rattle.power_reduce.proofs.Shared.{inverse, is_zero_fraction, PlainValue, calculated, powered, exactly, undefined, overflow, plain_value, Rat, ratio_of, value_of, Ratio, whole, Tree}
 use Rattle.power_reduce.proofs.Shared.{num, undef, power, whole_numerator, whole_denominator, zero_is, KeepsMeanings-eq, number_test, power_of_rational, negative_power_of_rational, power_zero_is_one}
 use Rattle.power_reduce.proofs.Shared.{zero_to_nothing, State, plain_overflow, AnswersRationals, IsPowerAnswer, has_no_power, is_at_most_zero, IsWrittenPower, ratio_parts, told, Overflow}
 use Rattle.power_reduce.proofs.{Shared.{IsPlainAnswer, IsPlainOverflow, keeps, NumberFault, by_test, operation_of, Pow, lt_z, le_z}, Answered.{number_answer, undefined_answer}}

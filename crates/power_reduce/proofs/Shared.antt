@@ -5,9 +5,9 @@ pub use Rattle.calc_algebra.proofs.{NumberRewrites.{power_of_inverse, power_of_n
 pub use Rattle.calc_algebra.proofs.{PowerRewrites.{power_zero_is_one, powers}, ReducedLaws.{reduced_test, reduced_words, undef_words}, UndefRewrites.{undef_part, zero_to_nothing}}
 pub use Rattle.calc_algebra.proofs.{SmallLaws.{keeps, no_names}, SurdLaws.{Agree-Same}, TermLaws.{Same-refl}, HalfLaws.{half_is_odd}, InverseLaws.{inverse_of_term, inverse_of_terms, term_has_inverse}}
 pub use Rattle.calc_algebra.proofs.{InverseLaws.{terms_have_inverse}, Names.{names_of_terms}, NumberValues.{number_means}, MeaningLaws.{one_meaning}}
-pub use Rattle.calc_algebra.specs.{Numbers.{IsNumber, Rises, classes, value}, Reduced.{HasForm, IsPowerForm, IsProductForm, IsWholePowerForm, NoneIs, base_of, is_half_num, is_num_one}}
-pub use Rattle.calc_algebra.specs.{Reduced.{is_opaque_exponent, is_transparent_power, is_whole_num, num_one, split_product}, Rewritings.{HasNoNewName, KeepsMeanings, Rewrites}}
-pub use Rattle.calc_algebra.specs.{SquareClasses.{Inverts}, Surds.{Surd, surd_of, surd_one, surd_power, term}, Meanings.{Means}}
+pub use Rattle.calc_algebra.specs.{Numbers.{AreTerms, IsNumber, IsTerm, Rises, classes, term_of, terms_of, value}, Reduced.{HasForm, IsPowerForm, IsProductForm, IsWholePowerForm, NoneIs, base_of}}
+pub use Rattle.calc_algebra.specs.Reduced.{is_half_num, is_num_one, is_opaque_exponent, is_transparent_power, is_whole_num, num_one, split_product}
+pub use Rattle.calc_algebra.specs.{Rewritings.{HasNoNewName, KeepsMeanings, Rewrites}, SquareClasses.{Inverts}, Surds.{Surd, surd_of, surd_one, surd_power, term}, Meanings.{Means}}
 unfoldable pub use Rattle.calc_algebra.specs.{Numbers.{is_number}, Reduced.{is_reduced}}
 pub use Rattle.calc_bits.proofs.Held.{held_power}
 pub use Rattle.calc_bits.specs.{Masses.{IsHeld, mass_from}, Bounds.{IsNoLargerThanPower}}
@@ -32,43 +32,44 @@ pub use Rattle.node_pool.proofs.Ids.{eqb_sym as eqb-sym}
 pub use Rattle.node_pool.specs.{State.{State, free_of}, declared.full.Full.{Full}}
 pub use Rattle.number_forms.proofs.{Placings.{one_test as one_is_one}, RationalCalls.{num_same, plain_overflow, rational_power, rational_power_over}, Rooms.{full_as, refusal_as}}
 pub use Rattle.number_forms.proofs.{InverseBits.{inverse_no_larger}, WithinBits.{inverse_within}, RationalBits.{power_no_larger, power_parts, rational_power_fits}, PowersWithin.{power_within}}
+pub use Rattle.number_forms.proofs.Refusals.{faults_after, keeps_on, lacks_in, none_given, none_kept, refuses_on}
 pub use Rattle.number_forms.specs.{Answers.{AnswersRationals, IsNumberOf}, Inverses.{AnswersInverse, IfValue, IsInverseOf}, Readers.{is_zero, numerator}, Rooms.{LacksRoom, SpansInverse}}
 pub use Rattle.number_forms.specs.{declared.inverting.Inverse.{Inverse}, Overflows.{InverseOverflows, PowerOverflows}}
 pub use Rattle.power_reduce.specs.{Bits.{HasFewBitsRaised, IsFactorHeld, IsHeldAsPowerOf, IsNumberPower}, Misfits.{IsPowerMisfit, LoweringOverflows, NamesPower, RaisingOverflows, WholeOverflows}}
 pub use Rattle.power_reduce.specs.{Misfits.{inverting, raising}, PowerAnswers.{HasReducedSides, IsPowerAnswer, IsStep, IsWrittenPower, base_in, exponent_in, has_no_power, has_number_power}}
 pub use Rattle.power_reduce.specs.{PowerAnswers.{is_at_most_zero, is_power}, PowerRules.{AreBoundedPowers, EachTree, HalvesRoot, IsByRule, IsLighterPart, IsRewritable, JoinsExponents, RaisesParts}}
-pub use Rattle.power_reduce.specs.PowerSteps.{goes_inside, half, is_even_whole, is_zero_or_one, parts_of, power_of_root, raised, rewritten, rewritten_whole}
-pub use Rattle.power_reduce.specs.Rooms.{IsShortOfRoot, IsShortOfStep, LacksStep, SpansStep}
+pub use Rattle.power_reduce.specs.{PowerSteps.{goes_inside, half, is_even_whole, is_zero_or_one, parts_of, power_of_root, raised, rewritten, rewritten_whole}, Rooms.{IsShortOfRoot, IsShortOfStep}}
+pub use Rattle.power_reduce.specs.Rooms.{LacksRoot, LacksStep, SpansStep}
 pub use Rattle.rational128.proofs.{LowestTerms.{ratio_parts}, Signed.{told}, SmallLaws.{zero_rational}}
 pub use Rattle.rational128.specs.{declared.overflow.Overflow.{Overflow}, declared.overflow.Op.TheVariants.{Pow}, Refusals.{operation_of}}
 pub use Rattle.reduce_port.proofs.ChildBytes.{merged_free, taken_free}
 pub use Rattle.reduce_port.specs.{Steps.{AnswersRationalStep, IfDone}, declared.step.Step.{Step}}
 pub use Rattle.std.proofs.lemmas.Bool.{and_from, and_parts, eq-eqb, eqb-true, false_from_ne_true, false≢true, le-leb, leb-true, not-false, not-true, not_from_false, or_left, or_parts, or_right}
-pub use Rattle.std.proofs.{lemmas.Int.{fits_signed_from_abs, ints, rem_is}, lemmas.List.Elements.{Contains-append_cases, Contains-append_left, Contains-append_right}, lemmas.Nat.{pow_pos}}
-pub use Rattle.std.proofs.Common.{Bool, Err, FitsSigned, List, None, Ok, Result, Some, [], ap, arith, eqb, false, inl, inr, length, nat_eq, neg_ℤ, negsuc, not, of_z, pos, refl, rules, subst, suc, sym}
-pub use Rattle.std.proofs.Common.{to_z, true, zero, ℕ, ℤ, ◌&&◌, ◌*◌, ◌+◌, ◌-ℤ◌, ◌<ℤ◌, ◌<◌, ◌^◌, ◌||◌, ◌∙◌, ◌∷◌, ◌≡◌, ◌≢◌, ◌≤ℤ◌, ◌≤◌, ◌⊎◌}
+pub use Rattle.std.proofs.{lemmas.Bool.{true≢false}, lemmas.Int.{fits_signed_from_abs, ints, rem_is}, lemmas.List.Elements.{Contains-append_cases, Contains-append_left, Contains-append_right}}
+pub use Rattle.std.proofs.{lemmas.Nat.{pow_pos}, Common.{Bool, Err, FitsSigned, List, None, Ok, Result, Some, [], ap, arith, eqb, false, inl, inr, length, nat_eq, neg_ℤ, negsuc, not, of_z, pos, refl}}
+pub use Rattle.std.proofs.Common.{rules, subst, suc, sym, to_z, true, zero, ℕ, ℤ, ◌&&◌, ◌*◌, ◌+◌, ◌-ℤ◌, ◌<ℤ◌, ◌<◌, ◌^◌, ◌||◌, ◌∙◌, ◌∷◌, ◌≡◌, ◌≢◌, ◌≤ℤ◌, ◌≤◌, ◌⊎◌}
 pub use Rattle.std.specs.{Int.{w128}, Result.{IsErrAnd}, Prelude.{IfErr, IfOk, IsOk, int_div, int_le, int_lt, int_rem, max, nat_abs, nat_le}}
 pub use Rattle.surd_bits.proofs.Inverted.{one_no_larger}
 pub use Rattle.surd_bits.specs.Inverted.{IsNoLargerThanInverse}
 pub use Rattle.tree_bits.proofs.{Factors.{as_number, factor_as_tree, tree_as_base}, Numbers.{alone, held_number, held_wider, nothing_held, number_held}, Powers.{addend_raised, held_as_inverse}}
 pub use Rattle.tree_bits.proofs.{Powers.{held_as_power, inverse_raised}, Sums.{one_counts, one_weighted}, Children.{tree_as_sum}}
-pub use Rattle.tree_bits.specs.HeldTrees.{Addend, AreWeighted, IsPartHeld, addend, addend_of, factor_held, more_weighted, no_factor_held, none_weighted, power_high, power_low}
-pub use Rattle.tree_bits.specs.{Exponents.{Counts, counts, counts_of, is_counted, multiple}, Powers.{IsHeldAsPower, raised_high, raised_low}, Children.{IsSumHeld}, Weighted.{Weighted, weighted}}
+pub use Rattle.tree_bits.specs.{HeldTrees.{Addend, AreWeighted, IsPartHeld, addend, addend_of, factor_held, more_weighted, no_factor_held, none_weighted, power_high, power_low}, Exponents.{Counts}}
+pub use Rattle.tree_bits.specs.{Exponents.{are_counted, counts, counts_of, is_counted, multiple}, Powers.{IsHeldAsPower, raised_high, raised_low}, Children.{IsSumHeld}, Weighted.{Weighted, weighted}}
 pub use Rattle.tree_bits.specs.Factors.{as_factor}
 pub use Rattle.tree_handles.proofs.{Beside.{gives_put, gives_without}, Counted.{all-kids}, Cuts.{cut, cut_rest, represents_count}, Filling.{IsAsBefore, as_before, changes_as, changes_beside}}
 pub use Rattle.tree_handles.proofs.Filling.{changes_front, changes_last, changes_last_front, changes_other, changes_same, children_told, front_again, hole_beside, hole_stays}
 pub use Rattle.tree_handles.proofs.{Forests.{bytes_in-join, keeps_after}, FreeBytes.{refused_below, replaced_free}, Fronts.{behind_first, behind_later, behind_new, front_after, front_after_one}}
-pub use Rattle.tree_handles.proofs.{Fronts.{front_after_two, front_at, front_end, front_put, front_same, front_without}, Refused.{kept_same as keeps_none, overflow_as, refused_as}}
-pub use Rattle.tree_handles.proofs.Given.{given_apart, given_handed, given_other, given_rest, given_root, given_same, given_told, given_without, gives, gives_as, handed_beside, owned}
-pub use Rattle.tree_handles.proofs.{Given.{represents_handed, represents_join, represents_node, represents_none, represents_with}, Lasts.{apart, ends_as, ends_at, ends_without, kids_of_root}}
-pub use Rattle.tree_handles.proofs.{Lasts.{last_apart, last_tree, other_apart, other_root, tree_of_root}, Outcomes.{by_test, if_map}, Over.{IsAdded, IsOver, IsTaken, added_as, children_at}}
-pub use Rattle.tree_handles.proofs.{Over.{children_in, moved, once_count, over_end, over_gives, over_handed, over_plain, over_put, over_same, taken, without_put}, Places.{used_forest}}
+pub use Rattle.tree_handles.proofs.{Fronts.{front_after_two, front_at, front_end, front_put, front_same, front_without}, Refused.{kept_after, kept_same, kept_same as keeps_none, overflow_as}}
+pub use Rattle.tree_handles.proofs.{Refused.{refused_as, refuses_after}, Given.{given_apart, given_handed, given_other, given_rest, given_root, given_same, given_told, given_without, gives, gives_as}}
+pub use Rattle.tree_handles.proofs.{Given.{handed_beside, owned, represents_handed, represents_join, represents_node, represents_none, represents_with}, Lasts.{apart, ends_as, ends_at, ends_without}}
+pub use Rattle.tree_handles.proofs.{Lasts.{kids_of_root, last_apart, last_tree, other_apart, other_root, tree_of_root}, Outcomes.{by_test, if_map}, Over.{IsAdded, IsOver, IsTaken, added_as}}
+pub use Rattle.tree_handles.proofs.{Over.{children_at, children_in, moved, once_count, over_end, over_gives, over_handed, over_plain, over_put, over_same, taken, without_put}, Places.{used_forest}}
 pub use Rattle.tree_handles.proofs.{Plains.{children_of-plain, size-plain, whole_kids}, Room.{given_free, least_size, released_free}, Roots.{put-put, root_arity, root_held, tree-without}}
 pub use Rattle.tree_handles.proofs.{Seen.{expression, live, seen}, SmallLaws.{once_one}}
-pub use Rattle.tree_handles.specs.{Expressions.{IsExpression, children_of, compound, grown, nth, plain}, Faults.{OfOverflow}, Forest.{Forest, arity, bytes_in, empty, kids, merged_nth, one_tree}}
-pub use Rattle.tree_handles.specs.{Forest.{root_count, root_payload, tree, tree_nth, with_nth, with_root_kids, without_nth}, Handed.{AllOnce, Ends, Gives, IsHanded, IsOnce, IsOwned, KeepsFront}}
-pub use Rattle.tree_handles.specs.{Handed.{Represents, tree_of}, Holes.{ChangesTree, IsHole, Place, set_child}, Inside.{holds, kids_of, tree_at}, Roots.{put, root_tree, without_root}}
-pub use Rattle.tree_handles.specs.{Standing.{KeepsRefusals, Stands, forest}, declared.fault.NumberFault.{NumberFault}}
+pub use Rattle.tree_handles.specs.{Expressions.{IsExpression, children_of, compound, grown, nth, plain}, Faults.{Faults, OfOverflow}, Forest.{Forest, arity, bytes_in, empty, kids, merged_nth}}
+pub use Rattle.tree_handles.specs.{Forest.{one_tree, root_count, root_payload, tree, tree_nth, with_nth, with_root_kids, without_nth}, Handed.{AllOnce, Ends, Gives, IsHanded, IsOnce, IsOwned}}
+pub use Rattle.tree_handles.specs.{Handed.{KeepsFront, Represents, tree_of}, Holes.{ChangesTree, IsHole, Place, set_child}, Inside.{holds, kids_of, tree_at}, Roots.{put, root_tree, without_root}}
+pub use Rattle.tree_handles.specs.{Standing.{KeepsRefusals, LacksBytes, Refuses, Stands, forest}, declared.fault.NumberFault.{NumberFault}, Causes.{IsCaused}, Lacking.{OfFull}}
 pub use Rattle.tree_room.proofs.{Coefficients.{split_counts}, Counts.{counts_one, number_counts_one}, PowerCounts.{power_no_number}, Handed.{raised_factor, raised_number}, Multiples.{scaled}}
 pub use Rattle.tree_room.specs.Handed.{counted_in_all}
 pub use lib.Signed.{le_z, lt_z}

@@ -1,5 +1,5 @@
 -- Whole exponents, as the program tests them.
-use Rattle.power_reduce.proofs.Shared.{and_true, arith, ◌≡◌, ◌≢◌, ◌<◌, ◌^◌, ℤ, pos, Bool, true, false, ◌&&◌, sym, ap, ◌∙◌, to_z, of_z, nat_eq, nat_abs, w128, eq-eqb, whole_fraction, int_is_one}
+use Rattle.power_reduce.proofs.Shared.{and_true, arith, ◌≡◌, ◌≢◌, ◌<◌, ◌^◌, ℤ, pos, Bool, true, false, sym, ap, ◌∙◌, to_z, of_z, nat_eq, nat_abs, w128, eq-eqb, whole_fraction, int_is_one}
 use Rattle.power_reduce.proofs.Shared.{is_number, is_reduced, is_num_one, is_whole_num, is_opaque_exponent, Tree, num, whole_numerator, whole_denominator, reduced_parts, parts_reduced, is_power}
 use Rattle.power_reduce.proofs.{Shared.{exponent_in, told, nth, children_of}, ByRule.{transparent_whole}, Powers.{power_children}}
 use Rattle.calc_terms.proofs.SmallLaws.{told_one as one_test}

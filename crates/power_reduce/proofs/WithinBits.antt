@@ -1,7 +1,7 @@
 -- A whole power of a Number that is held within few bits does not overflow.
 use Rattle.power_reduce.proofs.Shared.{◌≡◌, ◌≢◌, ℕ, zero, suc, ◌+◌, ◌*◌, ◌≤◌, ℤ, pos, negsuc, [], Bool, true, false, not, Result, Ok, Err, refl, ap, ◌∙◌, subst, arith, nat_abs, IfErr, is_number}
-use Rattle.power_reduce.proofs.Shared.{value, term, surd_of, IsHeld, IsPlainOverflow, PlainValue, calculated, exactly, overflow, powered, undefined, no_zero, whole_numerator, one_times, times_comm}
-use Rattle.power_reduce.proofs.Shared.{pow_op, fraction_fits, fraction_power, result_of, Fraction, inverse, one_fraction, times, whole_fraction, zero_fraction, is_zero_fraction, Tree, num, power}
+use Rattle.power_reduce.proofs.Shared.{value, term, surd_of, IsHeld, IsPlainOverflow, PlainValue, calculated, exactly, overflow, powered, undefined, no_zero, whole_numerator}
+use Rattle.power_reduce.proofs.Shared.{pow_op, fraction_fits, fraction_power, result_of, Fraction, inverse, whole_fraction, zero_fraction, is_zero_fraction, Tree, num, power}
 use Rattle.power_reduce.proofs.Shared.{rational_power, rational_power_over, IsFactorHeld, HasFewBitsRaised, IsPowerMisfit, inverting, raising, NamesPower, RaisingOverflows, WholeOverflows}
 use Rattle.power_reduce.proofs.Shared.{has_number_power, Overflow, factor_as_tree, held_number, nothing_held, OfOverflow, NumberFault, inverse_no_larger, power_no_larger, power_parts}
 use Rattle.power_reduce.proofs.{Shared.{rational_power_fits, power_within, inverse_within, one_no_larger}, RationalPowers.{plain_power}}

@@ -1,5 +1,5 @@
 -- Which tree stands for a power, where a rule names it.
-use Rattle.power_reduce.proofs.Shared.{or_right, ◌≡◌, ◌≢◌, ◌≤◌, ◌≤ℤ◌, ℤ, pos, Bool, true, false, ◌||◌, not, refl, sym, ap, ◌∙◌, arith, nat_le, le-leb, whole_numerator, whole_denominator, one_times}
+use Rattle.power_reduce.proofs.Shared.{or_right, ◌≡◌, ◌≢◌, ◌≤◌, ◌≤ℤ◌, ℤ, pos, true, false, ◌||◌, not, refl, sym, ap, ◌∙◌, arith, nat_le, le-leb, whole_numerator, whole_denominator, one_times}
 use Rattle.power_reduce.proofs.Shared.{times_comm, Fraction, whole_fraction, zero_fraction, one_fraction, fraction_power, int_is_negative, Tree, num, power, number_test, is_number, classes, num_one}
 use Rattle.power_reduce.proofs.Shared.{has_number_power, IsWrittenPower, is_zero_or_one, num_same}
 use Rattle.calc_terms.proofs.SmallLaws.{contradiction as clash}

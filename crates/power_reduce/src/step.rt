@@ -157,7 +157,6 @@ fn whole_power_of_other(pool: &mut Pool, power: Handle, n: i128) -> Result<Step,
 }
 
 /// A power whose exponent is no whole number: with half of one it is a power of a root, and any other is kept.
-#[tactic(auto, using(crate::proofs::Cases::broken_other, crate::proofs::Cases::again, calc_terms::proofs::SmallLaws::passed_on))]
 fn other_power(pool: &mut Pool, power: Handle) -> Result<Step, NumberFault>
     requires stands { Stands pool.old }
     requires handed { IsHanded power (forest pool.old) }
@@ -210,7 +209,6 @@ fn power_inside(pool: &mut Pool, power: Handle) -> Result<Step, NumberFault>
 }
 
 /// A power of a power: the exponents are joined where the inner power is not opaque.
-#[tactic(auto, using(crate::proofs::Cases::inside_other, crate::proofs::Cases::sealed_kept, crate::proofs::Cases::again))]
 fn power_of_power(pool: &mut Pool, power: Handle) -> Result<Step, NumberFault>
     requires stands { Stands pool.old }
     requires handed { IsHanded power (forest pool.old) }

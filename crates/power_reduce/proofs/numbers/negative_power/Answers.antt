@@ -1,8 +1,8 @@
 use Rattle.power_reduce.proofs.Shared.{rules, ◌≡◌, ◌≤◌, refl, sym, ap, ◌∙◌, arith, subst, pos, ◌≤ℤ◌, classes, value, IfValue, IsNoLargerThanInverse, plain, last_tree, SpansTree, SpansInverse}
 use Rattle.power_reduce.proofs.Shared.{replaced_free, if_map, passed_on, tree_of, forest, behind_first, behind_new, front_same, front_at, front_end, front_without, front_after_one, gives_as}
-use Rattle.power_reduce.proofs.{Shared.{given_handed, given_rest, given_told, base_in, overflow_as, refused_as, is_number}, HeldPowers.{negative_power, no_number_power}, Powers.{power_is}}
-use Rattle.power_reduce.proofs.{Rooms.{lacks_as, inverse_lacks_power}, Misfits.{inverse_misfit, negative_misfit, raised_misfit}, NumberPowers.{irrational_power, inverse_answer, inverse_given}}
-use Rattle.power_reduce.proofs.{NumberPowers.{has_inverse}, RationalPowers.{opposite, opposite_above}, numbers.negative_power.Goals.{Else-classes-gt2}}
+use Rattle.power_reduce.proofs.Shared.{given_handed, given_rest, given_told, base_in, overflow_as, refused_as, is_number, faults_after, keeps_on, none_given, none_kept, kept_after, IsCaused, Faults}
+use Rattle.power_reduce.proofs.{HeldPowers.{negative_power, no_number_power}, Powers.{power_is}, Rooms.{lacks_as, inverse_lacks_power}, Misfits.{inverse_misfit, negative_misfit, raised_misfit}}
+use Rattle.power_reduce.proofs.{NumberPowers.{irrational_power, inverse_answer, inverse_given, has_inverse}, RationalPowers.{opposite, opposite_above}, numbers.negative_power.Goals.{Else-classes-gt2}}
 use Rattle.power_reduce.proofs.numbers.negative_power.Goals as goal
 
 pub returns-then-classes-gt2-clause-front : goal.returns-then-classes-gt2-clause-front
@@ -13,9 +13,6 @@ invert_number-requires-clause-handed c = given_handed c.take_base-base.ensures.g
 
 pub invert_number-requires-clause-number : goal.invert_number-requires-clause-number
 invert_number-requires-clause-number c = ap is_number (given_told c.take_base-base.ensures.gives) ∙ c.requires.number
-
-pub returns-in_err-inverse-clause-front : goal.returns-in_err-inverse-clause-front
-returns-in_err-inverse-clause-front c = front_after_one (behind_new c.take_base-base.ensures.gives.ends (front_without behind_first front_same)) c.take_base-base.ensures.front c.invert_number.ensures.front
 
 pub power_number-requires : goal.power_number-requires
 power_number-requires c = record {
@@ -48,12 +45,25 @@ returns-clause-front c =
     front_after_one (behind_new i.ends rest) front c.power_number.ensures.front
 
 few : (c : Else-classes-gt2) → classes (base_in (tree_of c.args.power c.args.pool.now)) ≤ 2
-few c = grind arith
+few c = omega (arith, c.classes.ensures, ap classes c.base_id.ensures.tree, c.if-classes-gt2.false)
 
-pub returns-in_err-inverse-clause-overflow : goal.returns-in_err-inverse-clause-overflow
-returns-in_err-inverse-clause-overflow c =
-    passed_on c.from_residual.result c.in_err-inverse.field-0.0 _ c.from_residual.ensures.0 c.from_residual.ensures.1 (overflow_as c.in_err-inverse.field-0.0 c.in_err-inverse.ensures.overflow
-    (λ o h. inverse_misfit _ _ _ c.args.n o c.requires.exponent c.requires.negative (few (goal.at.returns-in_err-inverse-clause-overflow c).Else-classes-gt2) c.requires.number c.requires.base (given_told c.take_base-base.ensures.gives) h))
+pub returns-in_err-inverse : goal.returns-in_err-inverse
+returns-in_err-inverse c = record {
+  ok = none_given c.from_residual.result _ c.from_residual.ensures.0;
+  overflow =
+      passed_on c.from_residual.result c.in_err-inverse.field-0.0 _ c.from_residual.ensures.0 c.from_residual.ensures.1 (overflow_as c.in_err-inverse.field-0.0 c.in_err-inverse.ensures.overflow
+      (λ o h. inverse_misfit _ _ _ c.args.n o c.requires.exponent c.requires.negative (few (goal.at.returns-in_err-inverse c).Else-classes-gt2) c.requires.number c.requires.base (given_told c.take_base-base.ensures.gives) h));
+  front = front_after_one (behind_new c.take_base-base.ensures.gives.ends (front_without behind_first front_same)) c.take_base-base.ensures.front c.invert_number.ensures.front;
+  kept = none_kept c.from_residual.result _ c.from_residual.ensures.0;
+  faults = passed_on c.from_residual.result c.in_err-inverse.field-0.0 (Faults c.args.pool.now c.invert_number.new.pool) c.from_residual.ensures.0 c.from_residual.ensures.1 (faults_after _ c.in_err-inverse.field-0.0 c.take_base-base.ensures.kept c.in_err-inverse.ensures.faults);
+  caused = passed_on c.from_residual.result c.in_err-inverse.field-0.0 (IsCaused c.invert_number.new.pool) c.from_residual.ensures.0 c.from_residual.ensures.1 c.in_err-inverse.ensures.caused;
+  room = λ gs s.
+      let freed = replaced_free c.requires.stands c.take_base-base.ensures.stands c.take_base-base.ensures.kept c.requires.handed c.take_base-base.ensures.gives in
+      passed_on c.from_residual.result c.in_err-inverse.field-0.0 _ c.from_residual.ensures.0 c.from_residual.ensures.1
+      (inverse_lacks_power gs c.in_err-inverse.field-0.0 (sym freed) (c.in_err-inverse.ensures.room gs));
+  held = none_given c.from_residual.result _ c.from_residual.ensures.0;
+  stands = c.invert_number.ensures.stands;
+}
 
 pub returns-clause-overflow : goal.returns-clause-overflow
 returns-clause-overflow c =
@@ -65,12 +75,6 @@ returns-clause-overflow c =
     (given_told c.take_base-base.ensures.gives) y (given_told i) h)
 
 -- ---- bytes at hand
-
-pub returns-in_err-inverse-clause-room : goal.returns-in_err-inverse-clause-room
-returns-in_err-inverse-clause-room c = λ gs s.
-    let freed = replaced_free c.requires.stands c.take_base-base.ensures.stands c.take_base-base.ensures.kept c.requires.handed c.take_base-base.ensures.gives in
-    passed_on c.from_residual.result c.in_err-inverse.field-0.0 _ c.from_residual.ensures.0 c.from_residual.ensures.1
-    (inverse_lacks_power gs c.in_err-inverse.field-0.0 (sym freed) (c.in_err-inverse.ensures.room gs))
 
 pub returns-clause-room : goal.returns-clause-room
 returns-clause-room c = λ gs s.
@@ -91,3 +95,6 @@ returns-clause-held c =
     let measured = subst (λ x. IfValue x (λ h. IsNoLargerThanInverse (value (tree_of c.take_base-base.result c.take_base-base.new.pool)) (value (tree_of h c.invert_number.new.pool)))) c.in-Value.is c.in_ok-inverse.ensures.measured in
     if_map c.power_number.result _ _ c.power_number.ensures.measured (λ h m k.
     negative_power c.args.n _ _ _ _ _ c.requires.negative (opposite c.args.n c.requires.fits c.requires.negative) (given_told c.take_base-base.ensures.gives) measured m)
+
+pub returns-clause-kept : goal.returns-clause-kept
+returns-clause-kept c = keeps_on _ c.power_number.result (kept_after c.take_base-base.ensures.kept c.in_ok-inverse.ensures.kept) c.power_number.ensures.kept

@@ -1,4 +1,4 @@
-use Rattle.power_reduce.proofs.{Shared.{pos, ◌<ℤ◌, refl, sym, ap, ◌∙◌, subst, false, arith, false≢true, PlainValue, value_of, IsPlainOverflow}, RationalPowers.{not_above, below, no_zero_bits}}
+use Rattle.power_reduce.proofs.{Shared.{pos, ◌<ℤ◌, refl, sym, ap, ◌∙◌, subst, arith, false≢true, PlainValue, value_of, IsPlainOverflow}, RationalPowers.{not_above, below, no_zero_bits}}
 use Rattle.power_reduce.proofs.{RationalPowers.{opposite, powered_below, not_zero, fitting_power_of, unfit_power_of, if_err, powered_above, fitting_power}, numbers.power_of.Goals.{Else-n-gt0}}
 use Rattle.power_reduce.proofs.numbers.power_of.Goals as goal
 

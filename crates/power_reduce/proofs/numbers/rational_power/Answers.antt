@@ -1,7 +1,8 @@
 use Rattle.power_reduce.proofs.Shared.{arith, ◌≡◌, pos, ◌≤ℤ◌, true, refl, sym, ap, ◌∙◌, subst, is_zero_fraction, PlainValue, powered, value_of, IsPlainOverflow, gives_as, given_told, passed_on}
-use Rattle.power_reduce.proofs.{Shared.{tree_of, told, zero_rational}, Misfits.{rational_misfit}, HeldPowers.{rational_power_held, no_number_undef}, Powers.{power_is, rational_room}}
-use Rattle.power_reduce.proofs.RationalPowers.{at_most, not_at_most, no_zero_rational, plain_power, powered_undefined, nothing_answer, value_answer, overflow_answer, plain_as, rationals_as}
-use Rattle.power_reduce.proofs.numbers.rational_power.Goals.{Then-n-le0, Joined-else-num-eq0, else-num-eq0-via-then-num-eq0+else-n-le0, else-num-eq0-via-else-num-eq0}
+use Rattle.power_reduce.proofs.{Shared.{tree_of, told, zero_rational, none_given, none_kept, front_same, kept_same, IsCaused, Faults, OfFull}, Misfits.{rational_misfit}}
+use Rattle.power_reduce.proofs.{HeldPowers.{rational_power_held, no_number_undef}, Powers.{power_is, rational_room}, RationalPowers.{at_most, not_at_most, no_zero_rational, plain_power}}
+use Rattle.power_reduce.proofs.{RationalPowers.{powered_undefined, nothing_answer, value_answer, overflow_answer, plain_as, rationals_as}, numbers.rational_power.Goals.{Then-n-le0}}
+use Rattle.power_reduce.proofs.numbers.rational_power.Goals.{Joined-else-num-eq0, else-num-eq0-via-then-num-eq0+else-n-le0, else-num-eq0-via-else-num-eq0}
 use Rattle.tree_handles.specs.declared.fault.NumberFault.TheVariants as fault
 use Rattle.power_reduce.proofs.numbers.rational_power.Goals as goal
 
@@ -26,10 +27,26 @@ some c = grind (arith, not_at_most, no_zero_rational)
 pub power_of-requires-clause-some : goal.power_of-requires-clause-some
 power_of-requires-clause-some c = λ h. subst (λ z. pos 1 ≤ℤ z) (sym (told c.args.n c.requires.fits)) (some c h)
 
-pub returns-in_err-value-clause-rationals : goal.returns-in_err-value-clause-rationals
-returns-in_err-value-clause-rationals c =
-    rationals_as _ _ c.args.pool.now _ (plain_power _ _ _ _ c.args.n (power_is _ c.requires.sides.power) c.requires.base c.requires.exponent)
-    (overflow_answer _ c.args.pool.now _ c.in_err-value.field-0.0 c.from_residual.ensures.1 (subst (λ z. IsPlainOverflow (powered (value_of c.args.q) z 1) c.in_err-value.field-0.0) (told c.args.n c.requires.fits) c.in_err-value.ensures.named))
+pub returns-in_err-value : goal.returns-in_err-value
+returns-in_err-value c = record {
+  ok = none_given c.from_residual.result _ c.from_residual.ensures.0;
+  rationals =
+      rationals_as _ _ c.args.pool.now _ (plain_power _ _ _ _ c.args.n (power_is _ c.requires.sides.power) c.requires.base c.requires.exponent)
+      (overflow_answer _ c.args.pool.now _ c.in_err-value.field-0.0 c.from_residual.ensures.1 (subst (λ z. IsPlainOverflow (powered (value_of c.args.q) z 1) c.in_err-value.field-0.0) (told c.args.n c.requires.fits) c.in_err-value.ensures.named));
+  overflow =
+      let p = power_is _ c.requires.sides.power in
+      passed_on c.from_residual.result (fault.Overflow c.in_err-value.field-0.0) _ c.from_residual.ensures.0 c.from_residual.ensures.1
+      (rational_misfit _ _ _ (value_of c.args.q) c.args.n c.in_err-value.field-0.0 p c.requires.base c.requires.exponent
+      (subst (λ (v : PlainValue). IsPlainOverflow v c.in_err-value.field-0.0) (sym (plain_power _ _ _ _ c.args.n p c.requires.base c.requires.exponent))
+      (subst (λ z. IsPlainOverflow (powered (value_of c.args.q) z 1) c.in_err-value.field-0.0) (told c.args.n c.requires.fits) c.in_err-value.ensures.named)));
+  front = front_same;
+  kept = none_kept c.from_residual.result _ c.from_residual.ensures.0;
+  faults = passed_on c.from_residual.result (fault.Overflow c.in_err-value.field-0.0) (Faults c.args.pool.now c.args.pool.now) c.from_residual.ensures.0 c.from_residual.ensures.1 (kept_same c.args.pool.now);
+  caused = passed_on c.from_residual.result (fault.Overflow c.in_err-value.field-0.0) (IsCaused c.args.pool.now) c.from_residual.ensures.0 c.from_residual.ensures.1 c.in_err-value.ensures.caused;
+  room = passed_on c.from_residual.result (fault.Overflow c.in_err-value.field-0.0) (OfFull (λ full. ⊥)) c.from_residual.ensures.0 c.from_residual.ensures.1 tt;
+  held = none_given c.from_residual.result _ c.from_residual.ensures.0;
+  stands = c.requires.stands;
+}
 
 pub returns-clause-ok : goal.returns-clause-ok
 returns-clause-ok c =
@@ -45,14 +62,6 @@ returns-clause-rationals c =
     (plain_power _ _ _ _ c.args.n (power_is _ c.requires.sides.power) c.requires.base c.requires.exponent
     ∙ ap (λ z. powered (value_of c.args.q) z 1) (sym (told c.args.n c.requires.fits)) ∙ c.in_ok-value.ensures.value)
     (given_told c.with_number.ensures.gives)
-
-pub returns-in_err-value-clause-overflow : goal.returns-in_err-value-clause-overflow
-returns-in_err-value-clause-overflow c =
-    let p = power_is _ c.requires.sides.power in
-    passed_on c.from_residual.result (fault.Overflow c.in_err-value.field-0.0) _ c.from_residual.ensures.0 c.from_residual.ensures.1
-    (rational_misfit _ _ _ (value_of c.args.q) c.args.n c.in_err-value.field-0.0 p c.requires.base c.requires.exponent
-    (subst (λ (v : PlainValue). IsPlainOverflow v c.in_err-value.field-0.0) (sym (plain_power _ _ _ _ c.args.n p c.requires.base c.requires.exponent))
-    (subst (λ z. IsPlainOverflow (powered (value_of c.args.q) z 1) c.in_err-value.field-0.0) (told c.args.n c.requires.fits) c.in_err-value.ensures.named)))
 
 -- ---- what holds it
 

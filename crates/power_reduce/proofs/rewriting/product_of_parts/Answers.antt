@@ -1,7 +1,7 @@
 use Rattle.power_reduce.proofs.Shared.{refl, inl, sym, ap, ◌∙◌, arith, gives_without, passed_on, is_num_one, is_mult, mult, more, over_gives, tree_of, children_of, behind_first, behind_new}
 use Rattle.power_reduce.proofs.Shared.{front_same, front_at, front_end, front_without, front_after_two, gives_as, given_apart, given_handed, given_rest, given_root, given_told, owned, ends_as}
-use Rattle.power_reduce.proofs.{Shared.{last_apart, last_tree, expression, first_factor, first_front}, Rooms.{short_below, coefficient_most}, PartsOf.{led_by_one, led_by_other, first_handed}}
-use Rattle.power_reduce.proofs.PartsOf.{first_tree, first_seen, gives_at}
+use Rattle.power_reduce.proofs.{Shared.{last_apart, last_tree, expression, first_factor, first_front, none_given, none_kept, kept_after, LacksBytes, Refuses}, Rooms.{short_below, coefficient_most}}
+use Rattle.power_reduce.proofs.PartsOf.{led_by_one, led_by_other, first_handed, first_tree, first_seen, gives_at}
 use Rattle.power_reduce.proofs.rewriting.product_of_parts.Goals as goal
 
 pub is_one-requires-clause-expression : goal.is_one-requires-clause-expression
@@ -45,5 +45,19 @@ returns-clause-front c =
     let x = first_factor (given_handed g.second-given) (first_handed _ g) (given_apart g.second-given (given_handed g.first-given)) (ap is_mult (given_told g.second-given)) (c.add_child.ensures.root (given_root g.second-given)) in
     front_after_two (behind_new g.second-given.ends (front_end g.first-given.ends (front_without behind_first front_same))) (behind_new g.first-given.ends (front_without behind_first front_same)) c.split_product.ensures.front (first_front x)
 
-pub returns-in_err-coefficient-clause-room : goal.returns-in_err-coefficient-clause-room
-returns-in_err-coefficient-clause-room c = grind (arith, passed_on, short_below, coefficient_most)
+pub returns-in_err-coefficient : goal.returns-in_err-coefficient
+returns-in_err-coefficient c = record {
+  ok = none_given c.from_residual.result _ c.from_residual.ensures.0;
+  front = c.split_product.ensures.front;
+  kept = none_kept c.from_residual.result _ c.from_residual.ensures.0;
+  full = passed_on c.from_residual.result c.in_err-coefficient.field-0.0 (Refuses c.args.pool.now c.split_product.new.pool) c.from_residual.ensures.0 c.from_residual.ensures.1 c.in_err-coefficient.ensures.full.refuses;
+  caused = passed_on c.from_residual.result c.in_err-coefficient.field-0.0 (LacksBytes c.split_product.new.pool) c.from_residual.ensures.0 c.from_residual.ensures.1 c.in_err-coefficient.ensures.full.lacks;
+  room = grind (arith, passed_on, short_below, coefficient_most);
+  stands = c.split_product.ensures.stands;
+}
+
+pub returns-then-is_one-clause-kept : goal.returns-then-is_one-clause-kept
+returns-then-is_one-clause-kept c = kept_after c.in_ok-coefficient.ensures.kept c.release.ensures.kept
+
+pub returns-clause-kept : goal.returns-clause-kept
+returns-clause-kept c = kept_after c.in_ok-coefficient.ensures.kept c.add_child.ensures.kept

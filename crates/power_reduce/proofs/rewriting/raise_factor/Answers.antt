@@ -1,4 +1,5 @@
-use Rattle.power_reduce.proofs.{Shared.{rules, refl, arith, forest, refused_below, passed_on, given_handed, given_told, as_before}, Raising.{power_told, hole_of_power, raised_one, raised_front}}
+use Rattle.power_reduce.proofs.Shared.{rules, refl, arith, forest, refused_below, passed_on, given_handed, given_told, as_before, none_given, none_kept, refuses_after, LacksBytes, Refuses}
+use Rattle.power_reduce.proofs.Raising.{power_told, hole_of_power, raised_one, raised_front}
 use Rattle.power_reduce.proofs.rewriting.raise_factor.Goals as goal
 
 pub open_child-hole-requires : goal.open_child-hole-requires
@@ -28,3 +29,18 @@ returns-clause-ok c =
 
 pub returns-clause-front : goal.returns-clause-front
 returns-clause-front c = raised_front (c.fill.ensures.changed _ _ _ (hole_of_power c.args.exponent c.open_child-hole.ensures.hole c.requires.apart c.in_ok-power.ensures.ok))
+
+pub returns-in_err-power-clause-ok : goal.returns-in_err-power-clause-ok
+returns-in_err-power-clause-ok c = none_given c.from_residual.result _ c.from_residual.ensures.0
+
+pub returns-in_err-power-clause-kept : goal.returns-in_err-power-clause-kept
+returns-in_err-power-clause-kept c = none_kept c.from_residual.result _ c.from_residual.ensures.0
+
+pub returns-in_err-power-clause-full : goal.returns-in_err-power-clause-full
+returns-in_err-power-clause-full c = passed_on c.from_residual.result c.in_err-power.field-0.0 (Refuses c.args.pool.now c.node_over_two.new.pool) c.from_residual.ensures.0 c.from_residual.ensures.1 (refuses_after c.open_child-hole.ensures.kept c.in_err-power.ensures.full.refuses)
+
+pub returns-in_err-power-clause-caused : goal.returns-in_err-power-clause-caused
+returns-in_err-power-clause-caused c = passed_on c.from_residual.result c.in_err-power.field-0.0 (LacksBytes c.node_over_two.new.pool) c.from_residual.ensures.0 c.from_residual.ensures.1 c.in_err-power.ensures.full.lacks
+
+pub returns-in_err-power-clause-stands : goal.returns-in_err-power-clause-stands
+returns-in_err-power-clause-stands c = c.node_over_two.ensures.stands

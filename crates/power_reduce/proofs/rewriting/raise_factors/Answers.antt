@@ -1,7 +1,7 @@
 use Rattle.power_reduce.proofs.Shared.{rules, ◌≤◌, sym, ap, ◌∙◌, subst, arith, replaced_free, passed_on, if_map, eqb-sym, refusal_as, exponent_in, tree_of, is_number, is_reduced, Tree, count, is_mult}
 use Rattle.power_reduce.proofs.Shared.{size, plain, children_of, behind_first, behind_new, front_same, front_end, front_without, front_after_one, front_after_two, gives_as, given_apart, given_handed}
-use Rattle.power_reduce.proofs.{Shared.{given_other, given_rest, given_same, given_told, given_without, handed_beside, tree-without}, Exponents.{inside_whole}}
-use Rattle.power_reduce.proofs.{Rooms.{sides_free, split_short, raised_short}, PartsOf.{first_handed, first_tree, some_parts, powers_as}}
+use Rattle.power_reduce.proofs.Shared.{given_other, given_rest, given_same, given_told, given_without, handed_beside, tree-without, none_given, none_kept, refuses_after, LacksBytes, Refuses}
+use Rattle.power_reduce.proofs.{Exponents.{inside_whole}, Rooms.{sides_free, split_short, raised_short}, PartsOf.{first_handed, first_tree, some_parts, powers_as}}
 use Rattle.power_reduce.proofs.rewriting.raise_factors.Goals as goal
 
 pub product_of_parts-requires : goal.product_of_parts-requires
@@ -12,10 +12,22 @@ product_of_parts-requires c = record {
   reduced = ap is_reduced (first_tree _ c.take_sides-base.ensures.gives) ∙ c.requires.sides.base;
 }
 
-pub returns-in_err-product-clause-front : goal.returns-in_err-product-clause-front
-returns-in_err-product-clause-front c =
-    let g = c.take_sides-base.ensures.gives in
-    front_after_one (behind_new g.first-given.ends (front_without behind_first front_same)) c.take_sides-base.ensures.front c.product_of_parts.ensures.front
+pub returns-in_err-product : goal.returns-in_err-product
+returns-in_err-product c = record {
+  ok = none_given c.from_residual.result _ c.from_residual.ensures.0;
+  front =
+      let g = c.take_sides-base.ensures.gives in
+      front_after_one (behind_new g.first-given.ends (front_without behind_first front_same)) c.take_sides-base.ensures.front c.product_of_parts.ensures.front;
+  kept = none_kept c.from_residual.result _ c.from_residual.ensures.0;
+  full = passed_on c.from_residual.result c.in_err-product.field-0.0 (Refuses c.args.pool.now c.product_of_parts.new.pool) c.from_residual.ensures.0 c.from_residual.ensures.1 (refuses_after c.take_sides-base.ensures.kept c.in_err-product.ensures.full);
+  caused = passed_on c.from_residual.result c.in_err-product.field-0.0 (LacksBytes c.product_of_parts.new.pool) c.from_residual.ensures.0 c.from_residual.ensures.1 c.in_err-product.ensures.caused;
+  room = λ gs s.
+      let t : Tree = tree_of c.args.power c.args.pool.now in
+      passed_on c.from_residual.result c.in_err-product.field-0.0 _ c.from_residual.ensures.0 c.from_residual.ensures.1
+      (split_short gs t _ _ c.requires.sides.power c.requires.sides.base (inside_whole (exponent_in t) c.requires.inside) s
+      (sides_free c.requires.stands c.take_sides-base.ensures.stands c.take_sides-base.ensures.kept c.requires.handed c.take_sides-base.ensures.gives) c.in_err-product.ensures.room);
+  stands = c.product_of_parts.ensures.stands;
+}
 
 pub raise_each-requires : goal.raise_each-requires
 raise_each-requires c =
@@ -51,13 +63,6 @@ returns-clause-front c =
     let base = behind_new g.first-given.ends (front_without behind_first front_same) in
     let exponent = behind_new g.second-given.ends (front_end g.first-given.ends (front_without behind_first front_same)) in
     front_after_two (behind_new p.ends (front_without base c.take_sides-base.ensures.front)) exponent (front_after_one base c.take_sides-base.ensures.front c.product_of_parts.ensures.front) c.raise_each.ensures.front
-
-pub returns-in_err-product-clause-room : goal.returns-in_err-product-clause-room
-returns-in_err-product-clause-room c = λ gs s.
-    let t : Tree = tree_of c.args.power c.args.pool.now in
-    passed_on c.from_residual.result c.in_err-product.field-0.0 _ c.from_residual.ensures.0 c.from_residual.ensures.1
-    (split_short gs t _ _ c.requires.sides.power c.requires.sides.base (inside_whole (exponent_in t) c.requires.inside) s
-    (sides_free c.requires.stands c.take_sides-base.ensures.stands c.take_sides-base.ensures.kept c.requires.handed c.take_sides-base.ensures.gives) c.in_err-product.ensures.room)
 
 pub returns-clause-room : goal.returns-clause-room
 returns-clause-room c = λ gs s.

@@ -1,4 +1,6 @@
-use Rattle.power_reduce.proofs.{Shared.{arith, sym, ap, ◌∙◌, passed_on, is_number, is_reduced, tree_of, base_in, exponent_in}, Cases.{inside_other, number_kept, again}, Exponents.{inside_whole}}
+use Rattle.power_reduce.proofs.Shared.{arith, sym, ap, ◌∙◌, passed_on, is_number, is_reduced, tree_of, base_in, exponent_in, none_given, none_kept, IsCaused, Faults, OfOverflow}
+use Rattle.power_reduce.proofs.{Cases.{inside_other, number_kept, again}, Exponents.{inside_whole}}
+use Rattle.tree_handles.specs.declared.fault.NumberFault.TheVariants as fault
 use Rattle.power_reduce.proofs.step.power_of_product.Goals as goal
 
 pub is_reduced_number-requires-clause-reduced : goal.is_reduced_number-requires-clause-reduced
@@ -16,5 +18,14 @@ raise_factors-requires-clause-number c = sym (ap is_number c.base_id.ensures.tre
 pub returns-clause-ok : goal.returns-clause-ok
 returns-clause-ok c = again (tree_of c.args.power c.args.pool.now) c.requires.sides.power c.in_ok-raised.ensures.ok
 
-pub returns-in_err-raised-clause-room : goal.returns-in_err-raised-clause-room
-returns-in_err-raised-clause-room c = grind (arith, passed_on)
+pub returns-in_err-raised : goal.returns-in_err-raised
+returns-in_err-raised c = record {
+  ok = none_given c.from_residual.result _ c.from_residual.ensures.0;
+  overflow = passed_on c.from_residual.result (fault.Full c.in_err-raised.field-0.0) (OfOverflow (λ o. ⊥)) c.from_residual.ensures.0 c.from_residual.ensures.1 tt;
+  front = c.raise_factors.ensures.front;
+  kept = none_kept c.from_residual.result _ c.from_residual.ensures.0;
+  faults = passed_on c.from_residual.result (fault.Full c.in_err-raised.field-0.0) (Faults c.args.pool.now c.raise_factors.new.pool) c.from_residual.ensures.0 c.from_residual.ensures.1 (c.in_err-raised.ensures.full);
+  caused = passed_on c.from_residual.result (fault.Full c.in_err-raised.field-0.0) (IsCaused c.raise_factors.new.pool) c.from_residual.ensures.0 c.from_residual.ensures.1 c.in_err-raised.ensures.caused;
+  room = grind (arith, passed_on);
+  stands = c.raise_factors.ensures.stands;
+}

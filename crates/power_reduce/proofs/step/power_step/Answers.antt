@@ -1,5 +1,5 @@
 use Rattle.power_reduce.proofs.Shared.{◌≡◌, ℤ, Bool, true, false, sym, ap, ◌∙◌, subst, ◌<◌, ◌^◌, arith, nat_abs, IfOk, SpansTree, is_number, IsNumberPower, IfDone, whole_fraction, is_whole_num, Tree}
-use Rattle.power_reduce.proofs.{Shared.{num, told, tree_of, gives_as, given_told, base_in, exponent_in, refused_as, counted, counts_one}, Exponents.{whole_no_half}}
+use Rattle.power_reduce.proofs.{Shared.{num, told, tree_of, gives_as, given_told, base_in, exponent_in, refused_as, counted, counts_one, is_half_num}, Exponents.{whole_no_half}}
 use Rattle.power_reduce.proofs.{HeldPowers.{if_step_held, no_undef}, Written.{whole_numbers}, Whole.{whole_is}, Cases.{HasUndef, undef_base, undef_exponent, undef_kept, undef_answer}}
 use Rattle.power_reduce.proofs.{Cases.{defined_rationals}, step.power_step.Goals.{Joined-then-is_undefined, then-is_undefined-via-then-is_undefined}}
 use Rattle.power_reduce.proofs.{step.power_step.Goals.{then-is_undefined-via-else-is_undefined+then-is_undefined-2}, Counted.{if_step_counts}, WithinBits.{within_bits}, Spanned.{if_step_spans}}
@@ -38,10 +38,14 @@ pub returns-in-None-clause-room : goal.returns-in-None-clause-room
 returns-in-None-clause-room c = λ gs s w. contrary (is_whole_num (exponent_in (tree_of c.args.power c.args.pool.now))) w (sym (ap is_whole_num c.exponent_id-exponent.ensures.tree) ∙ c.in-None.ensures.value)
 
 pub returns-in-Some-clause-root_room : goal.returns-in-Some-clause-root_room
-returns-in-Some-clause-root_room c = grind (arith, contrary, whole_no_half, whole_exponent)
+returns-in-Some-clause-root_room c = λ h.
+    let e : Tree = exponent_in (tree_of c.args.power c.args.pool.now) in
+    contrary (is_half_num e) h (whole_no_half e (whole_exponent e c.in-Some.n (sym c.exponent_id-exponent.ensures.tree ∙ c.in-Some.ensures.value)))
 
 pub returns-in-Some-clause-others : goal.returns-in-Some-clause-others
-returns-in-Some-clause-others c = grind (arith, contrary, whole_exponent)
+returns-in-Some-clause-others c = λ w h.
+    let e : Tree = exponent_in (tree_of c.args.power c.args.pool.now) in
+    contrary (is_whole_num e) (whole_exponent e c.in-Some.n (sym c.exponent_id-exponent.ensures.tree ∙ c.in-Some.ensures.value)) w
 
 -- ---- what counts, and what spans
 

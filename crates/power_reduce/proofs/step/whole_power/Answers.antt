@@ -1,5 +1,5 @@
-use Rattle.power_reduce.proofs.{Shared.{arith, sym, ap, ◌∙◌, subst, IfOk, IsNumberPower, told, IfDone, root_kind, tree_of, base_in, passed_on, full_as, exponent_in, is_whole_num}, Cases.{no_num_kind}}
-use Rattle.power_reduce.proofs.{Cases.{no_rational, number_kept, rational_number, step_fault}, Whole.{whole_is}}
+use Rattle.power_reduce.proofs.Shared.{arith, sym, ap, ◌∙◌, subst, IfOk, IsNumberPower, told, IfDone, root_kind, tree_of, base_in, passed_on, full_as, exponent_in, is_whole_num, none_given, none_kept}
+use Rattle.power_reduce.proofs.{Shared.{IsCaused, Faults}, Cases.{no_num_kind, no_rational, number_kept, rational_number, step_fault}, Whole.{whole_is}}
 use Rattle.power_reduce.proofs.step.whole_power.Goals as goal
 
 pub kind-requires-clause-live : goal.kind-requires-clause-live
@@ -17,20 +17,25 @@ returns-in_ok-answer-in-Num-clause-ok c = (number_kept (base_in (tree_of c.args.
 pub returns-in_ok-answer-in-Num-clause-rationals : goal.returns-in_ok-answer-in-Num-clause-rationals
 returns-in_ok-answer-in-Num-clause-rationals c = λ b e. c.in_ok-answer-in-Num.ensures.rationals
 
-pub returns-in_err-answer-in-Num-clause-rationals : goal.returns-in_err-answer-in-Num-clause-rationals
-returns-in_err-answer-in-Num-clause-rationals c = λ b e. step_fault _ c.rational_power.new.pool c.in_err-answer-in-Num.field-0.0 _ c.from_residual.ensures.1 c.in_err-answer-in-Num.ensures.rationals
+pub returns-in_err-answer-in-Num : goal.returns-in_err-answer-in-Num
+returns-in_err-answer-in-Num c = record {
+  ok = none_given c.from_residual.result _ c.from_residual.ensures.0;
+  rationals = λ b e. step_fault _ c.rational_power.new.pool c.in_err-answer-in-Num.field-0.0 _ c.from_residual.ensures.1 c.in_err-answer-in-Num.ensures.rationals;
+  overflow = passed_on c.from_residual.result c.in_err-answer-in-Num.field-0.0 _ c.from_residual.ensures.0 c.from_residual.ensures.1 c.in_err-answer-in-Num.ensures.overflow;
+  front = c.rational_power.ensures.front;
+  kept = none_kept c.from_residual.result _ c.from_residual.ensures.0;
+  faults = passed_on c.from_residual.result c.in_err-answer-in-Num.field-0.0 (Faults c.args.pool.now c.rational_power.new.pool) c.from_residual.ensures.0 c.from_residual.ensures.1 c.in_err-answer-in-Num.ensures.faults;
+  caused = passed_on c.from_residual.result c.in_err-answer-in-Num.field-0.0 (IsCaused c.rational_power.new.pool) c.from_residual.ensures.0 c.from_residual.ensures.1 c.in_err-answer-in-Num.ensures.caused;
+  room = grind (arith, passed_on, full_as);
+  held = λ m. none_given c.from_residual.result _ c.from_residual.ensures.0;
+  stands = c.rational_power.ensures.stands;
+}
 
 pub whole_power_of_other-requires-clause-base : goal.whole_power_of_other-requires-clause-base
 whole_power_of_other-requires-clause-base c = no_num_kind _ (λ e. c.in_default.not-Num ((c.kind.ensures.plain c.base_id-base.ensures.expression ∙ ap root_kind c.base_id-base.ensures.tree) ∙ sym e))
 
 pub returns-in_default-clause-rationals : goal.returns-in_default-clause-rationals
 returns-in_default-clause-rationals c = λ b e. no_rational _ b (no_num_kind (base_in (tree_of c.args.power c.args.pool.now)) (λ x. c.in_default.not-Num ((c.kind.ensures.plain c.base_id-base.ensures.expression ∙ ap root_kind c.base_id-base.ensures.tree) ∙ sym x)))
-
-pub returns-in_err-answer-in-Num-clause-overflow : goal.returns-in_err-answer-in-Num-clause-overflow
-returns-in_err-answer-in-Num-clause-overflow c = passed_on c.from_residual.result c.in_err-answer-in-Num.field-0.0 _ c.from_residual.ensures.0 c.from_residual.ensures.1 c.in_err-answer-in-Num.ensures.overflow
-
-pub returns-in_err-answer-in-Num-clause-room : goal.returns-in_err-answer-in-Num-clause-room
-returns-in_err-answer-in-Num-clause-room c = grind (arith, passed_on, full_as)
 
 pub returns-in_default-clause-held : goal.returns-in_default-clause-held
 returns-in_default-clause-held c = λ m.

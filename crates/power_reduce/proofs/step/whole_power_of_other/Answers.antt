@@ -1,8 +1,8 @@
-use Rattle.std.proofs.Common.{arith, ◌≡◌, true, false, refl, sym, ap, ◌∙◌, subst}
-use Rattle.power_reduce.proofs.Shared.{IsNumberPower, whole_fraction, is_number, Tree, num, one_value, tree_of, gives_as, base_in, exponent_in, is_even_whole, passed_on, refused_as, told, is_reduced}
-use Rattle.power_reduce.proofs.{Shared.{is_whole_num, is_root}, Cases.{zero_kept, one_kept, other_power, even_bits, odd_bits, even_whole, odd_root_kept, number_kept, whole_goes_inside, no_number}}
-use Rattle.power_reduce.proofs.{Cases.{again}, NumberPowers.{zero_answer, one_answer}, Powers.{one_room}, Rooms.{number_lacks}, Spanned.{base_spans}, RationalPowers.{zero_bits, no_zero_bits}}
-use Rattle.power_reduce.proofs.{Whole.{one_bits, no_one_bits, whole_is}, step.whole_power_of_other.Goals.{else-n-eq0-2-via-then-n-eq0-2+else-is_root, else-n-eq0-2-via-else-n-eq0-2}}
+use Rattle.power_reduce.proofs.Shared.{arith, ◌≡◌, true, false, refl, sym, ap, ◌∙◌, subst, IsNumberPower, whole_fraction, is_number, Tree, num, one_value, tree_of, gives_as, base_in, exponent_in}
+use Rattle.power_reduce.proofs.{Shared.{is_even_whole, passed_on, refused_as, told, is_reduced, is_whole_num, is_root, none_given, none_kept, IsCaused, Faults}, Cases.{zero_kept, one_kept}}
+use Rattle.power_reduce.proofs.{Cases.{other_power, even_bits, odd_bits, even_whole, odd_root_kept, number_kept, whole_goes_inside, no_number, again}, NumberPowers.{zero_answer, one_answer}}
+use Rattle.power_reduce.proofs.{Powers.{one_room}, Rooms.{number_lacks}, Spanned.{base_spans}, RationalPowers.{zero_bits, no_zero_bits}, Whole.{one_bits, no_one_bits, whole_is}}
+use Rattle.power_reduce.proofs.step.whole_power_of_other.Goals.{else-n-eq0-2-via-then-n-eq0-2+else-is_root, else-n-eq0-2-via-else-n-eq0-2}
 use Rattle.power_reduce.proofs.step.whole_power_of_other.Goals as goal
 
 pub is_reduced_number-requires-clause-reduced : goal.is_reduced_number-requires-clause-reduced
@@ -54,17 +54,24 @@ power_inside-requires-clause-number c = no_number (base_in (tree_of c.args.power
 pub power_inside-requires-clause-root : goal.power_inside-requires-clause-root
 power_inside-requires-clause-root c = grind (arith, odd_root_kept, odd_bits)
 
-pub returns-in_err-answer-clause-overflow : goal.returns-in_err-answer-clause-overflow
-returns-in_err-answer-clause-overflow c = passed_on c.from_residual.result c.in_err-answer.field-0.0 _ c.from_residual.ensures.0 c.from_residual.ensures.1 c.in_err-answer.ensures.overflow
+pub returns-in_err-answer : goal.returns-in_err-answer
+returns-in_err-answer c = record {
+  ok = none_given c.from_residual.result _ c.from_residual.ensures.0;
+  overflow = passed_on c.from_residual.result c.in_err-answer.field-0.0 _ c.from_residual.ensures.0 c.from_residual.ensures.1 c.in_err-answer.ensures.overflow;
+  front = c.irrational_power.ensures.front;
+  kept = none_kept c.from_residual.result _ c.from_residual.ensures.0;
+  faults = passed_on c.from_residual.result c.in_err-answer.field-0.0 (Faults c.args.pool.now c.irrational_power.new.pool) c.from_residual.ensures.0 c.from_residual.ensures.1 (c.in_err-answer.ensures.faults);
+  caused = passed_on c.from_residual.result c.in_err-answer.field-0.0 (IsCaused c.irrational_power.new.pool) c.from_residual.ensures.0 c.from_residual.ensures.1 c.in_err-answer.ensures.caused;
+  room = λ gs s.
+      let number = sym (ap is_number c.base_id-base.ensures.tree) ∙ sym c.is_reduced_number.ensures ∙ c.if-is_reduced_number.true in
+      passed_on c.from_residual.result c.in_err-answer.field-0.0 _ c.from_residual.ensures.0 c.from_residual.ensures.1
+      (number_lacks gs (tree_of c.args.power c.args.pool.now) _ c.in_err-answer.field-0.0 number (c.in_err-answer.ensures.room gs (base_spans gs (tree_of c.args.power c.args.pool.now) c.requires.sides.power s)));
+  held = λ m. none_given c.from_residual.result _ c.from_residual.ensures.0;
+  stands = c.irrational_power.ensures.stands;
+}
 
 pub returns-clause-overflow : goal.returns-clause-overflow
 returns-clause-overflow c = refused_as c.power_inside.result c.power_inside.ensures.overflow (λ o x. absurd x)
-
-pub returns-in_err-answer-clause-room : goal.returns-in_err-answer-clause-room
-returns-in_err-answer-clause-room c = λ gs s.
-    let number = sym (ap is_number c.base_id-base.ensures.tree) ∙ sym c.is_reduced_number.ensures ∙ c.if-is_reduced_number.true in
-    passed_on c.from_residual.result c.in_err-answer.field-0.0 _ c.from_residual.ensures.0 c.from_residual.ensures.1
-    (number_lacks gs (tree_of c.args.power c.args.pool.now) _ c.in_err-answer.field-0.0 number (c.in_err-answer.ensures.room gs (base_spans gs (tree_of c.args.power c.args.pool.now) c.requires.sides.power s)))
 
 -- ---- what holds it
 
