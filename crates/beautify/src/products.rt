@@ -19,7 +19,6 @@ use calc_terms::Kind;
 use node_pool::{Id, Pool};
 
 /// The face of a product without its minus sign comes first.
-#[tactic(auto, using(crate::proofs::Resolving::product))]
 pub(crate) fn push_product(pool: &Pool, product: Id, pending: &mut Vec<Pending>)
     requires stands { Stands pool.now }
     requires ready { IsReadyPart Unsigned product (forest pool.now) }

@@ -3,6 +3,57 @@ use Rattle.beautify.proofs.Resolving.{product, product_first}
 use Rattle.calc_terms.proofs.SmallLaws.{no_factors as no_trees, count_append as count-append}
 use Rattle.beautify.proofs.products.push_product.Goals as goal
 
+pub push_shares-below-requires : goal.push_shares-below-requires
+push_shares-below-requires c =
+    let p = product (plain (tree_at c.args.product (forest c.args.pool.now))) c.requires.product c.requires.ready.showable in
+    record {
+      stands = c.requires.stands;
+      expression = c.requires.ready.expression;
+      showable = c.requires.ready.showable;
+      within = omega arith;
+      sharing = p.factors;
+      room = omega (arith, c.requires.room, p.slots);
+    }
+
+pub push_above-requires-clause-room : goal.push_above-requires-clause-room
+push_above-requires-clause-room c =
+    let p = product (plain (tree_at c.args.product (forest c.args.pool.now))) c.requires.product c.requires.ready.showable in
+    let s = c.push_shares-below.ensures in
+    omega (arith, c.requires.room, p.slots, p.few_below, s.came, s.length, s.capacity)
+
+pub returns-then-below-eq0-clause-length : goal.returns-then-below-eq0-clause-length
+returns-then-below-eq0-clause-length c =
+    let p = product (plain (tree_at c.args.product (forest c.args.pool.now))) c.requires.product c.requires.ready.showable in
+    let s = c.push_shares-below.ensures in
+    omega (arith, p.slots, p.few_below, s.came, s.length, c.push_above.ensures.length)
+
+pub push_multiplied-requires : goal.push_multiplied-requires
+push_multiplied-requires c =
+    let p = product (plain (tree_at c.args.product (forest c.args.pool.now))) c.requires.product c.requires.ready.showable in
+    let s = c.push_shares-below.ensures in
+    record { room = omega (arith, c.requires.room, p.slots, p.few_below, s.came, s.length, s.capacity) }
+
+pub push_above-requires-2-clause-room : goal.push_above-requires-2-clause-room
+push_above-requires-2-clause-room c =
+    let p = product (plain (tree_at c.args.product (forest c.args.pool.now))) c.requires.product c.requires.ready.showable in
+    let s = c.push_shares-below.ensures in
+    let m = c.push_multiplied.ensures in
+    omega (arith, c.requires.room, p.slots, p.few_below, s.came, s.length, s.capacity, m.length, m.capacity)
+
+pub push_over-requires-clause-room : goal.push_over-requires-clause-room
+push_over-requires-clause-room c =
+    let p = product (plain (tree_at c.args.product (forest c.args.pool.now))) c.requires.product c.requires.ready.showable in
+    let s = c.push_shares-below.ensures in
+    let m = c.push_multiplied.ensures in
+    let above = c.push_above-2.ensures in
+    omega (arith, c.requires.room, p.slots, p.few_below, s.came, s.length, s.capacity, m.length, m.capacity, above.length, above.capacity)
+
+pub returns-clause-length : goal.returns-clause-length
+returns-clause-length c =
+    let p = product (plain (tree_at c.args.product (forest c.args.pool.now))) c.requires.product c.requires.ready.showable in
+    let s = c.push_shares-below.ensures in
+    omega (arith, p.slots, p.few_below, s.came, s.length, c.push_multiplied.ensures.length, c.push_above-2.ensures.length, c.push_over.ensures.length)
+
 pub returns-then-below-eq0-clause-owed : goal.returns-then-below-eq0-clause-owed
 returns-then-below-eq0-clause-owed c us r o =
     let t = plain (tree_at c.args.product (forest c.args.pool.now)) in
