@@ -11,32 +11,19 @@ ghost use Rattle.node_pool.specs.State.{IsPoolSize};
 ghost use Rattle.tree_handles.specs.Standing.{Stands};
 
 use crate::drawing::draw_answer;
-use crate::parts::{Parts, Workspace};
-use crate::solution_text::SOLUTION_ROOM;
+use crate::parts::{Parts, Workspace, open_writing};
 use crate::text::write_refusal;
 use crate::{DrawFault, LineAnswer, Refusal};
-use beautify::Faces;
 use breakers::{Breaker, Watch};
 use calc_edges::{Failed, Sink};
 use calc_parser::Parser;
 use calc_terms::{Name, Rat};
-use expand_forms::TermLists;
-use line_text::Text;
 use name_table::NameTable;
 use node_pool::{Id, Pool};
-use pool_layouts::Drafter;
 use reduce_port::Reducer;
 use std::alloc::{AllocError, Global};
 use std::marker::Model;
-use tree_handles::{number, open_pool};
-
-/// For each term of a polynomial that is expanded in lists so many bytes of the pool are counted, and there is room for so many at
-/// least and at most.
-const BYTES_OF_TERM: u32 = 128;
-
-const LEAST_TERMS: u32 = 64;
-
-const MOST_TERMS: u32 = 4_096;
+use tree_handles::number;
 
 /// What answers line by line, with all that it keeps from line to line.
 #[derive(Drop)]
@@ -69,15 +56,12 @@ impl Session {
         requires { IsPoolSize size }
         ensures { IfOk result (λ session. session ≡ record { state = first_state size; refusals = 0; last_refused = record { needed = 0; free = 0 }; text = [] }) }
     {
-        let mut pool = open_pool(alloc, size)?;
-        let text = Text::open(alloc, 3 * size + SOLUTION_ROOM)?;
+        let (text, drafter) = open_writing(alloc, size)?;
         let parser = Parser::open(alloc)?;
-        let drafter = Drafter::open(alloc, size)?;
-        let faces = Faces::open(alloc, size)?;
-        let lists = TermLists::open(alloc, terms_within(size))?;
-        let answer = number(&mut pool, Rat::whole(0)).unwrap();
+        let mut work = Workspace::open(alloc, size)?;
+        let answer = number(&mut work.pool, Rat::whole(0)).unwrap();
         let parts = Parts {
-            work: Workspace { pool, faces, lists },
+            work,
             table: NameTable::new(answer),
             text,
             parser,
@@ -191,9 +175,4 @@ impl Session {
     {
         self.parts.table.ans()
     }
-}
-
-/// How many terms the lists have room for, beside a pool of so many bytes.
-fn terms_within(size: u32) -> u16 {
-    (size / BYTES_OF_TERM).max(LEAST_TERMS).min(MOST_TERMS) as u16
 }
