@@ -249,3 +249,22 @@ full_interrupts_none r needed free place h e = grind arith
 
 pub fault_interrupts_none : (r : Refusal) (f : FillFault) (place : ℕ) → r ≡ refusal_to_fill f → r ≡ refusal.Interrupted place → ⊥
 fault_interrupts_none r f place h e = grind arith
+
+-- ---- interruptions, passed on
+
+errors_are : (A : Type 0) (r s : Refusal) → (let m : Result A Refusal = Err r in m) ≡ Err s → r ≡ s
+errors_are A r s e = cc
+
+-- an evaluation passes on a refusal
+pub passed_on : (A : Type 0) (m : Result A Refusal) (r : Refusal) (P : ℕ → Type 0) → m ≡ Err r → ((place : ℕ) → (m ≡ Err (refusal.Interrupted place)) ↔ P place) → (place : ℕ) → (Refused r ≡ Refused (refusal.Interrupted place)) ↔ P place
+passed_on A m r P is h place = (λ e. (h place).0 (is ∙ ap Err (is_refused r (refusal.Interrupted place) e)), λ p. ap Refused (errors_are A r (refusal.Interrupted place) (sym is ∙ (h place).1 p)))
+
+-- an answer is no interruption, nor is what is shown of it
+pub shown_calm : {A : Type 0} (i : ℕ) (old new : State) (x : A) (result : Evaluation) (P : ℕ → Type 0) → ((place : ℕ) → (Ok x ≡ Err (refusal.Interrupted place)) ↔ P place) → Shows i old new result
+    → (place : ℕ) → (result ≡ Refused (refusal.Interrupted place)) ↔ P place
+shown_calm i old new x result P h shows place = (λ e. absurd (subst (Shows i old new) e shows), λ p. absurd (cc ((h place).1 p)))
+
+-- nor is another refusal of it
+pub other_refusal : {A : Type 0} (x : A) (r : Refusal) (P : ℕ → Type 0) → ((place : ℕ) → (Ok x ≡ Err (refusal.Interrupted place)) ↔ P place) → ((place : ℕ) → r ≡ refusal.Interrupted place → ⊥)
+    → (place : ℕ) → (Refused r ≡ Refused (refusal.Interrupted place)) ↔ P place
+other_refusal x r P h other place = (λ e. absurd (other place (is_refused r (refusal.Interrupted place) e)), λ p. absurd (cc ((h place).1 p)))

@@ -47,7 +47,6 @@ pub enum Evaluation {
 impl Parts {
     /// What the line that was read last comes to, to be stored under the name where there is one: its tree is built behind all
     /// others, the stored trees take the places of their names, and it is reduced. A tree that is displayed stands behind all others.
-    #[tactic(auto, using(crate::proofs::EvaluationLemmas::front_over, crate::proofs::EvaluationLemmas::keeps_then, crate::proofs::EvaluationLemmas::size_kept, tree_handles::proofs::Forests::keeps_after))]
     pub fn evaluate<R: Reducer, B: Breaker>(
         &mut self,
         store: Option<Name>,
