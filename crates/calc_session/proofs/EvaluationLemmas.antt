@@ -259,12 +259,49 @@ errors_are A r s e = cc
 pub passed_on : (A : Type 0) (m : Result A Refusal) (r : Refusal) (P : ℕ → Type 0) → m ≡ Err r → ((place : ℕ) → (m ≡ Err (refusal.Interrupted place)) ↔ P place) → (place : ℕ) → (Refused r ≡ Refused (refusal.Interrupted place)) ↔ P place
 passed_on A m r P is h place = (λ e. (h place).0 (is ∙ ap Err (is_refused r (refusal.Interrupted place) e)), λ p. ap Refused (errors_are A r (refusal.Interrupted place) (sym is ∙ (h place).1 p)))
 
--- an answer is no interruption, nor is what is shown of it
-pub shown_calm : {A : Type 0} (i : ℕ) (old new : State) (x : A) (result : Evaluation) (P : ℕ → Type 0) → ((place : ℕ) → (Ok x ≡ Err (refusal.Interrupted place)) ↔ P place) → Shows i old new result
-    → (place : ℕ) → (result ≡ Refused (refusal.Interrupted place)) ↔ P place
-shown_calm i old new x result P h shows place = (λ e. absurd (subst (Shows i old new) e shows), λ p. absurd (cc ((h place).1 p)))
+-- nothing tripped before an answer
+pub none_tripped : {A : Type 0} (x : A) (P : ℕ → Type 0) → ((place : ℕ) → (Ok x ≡ Err (refusal.Interrupted place)) ↔ P place) → (place : ℕ) → P place → ⊥
+none_tripped x P h place p = cc ((h place).1 p)
 
--- nor is another refusal of it
-pub other_refusal : {A : Type 0} (x : A) (r : Refusal) (P : ℕ → Type 0) → ((place : ℕ) → (Ok x ≡ Err (refusal.Interrupted place)) ↔ P place) → ((place : ℕ) → r ≡ refusal.Interrupted place → ⊥)
-    → (place : ℕ) → (Refused r ≡ Refused (refusal.Interrupted place)) ↔ P place
-other_refusal x r P h other place = (λ e. absurd (other place (is_refused r (refusal.Interrupted place) e)), λ p. absurd (cc ((h place).1 p)))
+pub none_tripped_then : {A : Type 0} (x : A) (P : ℕ → Type 0) → ((place : ℕ) → (Ok x ≡ Err (fault.Interrupted (record { by = place }))) ↔ P place) → (place : ℕ) → P place → ⊥
+none_tripped_then x P h place p = cc ((h place).1 p)
+
+-- nor is what is shown of it an interruption
+pub shown_calm : (i : ℕ) (old new : State) (result : Evaluation) (P : ℕ → Type 0) → ((place : ℕ) → P place → ⊥) → Shows i old new result → (place : ℕ) → (result ≡ Refused (refusal.Interrupted place)) ↔ P place
+shown_calm i old new result P none shows place = (λ e. absurd (subst (Shows i old new) e shows), λ p. absurd (none place p))
+
+-- or another refusal
+pub other_refusal : (r : Refusal) (P : ℕ → Type 0) → ((place : ℕ) → P place → ⊥) → ((place : ℕ) → r ≡ refusal.Interrupted place → ⊥) → (place : ℕ) → (Refused r ≡ Refused (refusal.Interrupted place)) ↔ P place
+other_refusal r P none other place = (λ e. absurd (other place (is_refused r (refusal.Interrupted place) e)), λ p. absurd (none place p))
+
+-- or a face
+pub face_calm : (h : ℕ) (P : ℕ → Type 0) → ((place : ℕ) → P place → ⊥) → (place : ℕ) → (Face h ≡ Refused (refusal.Interrupted place)) ↔ P place
+face_calm h P none place = (λ e. cc, λ p. absurd (none place p))
+
+faults_are : (A : Type 0) (f g : ReduceFault) → (let m : Result A ReduceFault = Err f in m) ≡ Err g → f ≡ g
+faults_are A f g e = cc
+
+fault_is : (f : ReduceFault) (place : ℕ) → refusal_of f ≡ refusal.Interrupted place → f ≡ fault.Interrupted (record { by = place })
+fault_is (fault.Full x) place e = absurd (cc e)
+fault_is (fault.Overflow x) place e = absurd (cc e)
+fault_is (fault.Interrupted i) place e = ap (λ n. fault.Interrupted (record { by = n })) (places_are i.by place e)
+  where
+    places_are : (a b : ℕ) → refusal.Interrupted a ≡ refusal.Interrupted b → a ≡ b
+    places_are a b e = cc
+
+-- a refusal passes on a fault
+pub fault_passed : (A : Type 0) (m : Result A ReduceFault) (n : Result A Refusal) (f : ReduceFault) (r : Refusal) (P : ℕ → Type 0) → m ≡ Err f → n ≡ Err r → r ≡ refusal_of f
+    → ((place : ℕ) → (m ≡ Err (fault.Interrupted (record { by = place }))) ↔ P place) → (place : ℕ) → (n ≡ Err (refusal.Interrupted place)) ↔ P place
+fault_passed A m n f r P is told e h place = (
+  λ k. (h place).0 (is ∙ ap Err (fault_is f place (sym e ∙ errors_are A r (refusal.Interrupted place) (sym told ∙ k)))),
+  λ p. told ∙ ap Err (e ∙ ap refusal_of (faults_are A f (fault.Interrupted (record { by = place })) (sym is ∙ (h place).1 p))),
+)
+
+-- what it counts
+pub fault_counted : (A : Type 0) (s t : State) (f : ReduceFault) (r : Refusal) → r ≡ refusal_of f → CountsRefusals {A = A} s t (Err f) → CountsRefusal (refusal_in (reason_of r)) s t
+fault_counted A s t f r e k = subst (λ x. CountsRefusal (refusal_in (reason_of x)) s t) (sym e) (by f k)
+  where
+    by : (f : ReduceFault) → CountsRefusals {A = A} s t (Err f) → CountsRefusal (refusal_in (reason_of (refusal_of f))) s t
+    by (fault.Full full) k = k
+    by (fault.Overflow o) k = k
+    by (fault.Interrupted i) k = k

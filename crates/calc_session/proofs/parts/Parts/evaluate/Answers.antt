@@ -1,6 +1,6 @@
 use Rattle.calc_session.proofs.Shared.{both_ways, refl, sym, subst, arith, Contains, TripsRose, states, name_in, name_of, Tree, names, tree_of, forest, given_handed, given_rest, given_told, gives_as}
 use Rattle.calc_session.proofs.{Shared.{held_entries, refusal_of_evaluation, is_answered, is_not_made, LacksName, expression, reason_of, refusal_in, Handle, keeps_after, seen}, EvaluationLemmas.{calm_refused, circular_reply, comes_made}}
-use Rattle.calc_session.proofs.{EvaluationLemmas.{front_in_place, front_over, keeps_then, other_refusal, passed_on, shown_answer, shown_calm, size_kept}, parts.Parts.evaluate.Goals.{After-show, in-Some+else-holds_name, in_default}}
+use Rattle.calc_session.proofs.{EvaluationLemmas.{front_in_place, front_over, keeps_then, none_tripped, other_refusal, passed_on, shown_answer, shown_calm, size_kept}, parts.Parts.evaluate.Goals.{After-show, in-Some+else-holds_name, in_default}}
 use Rattle.std.proofs.Common.{Err}
 use Rattle.calc_session.specs.declared.answers.Refusal.TheVariants as refusal
 use Rattle.calc_session.specs.declared.evaluating.Evaluation.TheVariants as evaluation
@@ -72,7 +72,7 @@ returns-then-holds_name g c =
           comes_made g.R.Reducer.room g.R.Reducer.bits before after (name_in c.args.store) c.args.self.now.table c.args.self.now.work.pool c.build_and_fill.new.pool (forest c.reduce_tree.new.pool) t (evaluation.Refused (refusal.Circular c.in-Some.name))
           c.requires.kept.ready.stands c.build_and_fill.ensures.stands c.in-Ok.ensures.kept.size c.in-Ok.ensures.ok (c.in-Ok.ensures.made t is)
           (rw c.in-Some.is (is_answered c.in-Ok-reduce_tree.ensures.calm (given_told a).0 (circular_reply (tree_of c.in-Ok-reduce_tree.answer c.reduce_tree.new.pool) x holds)));
-      interrupted = other_refusal c.in-Ok-reduce_tree.answer (refusal.Circular c.in-Some.name) (TripsRose before after) c.in-Ok-reduce_tree.ensures.interrupted (λ place e. cc);
+      interrupted = other_refusal (refusal.Circular c.in-Some.name) (TripsRose before after) (none_tripped c.in-Ok-reduce_tree.answer (TripsRose before after) c.in-Ok-reduce_tree.ensures.interrupted) (λ place e. cc);
       counted = kept;
       front = front_over c.in-Ok.ensures.ok c.reduce_tree.ensures.front;
       ready = record { stands = c.reduce_tree.ensures.stands; lists = omega (arith, c.requires.kept.ready.lists, kept.size) };
@@ -105,7 +105,7 @@ returns g c =
           c.requires.kept.ready.stands c.build_and_fill.ensures.stands c.in-Ok.ensures.kept.size ok (c.in-Ok.ensures.made t is)
           (shown_answer g.R.Reducer.room g.R.Reducer.bits before after (name_in c.args.store) c.show.result c.build_and_fill.ensures.stands c.reduce_tree.ensures.stands shown.ready.stands
           answer.kept.size (size_kept lack c.reduce_tree.new.pool c.show.new.work.pool shown.counted) (gives_as ok (sym (given_rest ok)) (λ t x. x)) answer.answer answer.calm (clear g (goal.at.returns g c).After-show) shown.front shown.shows);
-      interrupted = shown_calm c.in-Ok-reduce_tree.answer c.reduce_tree.new.pool c.show.new.work.pool c.in-Ok-reduce_tree.answer c.show.result (TripsRose before after) answer.interrupted shown.shows;
+      interrupted = shown_calm c.in-Ok-reduce_tree.answer c.reduce_tree.new.pool c.show.new.work.pool c.show.result (TripsRose before after) (none_tripped c.in-Ok-reduce_tree.answer (TripsRose before after) answer.interrupted) shown.shows;
       counted = keeps_then lack c.args.self.now.work.pool c.reduce_tree.new.pool c.show.new.work.pool kept shown.counted;
       front = front_over ok (front_in_place (gives_as ok (sym (given_rest ok)) (λ t x. x)) answer.answer c.reduce_tree.ensures.front shown.front);
       ready = shown.ready;
