@@ -2,7 +2,7 @@
 use Rattle.calc_session.proofs.Shared.{◌≡◌, ◌≢◌, ◌∙◌, zero, suc, [], ◌∷◌, take, map, get_or, Bool, true, false, of_z, to_z, refl, sym, ap, subst, arith, take_all, ℤ, pos, IfErr, ◌==◌, ◌&&◌, w128}
 use Rattle.calc_session.proofs.Shared.{get_or-map, Kind, Rat, Fraction, is_one_fraction, is_zero_fraction, one_fraction, zero_fraction, rational, size_of_payload, ratio_of, value_of, Ratio, whole}
 use Rattle.calc_session.proofs.Shared.{Tree, Trees, num, symbol, add, mult, none, more, append, count, size, sizes, Name, name_of, one_test, whole_denominator, whole_numerator, zero_test, ratio_parts}
-use Rattle.calc_session.proofs.Shared.{Adds, AddsAll, adds_as, adds_first, adds_free, adds_more, adds_none, adds_one, adds_over, adds_tree, Full, free_of, compound, nth, takes_kind, Forest, join}
+use Rattle.calc_session.proofs.Shared.{Adds, AddsAll, adds_as, adds_first, adds_free, adds_join, adds_more, adds_none, adds_one, adds_over, adds_tree, Full, free_of, compound, nth, takes_kind, Forest, join}
 use Rattle.calc_session.proofs.Shared.{before_last, last_trees, one_tree, Ends, Gives, KeepsFront, IsRefused, KeepsRefusals, Stands, forest, join_assoc, front_at, front_end, front_same, append-none}
 use Rattle.calc_session.proofs.Shared.{IsLast, IsPlaced, multiple_of, multiples, sum_of_trees, summands, int_is_one, int_is_zero, whole_short, told}
 use Rattle.calc_terms.proofs.{SmallFractions.{zero_value as whole_zero}, SmallLaws.{sizes_append as sizes-append, count_append as count-append, append_assoc}}
@@ -65,6 +65,9 @@ front_node r n s t u v g i k = grind (arith, front_end, front_same, front_at)
 
 pub adds_placed : {s t : State} {a : Tree} {h : ℕ} → Stands s → Gives (forest s) (forest t) h (λ w. w ≡ a) → KeepsRefusals s t → Stands t → AddsAll s t (more a none)
 adds_placed st g k st' = adds_one st (record { gives = g; kept = k; stands = st' })
+
+pub adds_two : {s t u : State} {a b : Tree} {h i : ℕ} → Stands s → Gives (forest s) (forest t) h (λ w. w ≡ a) → KeepsRefusals s t → Stands t → Gives (forest t) (forest u) i (λ w. w ≡ b) → KeepsRefusals t u → Stands u → AddsAll s u (more a (more b none))
+adds_two st g k st' g' k' st'' = adds_join (adds_placed st g k st') (adds_placed st' g' k' st'')
 
 pub front_of_all : {s t : State} {ts : Trees} → AddsAll s t ts → KeepsFront [] (forest s) (forest t)
 front_of_all {s} {t} b = record { keeps = λ p starts n. record { behind = join starts.behind b.made; whole = b.whole ∙ ap (λ (x : Forest). join x b.made) starts.whole ∙ join_assoc p starts.behind b.made } }

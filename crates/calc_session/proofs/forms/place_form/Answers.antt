@@ -1,16 +1,43 @@
 use Rattle.std.proofs.Common.{rules, ◌∙◌, ◌≤◌, [], map, sym, ap, arith}
-use Rattle.calc_session.proofs.Shared.{name_of, size_of_payload, value_of, sizes, added_begin, added_few, adds_free, entries_of, free_of, form_tree, multiples, summands}
+use Rattle.calc_session.proofs.Shared.{err_from_is_err_and, front_after, keeps_after, refuses_after, name_of, size_of_payload, value_of, sizes, added_begin, added_few, adds_free, entries_of, free_of, form_tree, multiples, summands}
 use Rattle.calc_terms.specs.Payload.{bare}
 use Rattle.calc_session.proofs.PlacingLemmas.{constant_first, form_many, form_none, front_node, front_of_all, nothing_is, placed_as, summands_sizes, zero_size}
 use Rattle.calc_terms.specs.declared.kind.Kind.TheVariants as kind
 use Rattle.calc_session.proofs.forms.place_form.Goals as goal
 
-pub returns-in_err-placed-2-clause-enough : goal.returns-in_err-placed-2-clause-enough
-returns-in_err-placed-2-clause-enough c = λ room.
-    let xs = map name_of c.args.names.now in
-    let qs = entries_of c.args.coefs.now in
-    let fits : sizes (multiples xs qs) ≤ free_of c.place_constant.new.pool = omega (arith, room, adds_free c.requires.stands c.in_ok-placed.ensures.ok.adds, summands_sizes xs (value_of c.args.constant) qs) in
-    absurd (cc (c.in_err-placed-2.ensures.enough fits))
+pub returns-in_err-placed : goal.returns-in_err-placed
+returns-in_err-placed c =
+    let p = err_from_is_err_and c.from_residual.result c.from_residual.ensures.1 in
+    let lack = c.in_err-placed.ensures in
+    record {
+      ok = rw p.1 tt;
+      enough = λ room. absurd (cc (lack.enough (omega (arith, room, summands_sizes (map name_of c.args.names.now) (value_of c.args.constant) (entries_of c.args.coefs.now)))));
+      refused = rw (p.1, p.2) lack.refused;
+      caused = rw (p.1, p.2) lack.caused;
+      front = c.place_constant.ensures.front;
+      stands = c.place_constant.ensures.stands;
+    }
+
+pub place_multiples-requires : goal.place_multiples-requires
+place_multiples-requires c = record { stands = c.place_constant.ensures.stands; few = c.requires.few; trees = c.in_ok-placed.ensures.few }
+
+pub returns-in_err-placed-2 : goal.returns-in_err-placed-2
+returns-in_err-placed-2 c =
+    let p = err_from_is_err_and c.from_residual-in_err-placed-2.result c.from_residual-in_err-placed-2.ensures.1 in
+    let lack = c.in_err-placed-2.ensures in
+    let constant = c.in_ok-placed.ensures.ok.adds in
+    record {
+      ok = rw p.1 tt;
+      enough = λ room.
+          let xs = map name_of c.args.names.now in
+          let qs = entries_of c.args.coefs.now in
+          let fits : sizes (multiples xs qs) ≤ free_of c.place_constant.new.pool = omega (arith, room, adds_free c.requires.stands constant, summands_sizes xs (value_of c.args.constant) qs) in
+          absurd (cc (lack.enough fits));
+      refused = rw (p.1, p.2) (refuses_after _ _ _ _ constant.kept lack.refused);
+      caused = rw (p.1, p.2) lack.caused;
+      front = front_after c.place_constant.ensures.front c.place_multiples.ensures.front;
+      stands = c.place_multiples.ensures.stands;
+    }
 
 pub node_over_last-requires-clause-few : goal.node_over_last-requires-clause-few
 node_over_last-requires-clause-few c =
