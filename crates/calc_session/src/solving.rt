@@ -144,11 +144,31 @@ fn read_equations(
         Err(SplitFault::Unwritten) => return Err(Refusal::Command),
         Err(SplitFault::TooMany) => return Err(Refusal::TooMany),
     };
-    for range in ranges.as_slice() {
+    match read_sides(text, before, ranges.as_slice(), parser) {
+        Ok(()) => Ok(ranges),
+        Err(refusal) => Err(refusal),
+    }
+}
+
+/// Reads the sides of the equations that stand there in a text, from left to right.
+fn read_sides(
+    text: &[u8],
+    before: u16,
+    ranges: &[EquationRange],
+    parser: &mut Parser,
+) -> Result<(), Refusal>
+    requires short { before + length text.now ≤ line_limit }
+    requires split { AreSplit text.now ranges.now }
+    ensures read { OnOk result ((es : List Equation) × AllZip ReadsEquation (map (pieces_at before text.now) ranges.now) es) }
+    ensures refused { (old : State) (breakers : List Breaker) → IfErr result (λ refusal. IsReplyToEquations old breakers breakers before text.now (reply_of refusal)) }
+    ensures no_pool { IfErr result (λ refusal. refusal_in (reason_of refusal) ≡ None) }
+    ensures no_breaker { IfErr result (λ refusal. (place : ℕ) → refusal ≡ Refusal.Interrupted place → ⊥) }
+{
+    for range in ranges {
         read_side(text, range.begin, range.sign, before, parser)?;
         read_side(text, range.sign + 1, range.end, before, parser)?;
     }
-    Ok(ranges)
+    Ok(())
 }
 
 /// Reads the side of an equation that stands there in a text, which begins behind so many bytes of the line.
@@ -201,8 +221,12 @@ fn solve_read<B: Breaker>(
     ensures stands { Stands pool.new }
 {
     let mark = open_mark(pool);
-    match build_equations(pool, table, parser, equations) {
-        Ok(roots) => {
+    let mut roots = Roots {
+        left: ArrayVec::new(),
+        right: ArrayVec::new(),
+    };
+    match build_equations(pool, table, parser, equations, &mut roots) {
+        Ok(()) => {
             let solved = solve_trees(pool, roots.left.as_slice(), roots.right.as_slice(), watch);
             roll_back(pool, mark);
             solved
@@ -221,17 +245,20 @@ fn build_equations(
     table: &NameTable,
     parser: &mut Parser,
     equations: &Equations<'_>,
-) -> Result<Roots, Refusal>
+    roots: &mut Roots,
+) -> Result<(), Refusal>
     requires stands { Stands pool.old }
     requires entries { HasEntries table.now (forest pool.old) }
     requires short { equations.now.before + length equations.now.text.now ≤ line_limit }
     requires few { length equations.now.ranges.now ≤ 6 }
     requires within { All (IsWithin equations.now.text.now) equations.now.ranges.now }
     requires reads { (es : List Equation) × AllZip ReadsEquation (map (pieces_at equations.now.before equations.now.text.now) equations.now.ranges.now) es }
+    requires none_left { roots.old.left.items ≡ [] }
+    requires none_right { roots.old.right.items ≡ [] }
     ensures built { (es : List Equation) → AllZip ReadsEquation (map (pieces_at equations.now.before equations.now.text.now) equations.now.ranges.now) es
-        → IfOk result (λ roots. Become (values table.now (forest pool.old)) (free_of pool.old) es (free_of pool.new)
-        (equations_in (forest pool.new) roots.left.items roots.right.items)) }
-    ensures roots { IfOk result (λ roots. AreRootsOf (forest pool.new) (length equations.now.ranges.now) roots.left.items roots.right.items) }
+        → OnOk result (Become (values table.now (forest pool.old)) (free_of pool.old) es (free_of pool.new)
+        (equations_in (forest pool.new) roots.new.left.items roots.new.right.items)) }
+    ensures roots { OnOk result (AreRootsOf (forest pool.new) (length equations.now.ranges.now) roots.new.left.items roots.new.right.items) }
     ensures refused { (es : List Equation) → AllZip ReadsEquation (map (pieces_at equations.now.before equations.now.text.now) equations.now.ranges.now) es
         → IfErr result (λ refusal. AreUnmade (values table.now (forest pool.old)) (free_of pool.old) es (reason_of refusal)) }
     ensures kept { OnOk result (KeepsRefusals pool.old pool.new) }
@@ -241,23 +268,21 @@ fn build_equations(
     ensures stands { Stands pool.new }
 {
     let ranges = equations.ranges;
-    let mut left = ArrayVec::new();
-    let mut right = ArrayVec::new();
     for range in ranges {
         let side = Side {
             from: range.begin,
             to: range.sign,
         };
         let root = build_side(pool, table, parser, equations, side)?;
-        left.push(root);
+        roots.left.push(root);
         let side = Side {
             from: range.sign + 1,
             to: range.end,
         };
         let root = build_side(pool, table, parser, equations, side)?;
-        right.push(root);
+        roots.right.push(root);
     }
-    Ok(Roots { left, right })
+    Ok(())
 }
 
 /// The tree of one side.

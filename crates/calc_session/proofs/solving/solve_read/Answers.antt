@@ -39,13 +39,13 @@ solve_trees-solved-requires g c = record {
 
 pub returns-in-Ok-clause-solved : goal.returns-in-Ok-clause-solved
 returns-in-Ok-clause-solved g c = λ es reads.
-    let same : equations_in (forest c.build_equations.new.pool) c.in-Ok.roots.left.items c.in-Ok.roots.right.items ≡ equations_in (forest c.build_equations.new.pool) c.as_slice.result.now c.as_slice-in-Ok.result.now
+    let same : equations_in (forest c.build_equations.new.pool) c.build_equations.new.roots.left.items c.build_equations.new.roots.right.items ≡ equations_in (forest c.build_equations.new.pool) c.as_slice.result.now c.as_slice-in-Ok.result.now
     = λ i. equations_in (forest c.build_equations.new.pool) ((sym c.as_slice.ensures.value) i) ((sym c.as_slice-in-Ok.ensures.value) i) in
     ok_as c.solve_trees-solved.result c.solve_trees-solved.ensures.solved (λ s h. (free_of c.build_equations.new.pool, equations_in (forest c.build_equations.new.pool) c.as_slice.result.now c.as_slice-in-Ok.result.now, subst (λ bs. Become (values c.args.table.now (forest c.args.pool.now)) (free_of c.args.pool.now) es (free_of c.build_equations.new.pool) bs) same (c.in-Ok.ensures.built es reads), h))
 
 pub returns-in-Ok-clause-refused : goal.returns-in-Ok-clause-refused
 returns-in-Ok-clause-refused g c = λ es reads.
-    let same : equations_in (forest c.build_equations.new.pool) c.in-Ok.roots.left.items c.in-Ok.roots.right.items ≡ equations_in (forest c.build_equations.new.pool) c.as_slice.result.now c.as_slice-in-Ok.result.now
+    let same : equations_in (forest c.build_equations.new.pool) c.build_equations.new.roots.left.items c.build_equations.new.roots.right.items ≡ equations_in (forest c.build_equations.new.pool) c.as_slice.result.now c.as_slice-in-Ok.result.now
     = λ i. equations_in (forest c.build_equations.new.pool) ((sym c.as_slice.ensures.value) i) ((sym c.as_slice-in-Ok.ensures.value) i) in
     err_as c.solve_trees-solved.result (c.solve_trees-solved.ensures.refused (free_of c.args.pool.now)) (λ r h. are_made (subst (λ bs. Become (values c.args.table.now (forest c.args.pool.now)) (free_of c.args.pool.now) es (free_of c.build_equations.new.pool) bs) same (c.in-Ok.ensures.built es reads)) h)
 

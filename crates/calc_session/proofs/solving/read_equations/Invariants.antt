@@ -1,5 +1,0 @@
-use Rattle.calc_session.proofs.RangeLemmas.{AreReadUpTo}
-use Rattle.calc_session.proofs.solving.read_equations.Given as goal
-
-abbrev pub invariant-loop-range : goal.invariant-loop-range
-invariant-loop-range l = AreReadUpTo l.before l.text l.range-items l.range-index
