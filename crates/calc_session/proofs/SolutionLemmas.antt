@@ -7,7 +7,7 @@ use Rattle.calc_session.proofs.Shared.{Rises, comma_before, form_tree, line_text
 use Rattle.calc_session.proofs.{EvaluationLemmas.{last_nodes}, FormFaces.{face_of_form, form_defined, size_of_form}, FormLemmas.{form_reduced}, PlacingLemmas.{multiples_few, name_there}}
 use Rattle.calc_session.proofs.{SessionLemmas.{face_expression, face_tree}, StoredTrees.{named_tree}}
 use Rattle.std.proofs.Common.{ℕ, ◌+◌, ◌<◌, ◌≤◌, List, append_assoc, length}
-use Rattle.std.specs.Prelude.{if◌then◌else◌, not, Result, OnErr}
+use Rattle.std.specs.Prelude.{if◌then◌else◌, not, Result, Ok, Err, OnErr, OnOk}
 use Rattle.node_pool.specs.State.{State}
 
 -- ---- a form that was placed
@@ -182,3 +182,27 @@ line_small ns lines k d few h l =
 
 pub on_err : {A E : Type 0} (r : Result A E) (P : Type 0) → P → OnErr r P
 on_err r P p = grind arith
+
+-- ---- one piece behind two others
+
+behind_one : (old a b : Content) (x y : List ℕ) → a ≡ extended old x → b ≡ extended a y → b ≡ extended old (x ++ y)
+behind_one old a b x y p q = q ∙ ap (λ (c : Content). extended c y) p ∙ ap (λ (bytes : List ℕ). record old { bytes = bytes }) (append_assoc old.bytes x y)
+
+module _ {A E : Type 0} (old a b new : Content) (x y : List ℕ) (p : a ≡ extended old x) (q : b ≡ extended a y) where
+  pub behind_two : (r : Result A E) (t : List ℕ) → OnOk r (new ≡ extended b t) → OnOk r (new ≡ extended old (x ++ (y ++ t)))
+  behind_two (Ok u) t e = behind_one old b new (x ++ y) t (behind_one old a b x y p q) e ∙ ap (extended old) (append_assoc x y t)
+  behind_two (Err f) t e = tt
+
+  pub short_behind : (r : Result A E) → length x ≤ 7 → length y ≤ 1 → OnOk r (length new.bytes ≤ length b.bytes + 1392) → OnOk r (length new.bytes ≤ length old.bytes + 1407)
+  short_behind (Ok u) l m e = omega (arith, l, m, e, ap (λ (c : Content). length c.bytes) (behind_one old a b x y p q), length-append old.bytes (x ++ y), length-append x y)
+  short_behind (Err f) l m e = tt
+
+pub behind_words : (old a b : Content) (x y : List ℕ) → a ≡ extended old x → b ≡ extended a y → length x ≤ 7 → length y ≤ 5 → (b ≡ extended old (x ++ y)) × (length b.bytes ≤ length old.bytes + 1407)
+behind_words old a b x y p q l m =
+    let e = behind_one old a b x y p q in
+    (e, omega (arith, l, m, ap (λ (c : Content). length c.bytes) e, length-append old.bytes (x ++ y), length-append x y))
+
+-- the text where there are no names
+pub true_alone : (ns : List Name) (forms : List Form) (old new : Content) → length ns ≡ 0 → old.bytes ≡ [] → new ≡ extended old (codes "true") → new.bytes ≡ lines_text (map name_of ns) forms
+true_alone [] forms old new none empty e = ap (λ (c : Content). c.bytes) e ∙ ap (λ (b : List ℕ). b ++ codes "true") empty
+true_alone (n ∷ ns) forms old new none empty e = absurd (omega (arith, none))

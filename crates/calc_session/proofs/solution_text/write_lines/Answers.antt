@@ -1,6 +1,36 @@
-use Rattle.std.proofs.Common.{◌<◌, ◌∙◌, [], length, map, sym, ap, arith}
-use Rattle.calc_session.proofs.{Shared.{length-map, name_of, Content, form_told, line_text, line_texts}, SolutionLemmas.{all_taken, line_there, lines_are, long_next, many_lines, told_next}}
+use Rattle.std.proofs.Common.{◌≡◌, ◌<◌, ◌∙◌, [], None, Some, length, map, refl, sym, subst, ap, arith}
+use Rattle.calc_session.proofs.{Shared.{err_from_is_err_and, CountsRefusal, after, form_room, free_of, length-map, name_of, Content, form_told, line_text, line_texts}, SolutionLemmas.{all_taken, line_there, lines_are, long_next, many_lines, told_next, true_alone}}
+use Rattle.node_pool.specs.State.{State}
 use Rattle.calc_session.proofs.solution_text.write_lines.Goals as goal
+
+pub returns-then-is_empty : goal.returns-then-is_empty
+returns-then-is_empty c =
+    let none : length c.args.names.now ≡ 0 = grind (arith, c.if-is_empty.ensures) in
+    record {
+      told = true_alone c.args.names.now (map form_told c.args.lines.now) c.args.text.now c.push.new.self none c.requires.empty c.push.ensures;
+      lacks = tt;
+      counted = record { size = refl; refusals = refl; last_refused = refl };
+      as_before = refl;
+      capacity = ap (λ (x : Content). x.capacity) c.push.ensures;
+      ready = c.requires.ready;
+    }
+
+pub returns-in_err-write_line : goal.returns-in_err-write_line
+returns-in_err-write_line c =
+    let p = err_from_is_err_and c.from_residual.result c.from_residual.ensures.1 in
+    let err = c.in_err-write_line.ensures in
+    let full = c.in_err-write_line.field-0.0 in
+    let old = c.args.work.now.pool in
+    let new = c.write_line.new.work.pool in
+    let same = c.loop-at.invariant.same in
+    record {
+      told = rw p.1 tt;
+      lacks = rw (p.1, p.2) (subst (λ (q : State). (full.free < full.needed) × (free_of q < form_room)) same err.lacks);
+      counted = rw (p.1, p.2) (subst (λ (q : State). CountsRefusal (Some full) q new) same err.counted);
+      as_before = rw (p.1, p.2) (subst (λ (q : State). new ≡ after (Some full) q.nodes q) same err.as_before);
+      capacity = c.write_line.ensures.capacity ∙ ap (λ (x : Content). x.capacity) c.push-in-loop-at.ensures ∙ c.loop-at.invariant.capacity;
+      ready = c.write_line.ensures.ready;
+    }
 
 pub loop-at-preserved : goal.loop-at-preserved
 loop-at-preserved c =
@@ -16,9 +46,18 @@ loop-at-preserved c =
       ready = c.write_line.ensures.ready;
     }
 
-pub returns-clause-told : goal.returns-clause-told
-returns-clause-told c =
+pub returns : goal.returns
+returns c =
     let xs = map name_of c.args.names.now in
     let some : 0 < length c.args.names.now = grind (arith, c.if-is_empty.ensures) in
-    c.loop-at.invariant.told ∙ all_taken c.loop-at.at (line_texts xs (map form_told c.args.lines.now)) (omega (arith, c.loop-at-test.false, many_lines c.args.names.now c.args.lines.now c.requires.lines))
-    ∙ sym (lines_are xs (map form_told c.args.lines.now) (omega (arith, some, length-map c.args.names.now name_of)))
+    let so_far = c.loop-at.invariant in
+    record {
+      told =
+          so_far.told ∙ all_taken c.loop-at.at (line_texts xs (map form_told c.args.lines.now)) (omega (arith, c.loop-at-test.false, many_lines c.args.names.now c.args.lines.now c.requires.lines))
+          ∙ sym (lines_are xs (map form_told c.args.lines.now) (omega (arith, some, length-map c.args.names.now name_of)));
+      lacks = tt;
+      counted = subst (λ (q : State). CountsRefusal None c.args.work.now.pool q) (sym so_far.same) (record { size = refl; refusals = refl; last_refused = refl });
+      as_before = so_far.same;
+      capacity = so_far.capacity;
+      ready = so_far.ready;
+    }
