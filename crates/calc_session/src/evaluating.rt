@@ -142,7 +142,6 @@ pub fn reduce_tree<R: Reducer, B: Breaker>(
 }
 
 /// What is displayed of a reduced tree: its face, which takes its place, unless it is Undef.
-#[tactic(auto, using(tree_handles::proofs::Seen::live))]
 pub fn show(work: &mut Workspace, answer: Handle) -> Evaluation
     requires ready { IsReady work.old }
     requires handed { IsHanded answer (forest work.old.pool) }

@@ -1,28 +1,29 @@
-use Rattle.calc_session.proofs.Shared.{rules, ◌≡◌, ◌∙◌, refl, sym, ap, subst, arith, All, states, equations_in, values, flatten, free_of, IsExpression, forest, CountsRefusal, keeps_after, reason_of}
+use Rattle.calc_session.proofs.Shared.{◌≡◌, ◌∙◌, refl, sym, ap, subst, arith, All, states, equations_in, values, flatten, free_of, IsExpression, forest, CountsRefusal, keeps_after, reason_of}
 use Rattle.calc_session.proofs.{Shared.{refusal_in, Become, are_made, are_not_made}, PoolLemmas.{old_below, still_counted}, SolvingLemmas.{calm_refusal, on_ok}}
 use Rattle.std.proofs.Common.{length}
 use Rattle.calc_session.proofs.SolvingLemmas.{err_as}
 use Rattle.calc_terms.proofs.SmallLaws.{if_ok_map as ok_as}
 use Rattle.calc_session.proofs.solving.solve_read.Goals as goal
 
-pub roll_back-requires-clause-below : goal.roll_back-requires-clause-below
-roll_back-requires-clause-below g c = (forest c.args.pool.now, old_below (c.open_mark-mark.ensures.trees c.requires.stands) c.build_equations.ensures.front)
+pub roll_back-requires : goal.roll_back-requires
+roll_back-requires g c = record { stands = c.build_equations.ensures.stands; below = (forest c.args.pool.now, old_below (c.open_mark-mark.ensures.trees c.requires.stands) c.build_equations.ensures.front) }
 
-pub roll_back-requires-in-Err-clause-below : goal.roll_back-requires-in-Err-clause-below
-roll_back-requires-in-Err-clause-below g c = (forest c.args.pool.now, old_below (c.open_mark-mark.ensures.trees c.requires.stands) c.build_equations.ensures.front)
+pub roll_back-requires-in-Err : goal.roll_back-requires-in-Err
+roll_back-requires-in-Err g c = record { stands = c.build_equations.ensures.stands; below = (forest c.args.pool.now, old_below (c.open_mark-mark.ensures.trees c.requires.stands) c.build_equations.ensures.front) }
 
-pub returns-in-Err-clause-refused : goal.returns-in-Err-clause-refused
-returns-in-Err-clause-refused g c = λ es reads. are_not_made (c.in-Err.ensures.refused es reads) refl
-
-pub returns-in-Err-clause-interrupted : goal.returns-in-Err-clause-interrupted
-returns-in-Err-clause-interrupted g c = calm_refusal c.in-Err.refusal (states g.B.Breaker.state c.args.watch.now) c.in-Err.ensures.no_breaker
-
-pub returns-in-Err-clause-counted : goal.returns-in-Err-clause-counted
-returns-in-Err-clause-counted g c = still_counted (refusal_in (reason_of c.in-Err.refusal)) c.args.pool.now c.build_equations.new.pool c.roll_back-in-Err.new.pool c.in-Err.ensures.counted c.roll_back-in-Err.ensures.kept
-
-pub returns-in-Err-clause-as_before : goal.returns-in-Err-clause-as_before
-returns-in-Err-clause-as_before g c =
-    c.roll_back-in-Err.ensures.stands.flat ∙ ap flatten (c.roll_back-in-Err.ensures.forest (forest c.args.pool.now) (old_below (c.open_mark-mark.ensures.trees c.requires.stands) c.build_equations.ensures.front)) ∙ sym c.requires.stands.flat
+pub returns-in-Err : goal.returns-in-Err
+returns-in-Err g c =
+    let back = c.roll_back-in-Err.ensures in
+    record {
+      solved = λ es reads. tt;
+      refused = λ es reads. are_not_made (c.in-Err.ensures.refused es reads) refl;
+      calm = tt;
+      interrupted = calm_refusal c.in-Err.refusal (states g.B.Breaker.state c.args.watch.now) c.in-Err.ensures.no_breaker;
+      counted_ok = tt;
+      counted = still_counted (refusal_in (reason_of c.in-Err.refusal)) c.args.pool.now c.build_equations.new.pool c.roll_back-in-Err.new.pool c.in-Err.ensures.counted back.kept;
+      as_before = back.stands.flat ∙ ap flatten (back.forest (forest c.args.pool.now) (old_below (c.open_mark-mark.ensures.trees c.requires.stands) c.build_equations.ensures.front)) ∙ sym c.requires.stands.flat;
+      stands = back.stands;
+    }
 
 pub returns-in-Ok-clause-as_before : goal.returns-in-Ok-clause-as_before
 returns-in-Ok-clause-as_before g c =
@@ -30,7 +31,7 @@ returns-in-Ok-clause-as_before g c =
 
 pub solve_trees-solved-requires : goal.solve_trees-solved-requires
 solve_trees-solved-requires g c = record {
-  stands = search rules;
+  stands = c.build_equations.ensures.stands;
   left = subst (All (λ i. IsExpression i (forest c.build_equations.new.pool))) (sym c.as_slice.ensures.value) c.in-Ok.ensures.roots.left_expressions;
   right = subst (All (λ i. IsExpression i (forest c.build_equations.new.pool))) (sym c.as_slice-in-Ok.ensures.value) c.in-Ok.ensures.roots.right_expressions;
   pairs = ap length c.as_slice-in-Ok.ensures.value ∙ c.in-Ok.ensures.roots.right_many ∙ sym c.in-Ok.ensures.roots.left_many ∙ sym (ap length c.as_slice.ensures.value);
