@@ -89,20 +89,43 @@ impl Parts {
         ensures kept { IsKept self.new }
     {
         let before = bytes_before(line, text);
-        let ranges = match read_equations(text, before, &mut self.parser) {
-            Ok(ranges) => ranges,
-            Err(refusal) => return LineAnswer::Refused(refusal),
-        };
-        let equations = Equations {
-            text,
-            before,
-            ranges: ranges.as_slice(),
-        };
+        match read_equations(text, before, &mut self.parser) {
+            Ok(ranges) => {
+                let equations = Equations {
+                    text,
+                    before,
+                    ranges: ranges.as_slice(),
+                };
+                self.solve_placed(&equations, watch)
+            }
+            Err(refusal) => LineAnswer::Refused(refusal),
+        }
+    }
+
+    /// Solves equations that were read, and tells the solutions. The text of a refusal is still to be written.
+    fn solve_placed<B: Breaker>(
+        &mut self,
+        equations: &Equations<'_>,
+        watch: &mut Watch<B>,
+    ) -> LineAnswer
+        requires kept { IsKept self.old }
+        requires empty { self.old.text.bytes ≡ [] }
+        requires short { equations.now.before + length equations.now.text.now ≤ line_limit }
+        requires few { length equations.now.ranges.now ≤ 6 }
+        requires split { AreSplit equations.now.text.now equations.now.ranges.now }
+        requires reads { (es : List Equation) × AllZip ReadsEquation (map (pieces_at equations.now.before equations.now.text.now) equations.now.ranges.now) es }
+        ensures told { TellsAs (IsReplyToEquations (state_in self.old) (states B.state watch.old) (states B.state watch.new) equations.now.before equations.now.text.now) result self.new.text.bytes }
+        ensures interrupted { (place : ℕ) → (result ≡ LineAnswer.Refused (Refusal.Interrupted place))
+            ↔ TripsRose (states B.state watch.old) (states B.state watch.new) place }
+        ensures counted { CountsRefusal (refusal_of_pool result) self.old.work.pool self.new.work.pool }
+        ensures same { state_in self.new ≡ state_in self.old }
+        ensures kept { IsKept self.new }
+    {
         let solved = solve_read(
             &mut self.work.pool,
             &self.table,
             &mut self.parser,
-            &equations,
+            equations,
             watch,
         );
         let solved = match &solved {

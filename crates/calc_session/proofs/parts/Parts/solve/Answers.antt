@@ -1,99 +1,29 @@
-use Rattle.calc_session.proofs.Shared.{rules, ◌∙◌, map, take, refl, sym, ap, subst, arith, All, length-map, name_of, answer_told, names_listed, Rises, solution_text, AllZip, states, Equation, Content}
-use Rattle.calc_session.proofs.Shared.{used, free_of, form_room, EquationRange, CountsRefusal, IsWithin, pieces_at, IsReplyToEquations, ReadsEquation, report, state_in, forest, forest_of}
-use Rattle.calc_session.proofs.{Shared.{held_entries, reason_of, refusal_in}, SolvingLemmas.{err_at, names_same, ok_at, on_ok_at}, RangeLemmas.{reads_many}}
-use Rattle.calc_session.proofs.{CommandLemmas.{calm_told, refusal_uninterrupted}, EquationAnswers.{become_many, forms_told, lacking_reply, multipliers_told, read_reply, solved_reply}}
-use Rattle.calc_session.proofs.{EvaluationLemmas.{none_rose, size_kept}, PoolLemmas.{kept_still, nodes_kept, size_same}}
-use Rattle.std.proofs.Common.{◌<◌, ℕ, List, length}
+use Rattle.calc_session.proofs.Shared.{AllZip, AreSplit, CountsRefusal, Equation, EquationRange, ReadsEquation, map, pieces_at, refl, states, subst, sym}
+use Rattle.calc_session.proofs.{CommandLemmas.{calm_told, refusal_uninterrupted}, EvaluationLemmas.{none_rose}, Shared.{state_in}}
+use Rattle.std.proofs.Common.{List}
 use Rattle.calc_session.specs.declared.answers.LineAnswer.TheVariants as answer
 use Rattle.calc_session.proofs.parts.Parts.solve.Goals as goal
-
-pub solve_read-solved-requires-clause-entries : goal.solve_read-solved-requires-clause-entries
-solve_read-solved-requires-clause-entries g c = held_entries c.args.self.now.table (forest c.args.self.now.work.pool) c.requires.kept.held
 
 pub returns-in-Err : goal.returns-in-Err
 returns-in-Err g c = record {
   told = rw (← c.bytes_before-before.ensures) (c.in-Err.ensures.refused (state_in c.args.self.now) (states g.B.Breaker.state c.args.watch.now), c.requires.empty);
   interrupted = calm_told (answer.Refused c.in-Err.refusal) (states g.B.Breaker.state c.args.watch.now) (states g.B.Breaker.state c.args.watch.now) (refusal_uninterrupted c.in-Err.refusal c.in-Err.ensures.no_breaker) (none_rose (states g.B.Breaker.state c.args.watch.now));
   counted = subst (λ r. CountsRefusal r c.args.self.now.work.pool c.args.self.now.work.pool) (sym c.in-Err.ensures.no_pool) (record { size = refl; refusals = refl; last_refused = refl });
-  same = search rules;
+  same = refl;
   kept = record { ready = c.requires.kept.ready; held = c.requires.kept.held; room = c.requires.kept.room; served = c.requires.kept.served };
 }
 
-pub solve_read-solved-requires-clause-within : goal.solve_read-solved-requires-clause-within
-solve_read-solved-requires-clause-within g c = subst (All (IsWithin c.args.text.now)) (sym c.as_slice.ensures.value) c.in-Ok.ensures.split.within
+pub solve_placed-requires-clause-split : goal.solve_placed-requires-clause-split
+solve_placed-requires-clause-split g c = subst (AreSplit c.args.text.now) (sym c.as_slice.ensures.value) c.in-Ok.ensures.split
 
-pub solve_read-solved-requires-clause-reads : goal.solve_read-solved-requires-clause-reads
-solve_read-solved-requires-clause-reads g c = subst (λ (rs : List EquationRange). (es : List Equation) × AllZip ReadsEquation (map (pieces_at c.bytes_before-before.result c.args.text.now) rs) es) (sym c.as_slice.ensures.value) c.in-Ok.ensures.read
+pub solve_placed-requires-clause-reads : goal.solve_placed-requires-clause-reads
+solve_placed-requires-clause-reads g c = subst (λ (rs : List EquationRange). (es : List Equation) × AllZip ReadsEquation (map (pieces_at c.bytes_before-before.result c.args.text.now) rs) es) (sym c.as_slice.ensures.value) c.in-Ok.ensures.read
 
-pub returns-in-Err-solved-clause-told : goal.returns-in-Err-solved-clause-told
-returns-in-Err-solved-clause-told g c =
-    let (es, reads) = c.in-Ok.ensures.read in
-    let there = subst (λ (rs : List EquationRange). AllZip ReadsEquation (map (pieces_at c.bytes_before-before.result c.args.text.now) rs) es) (sym c.as_slice.ensures.value) reads in
-    rw (← c.bytes_before-before.ensures) (read_reply c.args.self.now.work.pool c.args.self.now.table (states g.B.Breaker.state c.args.watch.now) (states g.B.Breaker.state c.solve_read-solved.new.watch) c.args.text.now c.bytes_before-before.result c.in-Ok.ranges.items c.in-Ok.ensures.split es _ reads (err_at _ c.solve_read-solved.result c.in-Err-solved.refusal c.in-Err-solved.is (c.solve_read-solved.ensures.refused es there)), c.requires.empty)
-
-pub returns-in-Err-solved-clause-counted : goal.returns-in-Err-solved-clause-counted
-returns-in-Err-solved-clause-counted g c = err_at _ c.solve_read-solved.result c.in-Err-solved.refusal c.in-Err-solved.is c.solve_read-solved.ensures.counted
-
-pub returns-in-Err-solved-clause-kept : goal.returns-in-Err-solved-clause-kept
-returns-in-Err-solved-clause-kept g c =
-    let counted = err_at _ c.solve_read-solved.result c.in-Err-solved.refusal c.in-Err-solved.is c.solve_read-solved.ensures.counted in
-    let size = size_kept (refusal_in (reason_of c.in-Err-solved.refusal)) c.args.self.now.work.pool c.solve_read-solved.new.pool counted in
-    kept_still c.args.self.now _ c.requires.kept c.solve_read-solved.ensures.stands size (ap forest_of c.solve_read-solved.ensures.as_before) (omega (arith, c.requires.kept.ready.lists, size)) refl refl refl
-
-pub write_solution-requires-clause-ready : goal.write_solution-requires-clause-ready
-write_solution-requires-clause-ready g c =
-    let kept = on_ok_at _ c.solve_read-solved.result c.in-Ok-solved.solved c.in-Ok-solved.is c.solve_read-solved.ensures.counted_ok in
-    record { stands = c.solve_read-solved.ensures.stands; lists = omega (arith, c.requires.kept.ready.lists, kept.size) }
-
-pub write_solution-requires-clause-rises : goal.write_solution-requires-clause-rises
-write_solution-requires-clause-rises g c =
-    let (es, reads) = c.in-Ok.ensures.read in
-    let there = subst (λ (rs : List EquationRange). AllZip ReadsEquation (map (pieces_at c.bytes_before-before.result c.args.text.now) rs) es) (sym c.as_slice.ensures.value) reads in
-    let (left, built, become, h) = ok_at _ c.solve_read-solved.result c.in-Ok-solved.solved c.in-Ok-solved.is (c.solve_read-solved.ensures.solved es there) in
-    subst Rises (sym (names_same c.in-Ok-solved.solved.names.items c.as_slice-2.result.now c.in_array-names.result c.len.result c.as_slice-2.ensures.value c.len.ensures.value c.in_array-names.ensures)) h.names.rising
-
-pub write_solution-requires-clause-forms : goal.write_solution-requires-clause-forms
-write_solution-requires-clause-forms g c =
-    let (es, reads) = c.in-Ok.ensures.read in
-    let there = subst (λ (rs : List EquationRange). AllZip ReadsEquation (map (pieces_at c.bytes_before-before.result c.args.text.now) rs) es) (sym c.as_slice.ensures.value) reads in
-    let (left, built, become, h) = ok_at _ c.solve_read-solved.result c.in-Ok-solved.solved c.in-Ok-solved.is (c.solve_read-solved.ensures.solved es there) in
-    forms_told (names_listed c.in-Ok-solved.solved.names.items) built h.names h.linear (length (take c.len.result c.in_array-names.result)) c.in-Ok-solved.solved.solution (sym (length-map (take c.len.result c.in_array-names.result) name_of) ∙ ap length (names_same c.in-Ok-solved.solved.names.items c.as_slice-2.result.now c.in_array-names.result c.len.result c.as_slice-2.ensures.value c.len.ensures.value c.in_array-names.ensures)) h.calculated
-
-pub write_solution-requires-clause-multipliers : goal.write_solution-requires-clause-multipliers
-write_solution-requires-clause-multipliers g c =
-    let (es, reads) = c.in-Ok.ensures.read in
-    let there = subst (λ (rs : List EquationRange). AllZip ReadsEquation (map (pieces_at c.bytes_before-before.result c.args.text.now) rs) es) (sym c.as_slice.ensures.value) reads in
-    let (left, built, become, h) = ok_at _ c.solve_read-solved.result c.in-Ok-solved.solved c.in-Ok-solved.is (c.solve_read-solved.ensures.solved es there) in
-    multipliers_told (names_listed c.in-Ok-solved.solved.names.items) built h.names h.linear c.in-Ok-solved.solved.solution (omega (arith, become_many become, reads_many c.bytes_before-before.result c.args.text.now c.as_slice.result.now es there, c.as_slice.ensures.fits)) h.calculated
-
-pub returns-in-Ok-write_solution-clause-told : goal.returns-in-Ok-write_solution-clause-told
-returns-in-Ok-write_solution-clause-told g c =
-    let (es, reads) = c.in-Ok.ensures.read in
-    let there = subst (λ (rs : List EquationRange). AllZip ReadsEquation (map (pieces_at c.bytes_before-before.result c.args.text.now) rs) es) (sym c.as_slice.ensures.value) reads in
-    let (left, built, become, h) = ok_at _ c.solve_read-solved.result c.in-Ok-solved.solved c.in-Ok-solved.is (c.solve_read-solved.ensures.solved es there) in
-    rw (← c.bytes_before-before.ensures) (subst (λ w. IsReplyToEquations (state_in c.args.self.now) (states g.B.Breaker.state c.args.watch.now) (states g.B.Breaker.state c.solve_read-solved.new.watch) c.bytes_before-before.result c.args.text.now (report w))
-    (sym (c.in-Ok-write_solution.ensures.told ∙ ap (λ (ys : List (List ℕ)). solution_text ys (answer_told c.in-Ok-solved.solved.solution)) (names_same c.in-Ok-solved.solved.names.items c.as_slice-2.result.now c.in_array-names.result c.len.result c.as_slice-2.ensures.value c.len.ensures.value c.in_array-names.ensures)))
-    (solved_reply c.args.self.now.work.pool c.args.self.now.table (states g.B.Breaker.state c.args.watch.now) (states g.B.Breaker.state c.solve_read-solved.new.watch) c.args.text.now c.bytes_before-before.result c.in-Ok.ranges.items c.in-Ok.ensures.split es built left c.in-Ok-solved.solved reads become h))
-
-pub returns-in-Err-write_solution-clause-told : goal.returns-in-Err-write_solution-clause-told
-returns-in-Err-write_solution-clause-told g c =
-    let (es, reads) = c.in-Ok.ensures.read in
-    let there = subst (λ (rs : List EquationRange). AllZip ReadsEquation (map (pieces_at c.bytes_before-before.result c.args.text.now) rs) es) (sym c.as_slice.ensures.value) reads in
-    let (left, built, become, h) = ok_at _ c.solve_read-solved.result c.in-Ok-solved.solved c.in-Ok-solved.is (c.solve_read-solved.ensures.solved es there) in
-    let (forms, told) = c.in-Err-write_solution.ensures.solved in
-    let (short, room) = c.in-Err-write_solution.ensures.lacks in
-    let few : free_of c.args.self.now.work.pool < form_room = omega (arith, room, ap used c.solve_read-solved.ensures.as_before, (on_ok_at _ c.solve_read-solved.result c.in-Ok-solved.solved c.in-Ok-solved.is c.solve_read-solved.ensures.counted_ok).size) in
-    rw (← c.bytes_before-before.ensures) (lacking_reply c.args.self.now.work.pool c.args.self.now.table (states g.B.Breaker.state c.args.watch.now) (states g.B.Breaker.state c.solve_read-solved.new.watch) c.args.text.now c.bytes_before-before.result c.in-Ok.ranges.items c.in-Ok.ensures.split es built left c.in-Ok-solved.solved reads become h forms c.in-Err-write_solution.full c.refused.result c.refused.ensures told short few, ap (λ (x : Content). x.bytes) c.clear.ensures)
-
-pub returns-in-Ok-write_solution-clause-kept : goal.returns-in-Ok-write_solution-clause-kept
-returns-in-Ok-write_solution-clause-kept g c =
-    let mid = c.solve_read-solved.new.pool in
-    let size = size_same _ mid c.write_solution.new.work.pool c.write_solution.ensures.as_before ∙ (on_ok_at _ c.solve_read-solved.result c.in-Ok-solved.solved c.in-Ok-solved.is c.solve_read-solved.ensures.counted_ok).size in
-    kept_still c.args.self.now _ c.requires.kept c.write_solution.ensures.ready.stands size (ap forest_of (nodes_kept _ mid c.write_solution.new.work.pool c.write_solution.ensures.as_before ∙ c.solve_read-solved.ensures.as_before)) c.write_solution.ensures.ready.lists refl c.write_solution.ensures.capacity refl
-
-pub returns-in-Err-write_solution-clause-kept : goal.returns-in-Err-write_solution-clause-kept
-returns-in-Err-write_solution-clause-kept g c =
-    let mid = c.solve_read-solved.new.pool in
-    let size = size_same _ mid c.write_solution.new.work.pool c.write_solution.ensures.as_before ∙ (on_ok_at _ c.solve_read-solved.result c.in-Ok-solved.solved c.in-Ok-solved.is c.solve_read-solved.ensures.counted_ok).size in
-    kept_still c.args.self.now _ c.requires.kept c.write_solution.ensures.ready.stands size (ap forest_of (nodes_kept _ mid c.write_solution.new.work.pool c.write_solution.ensures.as_before ∙ c.solve_read-solved.ensures.as_before)) c.write_solution.ensures.ready.lists refl
-    (ap (λ (x : Content). x.capacity) c.clear.ensures ∙ c.write_solution.ensures.capacity) refl
+pub returns-in-Ok : goal.returns-in-Ok
+returns-in-Ok g c = record {
+  told = rw (← c.bytes_before-before.ensures) c.solve_placed.ensures.told;
+  interrupted = c.solve_placed.ensures.interrupted;
+  counted = c.solve_placed.ensures.counted;
+  same = c.solve_placed.ensures.same;
+  kept = c.solve_placed.ensures.kept;
+}
