@@ -6,11 +6,20 @@ use Rattle.std.specs.Prelude.{Err}
 use Rattle.calc_session.specs.declared.answers.Refusal.TheVariants as refusal
 use Rattle.calc_session.proofs.solving.solve_trees.Goals as goal
 
-pub returns-in_default-clause-refused : goal.returns-in_default-clause-refused
-returns-in_default-clause-refused g c = λ room. have_too_many_names (c.in_default.ensures.none refl) refl
+pub names_in-requires : goal.names_in-requires
+names_in-requires g c = record { stands = c.requires.stands; left = c.requires.left; right = c.requires.right; pairs = c.requires.pairs }
 
-pub returns-in_default-clause-interrupted : goal.returns-in_default-clause-interrupted
-returns-in_default-clause-interrupted g c = calm_refusal refusal.TooMany (states g.B.Breaker.state c.args.watch.now) (λ place e. cc)
+pub first_not_linear-requires : goal.first_not_linear-requires
+first_not_linear-requires g c = record { stands = c.requires.stands; left = c.requires.left; right = c.requires.right; pairs = c.requires.pairs }
+
+pub returns-in_default : goal.returns-in_default
+returns-in_default g c = record {
+  solved = tt;
+  refused = λ room. have_too_many_names (c.in_default.ensures.none refl) refl;
+  no_pool = refl;
+  calm = tt;
+  interrupted = calm_refusal refusal.TooMany (states g.B.Breaker.state c.args.watch.now) (λ place e. cc);
+}
 
 pub overflow_cast-equation : goal.overflow_cast-equation
 overflow_cast-equation g c =
@@ -22,14 +31,17 @@ overflow_add-equation g c =
     let within = found_within (forest c.args.pool.now) c.args.left.now c.args.right.now c.in-Some-first_not_linear.at c.requires.pairs c.in-Some-first_not_linear.ensures in
     omega (arith, within, c.requires.few)
 
-pub returns-in-Some-first_not_linear-clause-refused : goal.returns-in-Some-first_not_linear-clause-refused
-returns-in-Some-first_not_linear-clause-refused g c = λ room.
-    let one : suc c.in-Some-first_not_linear.at ≡ c.in-Some-first_not_linear.at + 1 = omega arith in
-    let few : length (names_listed c.in-Some.names.items) ≤ 6 = omega (arith, length-map c.in-Some.names.items (λ l. name_of l.name), c.as_slice.ensures.fits, ap length c.as_slice.ensures.value) in
-    subst (λ (k : ℕ). IsReplyToSolve room (equations_in (forest c.args.pool.now) c.args.left.now c.args.right.now) (states g.B.Breaker.state c.args.watch.now) (states g.B.Breaker.state c.args.watch.now) (refused (not_linear k))) one (are_not_linear c.in-Some.ensures.some few (sym c.in-Some-first_not_linear.ensures) refl)
-
-pub returns-in-Some-first_not_linear-clause-interrupted : goal.returns-in-Some-first_not_linear-clause-interrupted
-returns-in-Some-first_not_linear-clause-interrupted g c = calm_refusal (refusal.NotLinear (c.in-Some-first_not_linear.at + 1)) (states g.B.Breaker.state c.args.watch.now) (λ place e. cc)
+pub returns-in-Some-first_not_linear : goal.returns-in-Some-first_not_linear
+returns-in-Some-first_not_linear g c = record {
+  solved = tt;
+  refused = λ room.
+      let one : suc c.in-Some-first_not_linear.at ≡ c.in-Some-first_not_linear.at + 1 = omega arith in
+      let few : length (names_listed c.in-Some.names.items) ≤ 6 = omega (arith, length-map c.in-Some.names.items (λ l. name_of l.name), c.as_slice.ensures.fits, ap length c.as_slice.ensures.value) in
+      subst (λ (k : ℕ). IsReplyToSolve room (equations_in (forest c.args.pool.now) c.args.left.now c.args.right.now) (states g.B.Breaker.state c.args.watch.now) (states g.B.Breaker.state c.args.watch.now) (refused (not_linear k))) one (are_not_linear c.in-Some.ensures.some few (sym c.in-Some-first_not_linear.ensures) refl);
+  no_pool = refl;
+  calm = tt;
+  interrupted = calm_refusal (refusal.NotLinear (c.in-Some-first_not_linear.at + 1)) (states g.B.Breaker.state c.args.watch.now) (λ place e. cc);
+}
 
 pub solve-requires-clause-distinct : goal.solve-requires-clause-distinct
 solve-requires-clause-distinct g c =
