@@ -1,4 +1,4 @@
-use Rattle.calc_session.proofs.Shared.{rules, ◌≡◌, ◌∙◌, ◌++◌, ap, refl, sym, subst, arith, ◌*◌, states, text, IsWritable, tokens_of, Content, IsHeld, IsKeepable, name_in, plain, tree_at, forest}
+use Rattle.calc_session.proofs.Shared.{CountsRefusal, ◌≡◌, ◌∙◌, ◌++◌, ap, refl, sym, subst, arith, ◌*◌, states, text, IsWritable, tokens_of, Content, IsHeld, IsKeepable, name_in, plain, tree_at, forest}
 use Rattle.calc_session.proofs.{Shared.{given_rest, gives_as, with_answer, is_no_line, state_in, refusal_in, reason_of, IsRolledBack}, PoolLemmas.{kept_but, old_below, rolled_back}}
 use Rattle.calc_session.proofs.SessionLemmas.{answers_face, answers_refusal, answers_undefined, answers_unstorable, answers_vain, calm_refusal, face_expression, face_room, face_tree, leaves_answer}
 use Rattle.calc_session.proofs.parts.Parts.answer_text.Goals.{After-roll_back, After-roll_back-in-Refused}
@@ -8,15 +8,18 @@ use Rattle.calc_session.proofs.parts.Parts.answer_text.Goals as goal
 pub read_text-requires : goal.read_text-requires
 read_text-requires g c = let short = c.requires.text.short in omega (arith, short)
 
-pub evaluate-requires-clause-line : goal.evaluate-requires-clause-line
-evaluate-requires-clause-line g c = let (t, r) = c.in-Ok.ensures.tree in (t, (name_in c.in-Ok.store, r.line-is))
+pub evaluate-requires : goal.evaluate-requires
+evaluate-requires g c = record {
+  line = let (t, r) = c.in-Ok.ensures.tree in (t, (name_in c.in-Ok.store, r.line-is));
+  kept = record { ready = c.requires.kept.ready; held = c.requires.kept.held; room = c.requires.kept.room; served = c.requires.kept.served };
+}
 
 pub write_text-requires : goal.write_text-requires
 write_text-requires g c =
     let (t, r) = c.in-Ok.ensures.tree in
     let (u, is, keepable, gives) = c.in-Face.ensures.reply t (name_in c.in-Ok.store, r.line-is) in
     record {
-      stands = search rules;
+      stands = c.evaluate.ensures.ready.stands;
       expression = face_expression c.evaluate.new.self.work.pool (forest c.args.self.now.work.pool) c.in-Face.face c.id.result u c.evaluate.ensures.ready.stands gives c.id.ensures;
       writable = subst IsWritable (sym (face_tree c.evaluate.new.self.work.pool (forest c.args.self.now.work.pool) c.in-Face.face c.id.result u c.evaluate.ensures.ready.stands gives c.id.ensures)) keepable.writable;
       room = omega (arith, face_room c.evaluate.new.self.work.pool (forest c.args.self.now.work.pool) c.in-Face.face c.id.result u c.evaluate.ensures.ready.stands gives c.id.ensures, c.requires.kept.room, ap (λ (x : Content). x.capacity) c.evaluate.ensures.text, c.in-Face.ensures.counted.size, ap (λ (x : Content). length x.bytes) c.evaluate.ensures.text, ap length c.requires.empty);
@@ -34,21 +37,23 @@ keep-requires-clause-last g c =
     let (u, is, keepable, gives) = c.in-Face.ensures.reply t (name_in c.in-Ok.store, r.line-is) in
     rw (c.evaluate.ensures.table) (gives_as gives (sym (given_rest gives)) (λ x e. subst (IsKeepable (name_in c.in-Ok.store) c.args.self.now.table) (sym e) keepable))
 
-pub returns-in-Err-clause-answers : goal.returns-in-Err-clause-answers
-returns-in-Err-clause-answers g c =
-    answers_vain g.R.Reducer.room g.R.Reducer.bits (states g.B.Breaker.state c.args.watch.now) (states g.B.Breaker.state c.args.watch.now) c.args.line.now (state_in c.args.self.now) c.in-Err.refusal c.args.self.now.text.bytes (is_no_line c.requires.text c.in-Err.ensures.refused) refl c.requires.empty
+pub returns-in-Err : goal.returns-in-Err
+returns-in-Err g c = record {
+  answers =    answers_vain g.R.Reducer.room g.R.Reducer.bits (states g.B.Breaker.state c.args.watch.now) (states g.B.Breaker.state c.args.watch.now) c.args.line.now (state_in c.args.self.now) c.in-Err.refusal c.args.self.now.text.bytes (is_no_line c.requires.text c.in-Err.ensures.refused) refl c.requires.empty;
+  interrupted = calm_refusal c.in-Err.refusal (states g.B.Breaker.state c.args.watch.now) c.in-Err.ensures.no_breaker;
+  counted = subst (λ lack. CountsRefusal lack c.args.self.now.work.pool c.args.self.now.work.pool) (sym c.in-Err.ensures.no_pool) (record { size = refl; refusals = refl; last_refused = refl });
+  kept = record { ready = c.requires.kept.ready; held = c.requires.kept.held; room = c.requires.kept.room; served = c.requires.kept.served };
+}
 
-pub returns-in-Err-clause-interrupted : goal.returns-in-Err-clause-interrupted
-returns-in-Err-clause-interrupted g c = calm_refusal c.in-Err.refusal (states g.B.Breaker.state c.args.watch.now) c.in-Err.ensures.no_breaker
-
-pub returns-in-Err-check_store-clause-answers : goal.returns-in-Err-check_store-clause-answers
-returns-in-Err-check_store-clause-answers g c =
-    let (t, r) = c.in-Ok.ensures.tree in
-    answers_unstorable g.R.Reducer.room g.R.Reducer.bits (states g.B.Breaker.state c.args.watch.now) (states g.B.Breaker.state c.args.watch.now) c.args.line.now (state_in c.args.self.now) (tokens_of c.read_text.new.parser) (name_in c.in-Ok.store) t c.in-Err-check_store.refusal c.args.self.now.text.bytes
-    (record { text = c.requires.text; reads = r }) c.in-Err-check_store.ensures.refused refl c.requires.empty
-
-pub returns-in-Err-check_store-clause-interrupted : goal.returns-in-Err-check_store-clause-interrupted
-returns-in-Err-check_store-clause-interrupted g c = calm_refusal c.in-Err-check_store.refusal (states g.B.Breaker.state c.args.watch.now) c.in-Err-check_store.ensures.no_breaker
+pub returns-in-Err-check_store : goal.returns-in-Err-check_store
+returns-in-Err-check_store g c = record {
+  answers =    let (t, r) = c.in-Ok.ensures.tree in
+      answers_unstorable g.R.Reducer.room g.R.Reducer.bits (states g.B.Breaker.state c.args.watch.now) (states g.B.Breaker.state c.args.watch.now) c.args.line.now (state_in c.args.self.now) (tokens_of c.read_text.new.parser) (name_in c.in-Ok.store) t c.in-Err-check_store.refusal c.args.self.now.text.bytes
+      (record { text = c.requires.text; reads = r }) c.in-Err-check_store.ensures.refused refl c.requires.empty;
+  interrupted = calm_refusal c.in-Err-check_store.refusal (states g.B.Breaker.state c.args.watch.now) c.in-Err-check_store.ensures.no_breaker;
+  counted = subst (λ lack. CountsRefusal lack c.args.self.now.work.pool c.args.self.now.work.pool) (sym c.in-Err-check_store.ensures.no_pool) (record { size = refl; refusals = refl; last_refused = refl });
+  kept = record { ready = c.requires.kept.ready; held = c.requires.kept.held; room = c.requires.kept.room; served = c.requires.kept.served };
+}
 
 pub returns-in-Face-clause-answers : goal.returns-in-Face-clause-answers
 returns-in-Face-clause-answers g c =
@@ -75,8 +80,11 @@ returns-in-Face-clause-kept g c =
       served = ap (λ d. d.pool_size) c.evaluate.ensures.drafter ∙ c.requires.kept.served ∙ sym size;
     }
 
-pub roll_back-requires-clause-below : goal.roll_back-requires-clause-below
-roll_back-requires-clause-below g c = (forest c.args.self.now.work.pool, old_below (c.open_mark-mark.ensures.trees c.requires.kept.ready.stands) c.evaluate.ensures.front)
+pub roll_back-requires : goal.roll_back-requires
+roll_back-requires g c = record {
+  below = (forest c.args.self.now.work.pool, old_below (c.open_mark-mark.ensures.trees c.requires.kept.ready.stands) c.evaluate.ensures.front);
+  stands = c.evaluate.ensures.ready.stands;
+}
 
 undone : (g : _) (c : After-roll_back g) → IsRolledBack None c.args.self.now.work.pool c.roll_back.new.pool
 undone g c =
@@ -100,8 +108,11 @@ returns-in-Undefined-clause-kept g c =
     kept_but None c.args.self.now _ c.requires.kept (record { stands = c.roll_back.ensures.stands; lists = omega (arith, c.evaluate.ensures.ready.lists, c.roll_back.ensures.kept.size) }) back.as_before c.evaluate.ensures.table
     (c.write_undef.ensures.capacity ∙ ap (λ (x : Content). x.capacity) c.evaluate.ensures.text) (ap (λ d. d.pool_size) c.evaluate.ensures.drafter)
 
-pub roll_back-requires-in-Refused-clause-below : goal.roll_back-requires-in-Refused-clause-below
-roll_back-requires-in-Refused-clause-below g c = (forest c.args.self.now.work.pool, old_below (c.open_mark-mark.ensures.trees c.requires.kept.ready.stands) c.evaluate.ensures.front)
+pub roll_back-requires-in-Refused : goal.roll_back-requires-in-Refused
+roll_back-requires-in-Refused g c = record {
+  below = (forest c.args.self.now.work.pool, old_below (c.open_mark-mark.ensures.trees c.requires.kept.ready.stands) c.evaluate.ensures.front);
+  stands = c.evaluate.ensures.ready.stands;
+}
 
 refused_back : (g : _) (c : After-roll_back-in-Refused g) → IsRolledBack (refusal_in (reason_of c.in-Refused.refusal)) c.args.self.now.work.pool c.roll_back-in-Refused.new.pool
 refused_back g c =
