@@ -59,3 +59,7 @@ refusals_are r s e = cc
 
 pub refusal_uninterrupted : (r : Refusal) → ((place : ℕ) → r ≡ refusal.Interrupted place → ⊥) → (place : ℕ) → answer.Refused r ≡ answer.Refused (refusal.Interrupted place) → ⊥
 refusal_uninterrupted r h place e = h place (refusals_are r (refusal.Interrupted place) e)
+
+-- an answer passes on a refusal
+pub told_refusal : (r : Refusal) (P : ℕ → Type 0) → ((place : ℕ) → (r ≡ refusal.Interrupted place) ↔ P place) → (place : ℕ) → (answer.Refused r ≡ answer.Refused (refusal.Interrupted place)) ↔ P place
+told_refusal r P h place = (λ e. (h place).0 (refusals_are r (refusal.Interrupted place) e), λ p. ap answer.Refused ((h place).1 p))

@@ -1,6 +1,6 @@
 -- Lemmas on pools that are rolled back.
 use Rattle.calc_session.proofs.Shared.{arith, ◌≡◌, [], sym, subst, IsHeld, Table, Full, Forest, bytes_in, forest_of, KeepsFront, Stands, forest, KeepsRefusals, CountsRefusal, IsKept, IsReady, after}
-use Rattle.calc_session.proofs.Shared.{IsRolledBack, Parts, IsBelow, all_below, still_below}
+use Rattle.calc_session.proofs.Shared.{IsRolledBack, state_of, Parts, IsBelow, all_below, still_below}
 use Rattle.std.proofs.Common.{◌≤◌, ℕ, Option}
 use Rattle.node_pool.specs.State.{State}
 
@@ -15,6 +15,9 @@ old_below e k = still_below (all_below e) k tt
 -- the old trees alone are left
 pub rolled_back : (refusal : Option Full) (old mid new : State) → Stands old → Stands new → CountsRefusal refusal old mid → KeepsRefusals mid new → forest new ≡ forest old → IsRolledBack refusal old new
 rolled_back refusal old mid new h k r l e = grind arith
+
+pub same_state : (old new : State) (t : Table) → new.size ≡ old.size → new.nodes ≡ old.nodes → state_of new t ≡ state_of old t
+same_state old new t size nodes = λ i. record { size = size i; nodes = nodes i; table = t }
 
 -- ---- parts whose pool was rolled back
 

@@ -1,5 +1,5 @@
 use Rattle.std.proofs.Common.{rules, ◌∙◌, ◌≤◌, [], map, sym, ap, arith}
-use Rattle.calc_session.proofs.Shared.{err_from_is_err_and, front_after, keeps_after, refuses_after, name_of, size_of_payload, value_of, sizes, added_begin, added_few, adds_free, entries_of, free_of, form_tree, multiples, summands}
+use Rattle.calc_session.proofs.Shared.{err_from_is_err_and, front_after, refuses_after, name_of, size_of_payload, value_of, sizes, added_begin, added_few, adds_free, entries_of, free_of, form_tree, multiples, summands}
 use Rattle.calc_terms.specs.Payload.{bare}
 use Rattle.calc_session.proofs.PlacingLemmas.{constant_first, form_many, form_none, front_node, front_of_all, nothing_is, placed_as, summands_sizes, zero_size}
 use Rattle.calc_terms.specs.declared.kind.Kind.TheVariants as kind

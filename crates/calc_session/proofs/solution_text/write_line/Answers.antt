@@ -1,7 +1,6 @@
-use Rattle.std.proofs.Common.{◌≡◌, ◌≤◌, ◌+◌, ◌∙◌, List, ℕ, length, map, refl, ap, subst, arith, codes}
-use Rattle.calc_session.proofs.Shared.{Content, Form, IsSmallForm, entries_of, extended, face, form_told, form_tree, length-append, line_text, name_of, text, value_of, Line}
+use Rattle.std.proofs.Common.{◌≡◌, ◌≤◌, ◌∙◌, List, ℕ, length, map, refl, ap, subst, arith, codes}
+use Rattle.calc_session.proofs.Shared.{Content, IsSmallForm, entries_of, extended, face, form_told, form_tree, length-append, name_of, text, value_of, Line}
 use Rattle.calc_session.proofs.SolutionLemmas.{behind_two, behind_words, short_behind}
-use Rattle.std.specs.Prelude.{OnOk}
 use Rattle.calc_session.proofs.solution_text.write_line.Goals as goal
 
 pub returns-in-Free : goal.returns-in-Free

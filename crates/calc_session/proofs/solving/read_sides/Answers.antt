@@ -1,4 +1,4 @@
-use Rattle.calc_session.proofs.Shared.{refl, subst, arith, AllZip, Equation, EquationRange, ReadsEquation, err_from_is_err_and, map, pieces_at, reason_of, at_left, at_right}
+use Rattle.calc_session.proofs.Shared.{EquationRange, err_from_is_err_and, reason_of, at_left, at_right}
 use Rattle.calc_session.proofs.RangeLemmas.{read_more, unread_reply}
 use Rattle.calc_session.proofs.solving.read_sides.Goals as goal
 

@@ -3,7 +3,7 @@ use Rattle.calc_session.proofs.Shared.{without_root, forest, KeepsRefusals, keep
 use Rattle.calc_session.proofs.{Shared.{reply_of, IsReplyToDerivative, LacksDerivative, has_none, refusal_in, reported, expression, seen, Refused}, CountingLemmas.{none_known, none_short}}
 use Rattle.calc_session.proofs.{DerivingLemmas.{comes_reduced, front_beside, over}, EvaluationLemmas.{calm_refused, front_in_place, full_interrupts_none, keeps_then, none_tripped, passed_on, shown_answer, shown_calm, size_kept}}
 use Rattle.calc_session.proofs.differentiating.DerivativeCalculation.run.Goals.{After-release, After-refused}
-use Rattle.std.proofs.Common.{◌+◌, ◌≤◌, ℕ, None, Err}
+use Rattle.std.proofs.Common.{◌+◌, ◌≤◌, None, Err}
 use Rattle.beautify.proofs.FaceTrees.{other_gone as beside_released}
 use Rattle.node_pool.specs.State.{State}
 use Rattle.calc_session.specs.Deriving.{lacks_bytes}

@@ -1,6 +1,6 @@
-use Rattle.std.proofs.Common.{◌≡◌, ◌∙◌, ◌+◌, ℕ, Err, Some, true, false, refl, sym, ap, subst}
+use Rattle.std.proofs.Common.{◌≡◌, ◌∙◌, ◌+◌, Err, true, false, refl, sym, ap, subst}
 use Rattle.calc_session.proofs.Shared.{TripsRose, arith, inl, front_same, keeps_after, refuses_after, states, size, is_polynomial, free_of, Handle, plain, tree_of, tree_at, forest, given_handed, given_root, expression_root, plain_root, Refusal, reply_of}
-use Rattle.calc_session.proofs.{Shared.{IsReplyToExpansion, is_no_polynomial, reported, reason_of, refusal_in}, DerivingLemmas.{over}, EvaluationLemmas.{calm_refused, face_calm, fault_counted, fault_passed, front_in_place, full_interrupts_none, keeps_then, none_tripped_then, other_refusal, passed_on, size_kept}, ExpansionLemmas.{comes_expanded}}
+use Rattle.calc_session.proofs.{Shared.{IsReplyToExpansion, is_no_polynomial, reported, reason_of, refusal_in}, DerivingLemmas.{over}, EvaluationLemmas.{calm_refused, face_calm, fault_counted, fault_passed, front_in_place, full_interrupts_none, none_tripped_then, other_refusal, passed_on, size_kept}, ExpansionLemmas.{comes_expanded}}
 use Rattle.calc_session.proofs.{ExpansionLemmas.{expansion_defined, expansion_reduced, lacks_face, unexpanded_reply}, expanding.ExpansionCalculation.run.Goals.{After-id, After-expand}}
 use Rattle.calc_session.proofs.{CountingLemmas.{none_known}, Shared.{CountsRefusal, IsCountedBut}}
 use Rattle.calc_session.specs.Expanding.{lacks_bytes}

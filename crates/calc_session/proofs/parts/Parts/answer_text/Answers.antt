@@ -39,7 +39,7 @@ keep-requires-clause-last g c =
 
 pub returns-in-Err : goal.returns-in-Err
 returns-in-Err g c = record {
-  answers =    answers_vain g.R.Reducer.room g.R.Reducer.bits (states g.B.Breaker.state c.args.watch.now) (states g.B.Breaker.state c.args.watch.now) c.args.line.now (state_in c.args.self.now) c.in-Err.refusal c.args.self.now.text.bytes (is_no_line c.requires.text c.in-Err.ensures.refused) refl c.requires.empty;
+  answers = answers_vain g.R.Reducer.room g.R.Reducer.bits (states g.B.Breaker.state c.args.watch.now) (states g.B.Breaker.state c.args.watch.now) c.args.line.now (state_in c.args.self.now) c.in-Err.refusal c.args.self.now.text.bytes (is_no_line c.requires.text c.in-Err.ensures.refused) refl c.requires.empty;
   interrupted = calm_refusal c.in-Err.refusal (states g.B.Breaker.state c.args.watch.now) c.in-Err.ensures.no_breaker;
   counted = subst (λ lack. CountsRefusal lack c.args.self.now.work.pool c.args.self.now.work.pool) (sym c.in-Err.ensures.no_pool) (record { size = refl; refusals = refl; last_refused = refl });
   kept = record { ready = c.requires.kept.ready; held = c.requires.kept.held; room = c.requires.kept.room; served = c.requires.kept.served };
@@ -47,7 +47,7 @@ returns-in-Err g c = record {
 
 pub returns-in-Err-check_store : goal.returns-in-Err-check_store
 returns-in-Err-check_store g c = record {
-  answers =    let (t, r) = c.in-Ok.ensures.tree in
+  answers = let (t, r) = c.in-Ok.ensures.tree in
       answers_unstorable g.R.Reducer.room g.R.Reducer.bits (states g.B.Breaker.state c.args.watch.now) (states g.B.Breaker.state c.args.watch.now) c.args.line.now (state_in c.args.self.now) (tokens_of c.read_text.new.parser) (name_in c.in-Ok.store) t c.in-Err-check_store.refusal c.args.self.now.text.bytes
       (record { text = c.requires.text; reads = r }) c.in-Err-check_store.ensures.refused refl c.requires.empty;
   interrupted = calm_refusal c.in-Err-check_store.refusal (states g.B.Breaker.state c.args.watch.now) c.in-Err-check_store.ensures.no_breaker;
