@@ -113,10 +113,14 @@ impl Held {
         ensures { IfOk result (IsOpenedUnder (state_of first) size) }
     {
         let count = HeldBreaker::Count(CountBreaker::new());
+        let watch = Watch::new(vec![in alloc; first, count]?);
+        let notice = Notice::open(alloc)?;
+
+        // The session is opened last, so that no failure has to drop it.
         Ok(Held {
             session: Session::open(alloc, size)?,
-            watch: Watch::new(vec![in alloc; first, count]?),
-            notice: Notice::open(alloc)?,
+            watch,
+            notice,
             stopper,
         })
     }
