@@ -1,6 +1,7 @@
 mod boxed_breakers;
 mod edges;
 mod fixtures;
+mod held;
 mod pictures;
 mod pool_bytes;
 mod product_steps;

@@ -13,6 +13,3 @@ pub use answering::answers;
 pub use held::{Drawn, Held, OpenFault, PoolUse, is_pool_size};
 pub use held_breaker::HeldBreaker;
 pub use stopper::{StopBreaker, Stopper, hand_over};
-
-#[cfg(test)]
-mod tests;
