@@ -1,7 +1,7 @@
 //! Breakers of three kinds, boxed in one list, that stop the lines of a session and of a run.
 ghost use Rattle.std.specs.Prelude.{◌≡◌, vec_len, IfOk};
 
-use super::fixtures::{answered, close, has_text, opened, stopped_by};
+use super::fixtures::{answered, close, has_text, number, opened, stopped_by};
 use crate::tests::scripts::is_run;
 use breakers::{Breaker, CountBreaker, NeverBreaker, SilentBreaker, Watch};
 use calc_session::Session;
@@ -67,7 +67,7 @@ fn is_answered<B: Breaker>(
 ) -> bool {
     let (text, place) = answer.split_once(" by ").unwrap_or((answer, ""));
     let by = stopped_by(answered(session, watch, line));
-    by == place.parse::<u32>().ok() && has_text(session, text)
+    by == number(place) && has_text(session, text)
 }
 
 /// The place of the first row whose line is not answered so.

@@ -180,13 +180,15 @@ fn first_other(alloc: Global, table: &str) -> Result<Option<&str>, AllocError> {
 #[test]
 fn runs_end_as_their_edges_let_them(rt: HostRuntime) -> Result<(), Fail> {
     for table in [ENDS, LENGTHS, READS, WRITES, ROOMS, ASKED] {
-        assert_eq!(rt; first_other(rt.alloc(), table)?, None);
+        let other = first_other(rt.alloc(), table)?;
+        assert_eq!(rt; other, None);
     }
     Ok(())
 }
 
 #[test]
 fn a_session_ends_at_its_limit(rt: HostRuntime) -> Result<(), Fail> {
-    assert_eq!(rt; first_other(rt.alloc(), LIMIT)?, None);
+    let other = first_other(rt.alloc(), LIMIT)?;
+    assert_eq!(rt; other, None);
     Ok(())
 }

@@ -22,6 +22,11 @@ use tree_handles::{Handle, kind, tree_bytes};
 /// The bytes of a pool in which there is room enough.
 pub const SIZE: u32 = 16_384;
 
+/// The number that a text is.
+pub fn number(text: &str) -> Option<u32> {
+    text.parse().ok()
+}
+
 /// A watch over one breaker, which trips after so many polls.
 pub fn armed(alloc: Global, polls: u64) -> Result<Watch<CountBreaker>, AllocError> {
     let mut breaker = CountBreaker::new();

@@ -146,6 +146,7 @@ fn first_other(alloc: Global, table: &str) -> Result<Option<usize>, AllocError> 
 
 #[test]
 fn trees_are_drawn(rt: HostRuntime) -> Result<(), Fail> {
-    assert_eq!(rt; first_other(rt.alloc(), FACES)?, None);
+    let other = first_other(rt.alloc(), FACES)?;
+    assert_eq!(rt; other, None);
     Ok(())
 }

@@ -94,8 +94,8 @@ fn has_bytes<R: Reducer>(
 
 /// Whether a pool of its own has these bytes once a line's tree has been reduced in it.
 fn is_laid(alloc: Global, line: &str, text: &str) -> Result<bool, AllocError> {
-    let mut pool = open_pool(alloc, SIZE)?;
     let mut watch = armed(alloc, u64::MAX)?;
+    let mut pool = open_pool(alloc, SIZE)?;
     has_bytes(alloc, &DeepReducer, &mut pool, line, text, &mut watch)
 }
 
@@ -112,6 +112,7 @@ fn first_other(alloc: Global, table: &str) -> Result<Option<usize>, AllocError> 
 
 #[test]
 fn pools_have_their_bytes(rt: HostRuntime) -> Result<(), Fail> {
-    assert_eq!(rt; first_other(rt.alloc(), BYTES)?, None);
+    let other = first_other(rt.alloc(), BYTES)?;
+    assert_eq!(rt; other, None);
     Ok(())
 }

@@ -17,7 +17,8 @@ const WRITTEN: [&str; 8] = [
 #[test]
 fn sessions_are_written(rt: HostRuntime) -> Result<(), Fail> {
     for table in WRITTEN {
-        assert_eq!(rt; first_other(rt.alloc(), table, 4096)?, None, "{table}");
+        let other = first_other(rt.alloc(), table, 4096)?;
+        assert_eq!(rt; other, None, "{table}");
     }
     Ok(())
 }
@@ -25,13 +26,15 @@ fn sessions_are_written(rt: HostRuntime) -> Result<(), Fail> {
 #[test]
 fn sessions_are_written_in_any_pieces(rt: HostRuntime) -> Result<(), Fail> {
     for piece in [1, 3] {
-        assert_eq!(rt; first_other(rt.alloc(), ROWS, piece)?, None);
+        let other = first_other(rt.alloc(), ROWS, piece)?;
+        assert_eq!(rt; other, None);
     }
     Ok(())
 }
 
 #[test]
 fn generated_sessions_are_summed_up(rt: HostRuntime) -> Result<(), Fail> {
-    assert_eq!(rt; first_other(rt.alloc(), GENERATED, 4096)?, None);
+    let other = first_other(rt.alloc(), GENERATED, 4096)?;
+    assert_eq!(rt; other, None);
     Ok(())
 }

@@ -66,7 +66,7 @@ const CHILDREN: [Shape<'static>; 11] = [
 ];
 
 /// Where such a tree stands.
-#[derive(Clone, Copy, Debug)]
+#[derive(Clone, Copy)]
 enum Around {
     First(Pair),
     Later(Pair),

@@ -7,6 +7,7 @@ use table::SAMPLES;
 
 #[test]
 fn samples_are_answered(rt: HostRuntime) -> Result<(), Fail> {
-    assert_eq!(rt; first_other(rt.alloc(), SAMPLES, 4096)?, None);
+    let other = first_other(rt.alloc(), SAMPLES, 4096)?;
+    assert_eq!(rt; other, None);
     Ok(())
 }

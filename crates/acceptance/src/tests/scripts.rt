@@ -90,6 +90,19 @@ fn two_breakers(alloc: Global) -> Result<Vec<CountBreaker>, AllocError>
     Ok(breakers)
 }
 
+/// A source of these bytes and a sink, which behave so.
+fn streams(
+    alloc: Global,
+    edges: Edges,
+    input: Vec<u8>,
+) -> Result<(MemSource, MemSink), AllocError> {
+    let piece = edges.piece.max(1);
+    let failing_reads = [edges.failing_read].to_vec(alloc)?;
+    let failing_writes = [edges.failing_write].to_vec(alloc)?;
+    let sink = MemSink::new(alloc, edges.room, piece, failing_writes)?;
+    Ok((MemSource::new(input, piece, failing_reads), sink))
+}
+
 /// Whether a run under these breakers ends as it is to, and writes what it is to write and nothing else.
 fn ends_under<B: Breaker>(
     alloc: Global,
@@ -98,11 +111,7 @@ fn ends_under<B: Breaker>(
 ) -> Result<bool, AllocError>
     requires few { vec_len breakers < 2 ^ 32 }
 {
-    let edges = script.edges;
-    let piece = edges.piece.max(1);
-    let mut source = MemSource::new(script.input, piece, [edges.failing_read].to_vec(alloc)?);
-    let failing = [edges.failing_write].to_vec(alloc)?;
-    let mut sink = MemSink::new(alloc, edges.room, piece, failing)?;
+    let (mut source, mut sink) = streams(alloc, script.edges, script.input)?;
     let words = script.words.as_slice();
     let status = run(alloc, words, &mut source, &mut sink, breakers);
     Ok(status == script.status && sink.bytes() == script.output.as_slice())

@@ -60,6 +60,7 @@ fn first_other(alloc: Global, table: &str) -> Result<Option<usize>, AllocError> 
 
 #[test]
 fn sessions_are_answered(rt: HostRuntime) -> Result<(), Fail> {
-    assert_eq!(rt; first_other(rt.alloc(), SESSIONS)?, None);
+    let other = first_other(rt.alloc(), SESSIONS)?;
+    assert_eq!(rt; other, None);
     Ok(())
 }

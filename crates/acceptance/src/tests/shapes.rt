@@ -70,6 +70,7 @@ fn first_other(alloc: Global, table: &str) -> Result<Option<usize>, AllocError> 
 
 #[test]
 fn lines_have_their_shapes(rt: HostRuntime) -> Result<(), Fail> {
-    assert_eq!(rt; first_other(rt.alloc(), SHAPES)?, None);
+    let other = first_other(rt.alloc(), SHAPES)?;
+    assert_eq!(rt; other, None);
     Ok(())
 }

@@ -2,7 +2,7 @@
 //! line, a sum, a product, a power or a root, and 16 for each whole number.
 ghost use Rattle.tree_handles.specs.Standing.{Stands};
 
-use super::fixtures::{SIZE, answer, armed, read};
+use super::fixtures::{SIZE, answer, armed, number, read};
 use breakers::{CountBreaker, Watch};
 use deep_reduce::DeepReducer;
 use node_pool::Pool;
@@ -57,19 +57,20 @@ fn bytes_of_face<R: Reducer>(
     }
 }
 
-/// Whether the face of a line's answer takes so many bytes.
-fn takes(alloc: Global, line: &str, bytes: &str) -> Result<bool, AllocError> {
-    let mut pool = open_pool(alloc, SIZE)?;
+/// The same in a pool of its own.
+fn bytes_taken(alloc: Global, line: &str) -> Result<Option<u32>, AllocError> {
     let mut watch = armed(alloc, u64::MAX)?;
-    let found = bytes_of_face(alloc, &DeepReducer, &mut pool, line.as_bytes(), &mut watch);
-    Ok(found.is_some() && found == bytes.parse().ok())
+    let mut pool = open_pool(alloc, SIZE)?;
+    let taken = bytes_of_face(alloc, &DeepReducer, &mut pool, line.as_bytes(), &mut watch);
+    Ok(taken)
 }
 
 /// The place of the first row whose face takes other bytes.
 fn first_other(alloc: Global, table: &str) -> Result<Option<usize>, AllocError> {
     for (place, row) in table.lines().enumerate() {
         let (line, bytes) = row.split_once(" = ").unwrap_or((row, ""));
-        if !takes(alloc, line, bytes)? {
+        let taken = bytes_taken(alloc, line)?;
+        if taken.is_none() || taken != number(bytes) {
             return Ok(Some(place));
         }
     }

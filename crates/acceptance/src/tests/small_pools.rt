@@ -4,7 +4,7 @@ mod tables;
 ghost use Rattle.std.specs.Prelude.{◌≤◌};
 ghost use Rattle.node_pool.specs.State.{IsPoolSize};
 
-use super::fixtures::{answered, close, has_text, opened, pool_bytes};
+use super::fixtures::{answered, close, has_text, number, opened, pool_bytes};
 use breakers::{NeverBreaker, Watch};
 use calc_session::{LineAnswer, Refusal, Session};
 use node_pool::Full;
@@ -13,7 +13,7 @@ use std::test::Fail;
 use tables::{CALCULATED, JOINED, REDUCED, ROOMS, SHOWN};
 
 /// What became of a line in a pool.
-#[derive(Clone, Copy, Debug, PartialEq, Eq)]
+#[derive(Clone, Copy, PartialEq, Eq)]
 enum Outcome {
     /// It has the answer that is wanted.
     Answered,
@@ -106,7 +106,8 @@ fn small_pools_are_full(rt: HostRuntime) -> Result<(), Fail> {
 
 #[test]
 fn a_sum_that_grows_where_it_is_reduced_is_full(rt: HostRuntime) -> Result<(), Fail> {
-    assert_eq!(rt; outcome_of(rt.alloc(), "-a-b", "-a-b", 88)?, Outcome::Full);
+    let found = outcome_of(rt.alloc(), "-a-b", "-a-b", 88)?;
+    assert!(rt; found == Outcome::Full);
     Ok(())
 }
 
@@ -130,13 +131,9 @@ fn is_answered_in_its_room(
 /// The place of the first row whose line is not answered in its room.
 fn first_refused(alloc: Global, table: &str) -> Result<Option<usize>, AllocError> {
     for (place, row) in table.lines().enumerate() {
-        let Some((line, rest)) = row.split_once(" = ") else {
-            return Ok(Some(place));
-        };
-        let Some((room, text)) = rest.split_once(" = ") else {
-            return Ok(Some(place));
-        };
-        let room = room.parse::<u32>().unwrap_or(0);
+        let (line, rest) = row.split_once(" = ").unwrap_or((row, ""));
+        let (room, text) = rest.split_once(" = ").unwrap_or((rest, ""));
+        let room = number(room).unwrap_or(0);
         if room < 64 || room > 524_280 || room % 8 != 0 {
             return Ok(Some(place));
         }
@@ -149,6 +146,7 @@ fn first_refused(alloc: Global, table: &str) -> Result<Option<usize>, AllocError
 
 #[test]
 fn lines_are_answered_in_their_rooms(rt: HostRuntime) -> Result<(), Fail> {
-    assert_eq!(rt; first_refused(rt.alloc(), ROOMS)?, None);
+    let other = first_refused(rt.alloc(), ROOMS)?;
+    assert_eq!(rt; other, None);
     Ok(())
 }

@@ -1,7 +1,7 @@
 //! Lines tried one by one, each in a pool of its own.
 ghost use Rattle.tree_handles.specs.Standing.{Stands};
 
-use crate::tests::fixtures::{SIZE, answer, armed, is_tree_of, read};
+use crate::tests::fixtures::{SIZE, answer, armed, is_tree_of, number, read};
 use breakers::{CountBreaker, Interrupted, Watch};
 use deep_reduce::DeepReducer;
 use node_pool::Pool;
@@ -10,7 +10,7 @@ use std::alloc::{AllocError, Global};
 use tree_handles::{open_pool, tree_nodes};
 
 /// What became of a line.
-#[derive(Clone, Copy, Debug, PartialEq, Eq)]
+#[derive(Clone, Copy, PartialEq, Eq)]
 pub enum Outcome {
     /// It is no line, or one of the two was refused where it was built.
     Unread,
@@ -147,8 +147,8 @@ fn overflows_at(alloc: Global, line: &str, node: u64) -> Result<bool, AllocError
 pub fn first_other_node(alloc: Global, table: &str) -> Result<Option<usize>, AllocError> {
     for (place, row) in table.lines().enumerate() {
         let (line, node) = sides(row);
-        let node = node.parse::<u64>().unwrap_or(0);
-        if !overflows_at(alloc, line, node)? {
+        let node = number(node).unwrap_or(0);
+        if !overflows_at(alloc, line, u64::from(node))? {
             return Ok(Some(place));
         }
     }
