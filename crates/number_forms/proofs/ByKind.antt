@@ -1,6 +1,6 @@
 -- What the kind of a root and the number of its children tell of a tree.
-use Rattle.number_forms.proofs.Shared.{◌≡◌, ℕ, sym, ap, ◌∙◌, true, arith, Fraction, Tree, num, add, mult, root, none, more, count, root_kind, is_mult, classes, value, is_number, IsSumOf, Same-refl}
-use Rattle.number_forms.proofs.{Shared.{nth, children_of, plain, IsExpression, Forest, arity, kids, tree_at, kids_of, children_of-plain, count-plains, count_terms}, Shaped.{added_number}}
+use Rattle.number_forms.proofs.Shared.{◌≡◌, ap, ◌∙◌, true, arith, Fraction, Tree, num, add, mult, root, none, more, count, root_kind, is_mult, classes, value, is_number, IsSumOf, Same-refl}
+use Rattle.number_forms.proofs.{Shared.{nth, children_of, count_terms}, Shaped.{added_number}}
 use Rattle.calc_terms.specs.declared.kind.Kind.TheVariants as kind
 
 -- ---- by kind

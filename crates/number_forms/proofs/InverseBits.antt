@@ -1,6 +1,6 @@
 -- How large the inverse of a Number is.
-use Rattle.number_forms.proofs.Shared.{inverse_not_zero, arith, ◌≡◌, ◌≢◌, [], ◌∷◌, true, sym, ap, ◌∙◌, subst, Rises, is_number, value, Term, Surd, inverse_times_itself, factor_not_zero, term_not_zero}
-use Rattle.number_forms.proofs.Shared.{AreProper, value_proper, value_rises, number_words, times_comm, Fraction, zero_fraction, inverse, Tree, none, more, one_is, zero_test, whole_numerator}
+use Rattle.number_forms.proofs.Shared.{inverse_not_zero, arith, ◌≡◌, ◌≢◌, [], ◌∷◌, true, sym, ap, ◌∙◌, subst, Rises, is_number, value, Term, Surd, term_not_zero}
+use Rattle.number_forms.proofs.Shared.{AreProper, value_proper, value_rises, number_words, zero_fraction, Tree, none, more, one_is, zero_test, whole_numerator}
 use Rattle.number_forms.proofs.Shared.{inverse_trees, IsInverseOf, term_tree, inverse_of, first_of_inverse, second_of_inverse, IsNoLargerThanInverse, one_no_larger, two_no_larger}
 use Rattle.calc_algebra.specs.Numbers.{term_of}
 

@@ -22,6 +22,7 @@ pub mod SquareFreeSums
 pub mod Overflows
 pub mod Placings
 pub mod Refusals
+pub mod Safety
 pub mod Exchanged
 pub mod Rooms
 pub mod Over

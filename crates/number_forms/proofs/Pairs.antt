@@ -1,7 +1,7 @@
 -- Two trees that were made one after the other.
 use Rattle.number_forms.proofs.Shared.{◌≡◌, ℕ, [], ◌∷◌, more, none, eqb, true, false, ap, ◌∙◌, Fraction, is_number, is_term, Tree, num, number_test, term_words, other_plain, plain, Forest, IsHanded}
 use Rattle.number_forms.proofs.Shared.{Gives, root_tree, without_root, given_handed, given_root, given_told, given_other, given_apart, given_rest, given_without, eqb-sym, front_after, front_after_two}
-use Rattle.number_forms.proofs.{Shared.{front_same, behind_new, KeepsFront, IsNumberOf, Surd, IfOk, Result}, TermTrees.{if_given}, Shaped.{term_number}}
+use Rattle.number_forms.proofs.{Shared.{front_same, behind_new, KeepsFront, IsNumberOf, Surd, IfOk, Result}, TermTrees.{if_given}}
 
 pub first_handed : {f g h : Forest} {a b : ℕ} {P Q : Tree → Type 0} → Gives f g a P → Gives g h b Q → IsHanded a h
 first_handed x y = given_other y (given_handed x)

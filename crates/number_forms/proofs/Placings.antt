@@ -3,8 +3,8 @@ use Rattle.tree_handles.proofs.SmallLaws.{grown_free as free_before}
 use Rattle.calc_terms.proofs.FractionFacts.{one_test as not_one_test}
 use Rattle.number_forms.proofs.Shared.{◌≡◌, ◌≢◌, ◌↔◌, ℕ, ◌+◌, ◌-◌, ◌==◌, ◌<◌, ◌≤◌, true, false, pos, List, [], ◌∷◌, ◌++◌, Result, Ok, Err, refl, sym, ap, ◌∙◌, subst, arith, IsOk, IsErr, OnOk, IfOk}
 use Rattle.number_forms.proofs.Shared.{IfErr, if◌then◌else◌, eq-eqb, lt-leb, Fraction, lowest, one_fraction, is_one_fraction, whole_fraction, gcd, Tree, num, add, mult, power, root, neg, sub, div}
-use Rattle.number_forms.proofs.Shared.{Trees, more, none, size, sizes, root_size, one_is, value, classes, Term, State, free_of, Full, term_tree, building, node_sizes, nodes_sizes, taking}
-use Rattle.number_forms.proofs.Shared.{LacksLongForm, Forest, tree_of, Gives, root_tree, plain, last_tree, Stands, forest, KeepsRefusals, IsRefused, given_told, given_free}
+use Rattle.number_forms.proofs.Shared.{Trees, more, none, size, sizes, root_size, value, classes, Term, State, free_of, Full, term_tree, building, node_sizes, nodes_sizes, taking}
+use Rattle.number_forms.proofs.Shared.{LacksLongForm, Forest, tree_of, Gives, root_tree, plain, last_tree, Stands, forest, KeepsRefusals, IsRefused, given_told}
 
 -- a refusal where a fact does not hold
 pub refused : {A E : Type 0} (r : Result A E) (P : Type 0) → IsErr r → (P → ⊥) → IsOk r ↔ P

@@ -1,6 +1,6 @@
 -- Of a reduced tree the shape tells whether it is a Number.
 use Rattle.calc_terms.proofs.SmallLaws.{one_of as either}
-use Rattle.number_forms.proofs.Shared.{◌≡◌, ◌≢◌, ℕ, zero, suc, ◌≤◌, ◌<◌, ◌⊎◌, inl, inr, Bool, true, false, not, ◌&&◌, ◌||◌, if◌then◌else◌, length, refl, sym, ap, ◌∙◌, subst, arith, nat_le}
+use Rattle.number_forms.proofs.Shared.{◌≡◌, ◌≢◌, ℕ, zero, suc, ◌≤◌, ◌<◌, ◌⊎◌, inl, inr, Bool, true, false, not, ◌&&◌, if◌then◌else◌, length, refl, sym, ap, ◌∙◌, subst, arith, nat_le}
 use Rattle.number_forms.proofs.Shared.{and_parts, and_from, le-leb, not-true, is_number, is_term, are_terms, rises, terms_of, is_reduced, has_form, sum_form, all_parts, all_parts_of, none_is}
 use Rattle.number_forms.proofs.Shared.{number_terms, other_terms, Tree, add, Trees, none, more, count, has_two, is_add, root_kind, has_term_shape, nth, count_terms}
 use Rattle.calc_terms.specs.declared.kind.Kind.TheVariants as kind

@@ -1,5 +1,5 @@
 -- What a refused call leaves to say, after calls that were not refused.
-use Rattle.number_forms.proofs.Shared.{◌≡◌, ℕ, Result, Ok, Err, OnOk, IfOk, IfErr, IsErr, State, Full, KeepsRefusals, IsRefused, NumberFault, kept_after}
+use Rattle.number_forms.proofs.Shared.{ℕ, Result, Ok, Err, OnOk, IfOk, IfErr, IsErr, State, Full, KeepsRefusals, IsRefused, NumberFault, kept_after}
 use Rattle.tree_handles.proofs.Refused.{refuses_after}
 use Rattle.tree_handles.specs.{Faults.{Faults}, Standing.{LacksBytes, Refuses}}
 use Rattle.tree_handles.specs.declared.fault.NumberFault.TheVariants as fault

@@ -35,6 +35,7 @@ pub use Rattle.node_pool.specs.{State.{State, free_of}, declared.full.Full.{Full
 pub use Rattle.number_forms.specs.{Answers.{AnswersRationals, IsNumberOf, IsNumberOver, IsPowerOver}, Inverses.{HasInverse, IsInverseOf, LacksInverse, inverse_trees, tree_of_terms}}
 pub use Rattle.number_forms.specs.{Joins.{IsMatch, IsOther}, Joints.{LacksJointRoom, both, is_neutral, joint_need, operation}, Overflows.{InverseOverflows, JoinOverflows, PowerOverflows}}
 pub use Rattle.number_forms.specs.Overflows.{ProductJoinOverflows, ProductOverflows, RowOverflows, SquareOverflows, SquareRowOverflows, SumOverflows, inverting_calculations, terms_from}
+pub use Rattle.number_forms.specs.Safety.{IsSafe, IsSafePlacing}
 pub use Rattle.number_forms.specs.{Placed.{Adds}, Readers.{is_zero}, Rooms.{LacksRoom, joining_need, raising_need}, Shapes.{first_kind, has_term_shape, is_multiple_next, is_num_kind, is_number_next}}
 pub use Rattle.number_forms.specs.{Shapes.{is_root_kind, is_root_of_num, sum_of_terms, term_tree}, Squares.{square_row, square_terms, twice}, Sums.{AreBelow, AreRising, IsApart, IsPlace, IsSum}}
 pub use Rattle.number_forms.specs.{Sums.{IsSumOf, Ranks, RanksTerms, removed, trees_from}, Values.{AreListed, AreSmall, AreTermsOf, number_tree, trees_of}, declared.calculating.Joint.{Joint}}

@@ -1,7 +1,7 @@
 -- Terms as trees, and trees as terms.
-use Rattle.number_forms.proofs.Shared.{◌≡◌, ◌≢◌, ℕ, ◌≤◌, ◌<◌, inl, inr, true, false, Result, sym, ap, ◌∙◌, arith, ℤ, pos, nat_abs, IfOk, IsClean, Rat, Fraction, lowest, zero_fraction, one_fraction}
-use Rattle.number_forms.proofs.Shared.{whole_fraction, IsTerm, IsRadicand, is_term, is_number, natural_of, classes, ratio_of, value_of, Term, term, Tree, num, mult, root, none, more, root_kind}
-use Rattle.number_forms.proofs.Shared.{is_add, whole_numerator, whole_denominator, number_words, term_test, int_is_zero, is_zero, Forest, Gives, Ratio, whole, AsNumber, as_number}
+use Rattle.number_forms.proofs.Shared.{◌≡◌, ◌≢◌, ℕ, ◌≤◌, ◌<◌, inl, inr, true, false, Result, sym, ap, ◌∙◌, arith, ℤ, pos, nat_abs, IfOk, IsClean, Fraction, zero_fraction, one_fraction}
+use Rattle.number_forms.proofs.Shared.{whole_fraction, IsTerm, IsRadicand, is_term, is_number, natural_of, classes, Term, term, Tree, num, mult, root, none, more, root_kind}
+use Rattle.number_forms.proofs.Shared.{is_add, whole_numerator, whole_denominator, number_words, term_test, int_is_zero, is_zero, Forest, Gives, AsNumber, as_number}
 use Rattle.calc_algebra.specs.Numbers.{term_of}
 use Rattle.calc_terms.specs.declared.kind.Kind.TheVariants as kind
 

@@ -1,6 +1,6 @@
 -- What a sum is worth, from one joined term to the next.
 use Rattle.number_forms.proofs.Shared.{Same-sym, ◌≡◌, ℕ, zero, suc, ◌-◌, ◌≤◌, [], ◌∷◌, ◌++◌, Some, map, refl, ap, ◌∙◌, subst, append_assoc, arith, slice_get, Same, Term, Surd, term_times, surd_times}
-use Rattle.number_forms.proofs.Shared.{Same-trans, Same-Agree, Agree-sym, Agree-Same, Same-refl, Same-eq, Same-append, Same-append_comm, drop-drop}
+use Rattle.number_forms.proofs.Shared.{Same-trans, Same-refl, Same-eq, Same-append, Same-append_comm, drop-drop}
 pub use Rattle.number_forms.specs.Overflows.{terms_from}
 
 pub some_term : {x y : Term} → Some x ≡ Some y → x ≡ y

@@ -11,3 +11,4 @@ pub mod Rooms
 pub mod Placed
 pub mod Values
 pub mod Joints
+pub mod Safety

@@ -16,8 +16,9 @@ ghost use Rattle.number_forms.specs.Overflows.{SumOverflows};
 ghost use Rattle.number_forms.specs.Readers.{is_zero};
 ghost use Rattle.number_forms.specs.Rooms.{LacksRoom, joining_need};
 ghost use Rattle.number_forms.specs.Sums.{IsSum, IsSumOf, Ranks, RanksTerms};
+ghost use Rattle.number_forms.specs.Safety.{IsSafe, IsSafePlacing};
 ghost use Rattle.surd_terms.specs.Terms.{term_of};
-ghost use Rattle.tree_handles.specs.Standing.{LacksBytes, Stands, forest, KeepsRefusals, Refuses};
+ghost use Rattle.tree_handles.specs.Standing.{Stands, forest, KeepsRefusals};
 ghost use Rattle.tree_handles.specs.Causes.{IsCaused};
 ghost use Rattle.tree_handles.specs.Handed.{tree_of, IsHanded, Gives, KeepsFront};
 ghost use Rattle.tree_handles.specs.Faults.{Faults, OfOverflow};
@@ -73,13 +74,9 @@ pub(crate) fn add_terms(pool: &mut Pool, a: Handle, b: Handle) -> Result<Handle,
     requires first_number { is_number (tree_of a pool.old) ≡ true }
     requires second_number { is_number (tree_of b pool.old) ≡ true }
     ensures ok { IfOk result (λ h. Gives (without_root b (without_root a (forest pool.old))) (forest pool.new) h (IsNumberOver (value (tree_of a pool.old) ++ value (tree_of b pool.old)))) }
-    ensures front { KeepsFront (a ∷ b ∷ []) (forest pool.old) (forest pool.new) }
-    ensures kept { OnOk result (KeepsRefusals pool.old pool.new) }
-    ensures faults { IfErr result (Faults pool.old pool.new) }
     ensures overflow { IfErr result (OfOverflow (SumOverflows (value (tree_of a pool.old)) (value (tree_of b pool.old)))) }
-    ensures caused { IfErr result (IsCaused pool.new) }
     ensures room { (gs : List ℕ) → SpansTree gs (tree_of a pool.old) → SpansTree gs (tree_of b pool.old) → IfErr result (LacksRoom sum_need (free_of pool.old + size (tree_of a pool.old) + size (tree_of b pool.old)) gs) }
-    ensures stands { Stands pool.new }
+    ensures safe { IsSafe (a ∷ b ∷ []) pool.old pool.new result }
 {
     match order_of_terms(pool, &a, &b) {
         Ordering::Less => Ok(node_over_two(pool, Kind::Add, a, b)?),
@@ -128,13 +125,9 @@ pub(crate) fn add_others(pool: &mut Pool, a: Handle, b: Handle) -> Result<Handle
     requires first_number { is_number (tree_of a pool.old) ≡ true }
     requires second_number { is_number (tree_of b pool.old) ≡ true }
     ensures ok { IfOk result (λ h. Gives (without_root b (without_root a (forest pool.old))) (forest pool.new) h (IsNumberOver (value (tree_of a pool.old) ++ value (tree_of b pool.old)))) }
-    ensures front { KeepsFront (a ∷ b ∷ []) (forest pool.old) (forest pool.new) }
-    ensures kept { OnOk result (KeepsRefusals pool.old pool.new) }
-    ensures faults { IfErr result (Faults pool.old pool.new) }
     ensures overflow { IfErr result (OfOverflow (SumOverflows (value (tree_of a pool.old)) (value (tree_of b pool.old)))) }
-    ensures caused { IfErr result (IsCaused pool.new) }
     ensures room { (gs : List ℕ) → SpansTree gs (tree_of a pool.old) → SpansTree gs (tree_of b pool.old) → IfErr result (LacksRoom sum_need (free_of pool.old + size (tree_of a pool.old) + size (tree_of b pool.old)) gs) }
-    ensures stands { Stands pool.new }
+    ensures safe { IsSafe (a ∷ b ∷ []) pool.old pool.new result }
 {
     let terms = roots::term_count(pool, &a).saturating_add(roots::term_count(pool, &b));
     let terms = usize::from(terms);
@@ -158,13 +151,9 @@ fn add_within<const N: usize>(pool: &mut Pool, a: Handle, b: Handle) -> Result<H
     requires first_number { is_number (tree_of a pool.old) ≡ true }
     requires second_number { is_number (tree_of b pool.old) ≡ true }
     ensures ok { IfOk result (λ h. Gives (without_root b (without_root a (forest pool.old))) (forest pool.new) h (IsNumberOver (value (tree_of a pool.old) ++ value (tree_of b pool.old)))) }
-    ensures front { KeepsFront (a ∷ b ∷ []) (forest pool.old) (forest pool.new) }
-    ensures kept { OnOk result (KeepsRefusals pool.old pool.new) }
-    ensures faults { IfErr result (Faults pool.old pool.new) }
     ensures overflow { IfErr result (OfOverflow (SumOverflows (value (tree_of a pool.old)) (value (tree_of b pool.old)))) }
-    ensures caused { IfErr result (IsCaused pool.new) }
     ensures room { (gs : List ℕ) → SpansTree gs (tree_of a pool.old) → SpansTree gs (tree_of b pool.old) → IfErr result (LacksRoom sum_need (free_of pool.old + size (tree_of a pool.old) + size (tree_of b pool.old)) gs) }
-    ensures stands { Stands pool.new }
+    ensures safe { IsSafe (a ∷ b ∷ []) pool.old pool.new result }
 {
     let sum = sum_over(pool, a)?;
     let mut list: ChildList<N> = ChildList::of(pool, sum.id());
@@ -179,12 +168,8 @@ fn sum_over(pool: &mut Pool, a: Handle) -> Result<Handle, Full>
     requires handed { IsHanded a (forest pool.old) }
     requires number { is_number (tree_of a pool.old) ≡ true }
     ensures ok { IfOk result (λ h. Gives (without_root a (forest pool.old)) (forest pool.new) h (IsSumOf (value (tree_of a pool.old)))) }
-    ensures front { KeepsFront (a ∷ []) (forest pool.old) (forest pool.new) }
-    ensures kept { OnOk result (KeepsRefusals pool.old pool.new) }
-    ensures full { IfErr result (Refuses pool.old pool.new) }
-    ensures caused { IfErr result (LacksBytes pool.new) }
     ensures room { IfErr result (λ full. free_of pool.old < 8) }
-    ensures stands { Stands pool.new }
+    ensures safe { IsSafePlacing (a ∷ []) pool.old pool.new result }
 {
     match kind(pool, a.id()) {
         Kind::Add => {
@@ -202,12 +187,8 @@ fn sum_over_term(pool: &mut Pool, a: Handle) -> Result<Handle, Full>
     requires number { is_number (tree_of a pool.old) ≡ true }
     requires no_sum { is_add (tree_of a pool.old) ≡ false }
     ensures ok { IfOk result (λ h. Gives (without_root a (forest pool.old)) (forest pool.new) h (IsSumOf (value (tree_of a pool.old)))) }
-    ensures front { KeepsFront (a ∷ []) (forest pool.old) (forest pool.new) }
-    ensures kept { OnOk result (KeepsRefusals pool.old pool.new) }
-    ensures full { IfErr result (Refuses pool.old pool.new) }
-    ensures caused { IfErr result (LacksBytes pool.new) }
     ensures room { IfErr result (λ full. free_of pool.old < 8) }
-    ensures stands { Stands pool.new }
+    ensures safe { IsSafePlacing (a ∷ []) pool.old pool.new result }
 {
     if roots::is_zero(pool, &a) {
         release(pool, a);
@@ -231,13 +212,9 @@ pub(crate) fn join_terms<const N: usize>(
     requires number { is_number (tree_of number pool.old) ≡ true }
     ensures ok { OnOk result (Gives (without_root sum.now (forest pool.old)) (forest pool.new) sum.now (IsSumOf (value (tree_of sum.now pool.old) ++ value (tree_of number pool.old)))) }
     ensures lists { OnOk result (Lists list.new sum.now (forest pool.new)) }
-    ensures front { KeepsFront (sum.now ∷ []) (forest pool.old) (forest pool.new) }
-    ensures kept { OnOk result (KeepsRefusals pool.old pool.new) }
-    ensures faults { IfErr result (Faults pool.old pool.new) }
     ensures overflow { IfErr result (OfOverflow (SumOverflows (value (tree_of sum.now pool.old)) (value (tree_of number pool.old)))) }
-    ensures caused { IfErr result (IsCaused pool.new) }
     ensures room { (gs : List ℕ) → Spans gs (value (tree_of sum.now pool.old)) → Spans gs (value (tree_of number pool.old)) → IfErr result (LacksRoom joining_need (free_of pool.old + size (tree_of sum.now pool.old)) gs) }
-    ensures stands { Stands pool.new }
+    ensures safe { IsSafe (sum.now ∷ []) pool.old pool.new result }
 {
     let terms: ChildList<N> = ChildList::of(pool, number);
     for at in 0..term_count(pool, number) {
@@ -252,12 +229,8 @@ pub(crate) fn number_of(pool: &mut Pool, sum: Handle) -> Result<Handle, Full>
     requires stands { Stands pool.old }
     requires sum { Gives (without_root sum (forest pool.old)) (forest pool.old) sum IsSum }
     ensures ok { IfOk result (λ h. Gives (without_root sum (forest pool.old)) (forest pool.new) h (IsNumberOver (value (tree_of sum pool.old)))) }
-    ensures front { KeepsFront (sum ∷ []) (forest pool.old) (forest pool.new) }
-    ensures kept { OnOk result (KeepsRefusals pool.old pool.new) }
-    ensures full { IfErr result (Refuses pool.old pool.new) }
-    ensures caused { IfErr result (LacksBytes pool.new) }
     ensures room { IfErr result (λ full. free_of pool.old + size (tree_of sum pool.old) < 40) }
-    ensures stands { Stands pool.new }
+    ensures safe { IsSafePlacing (sum ∷ []) pool.old pool.new result }
 {
     let terms = children(pool, sum.id());
     if terms == 0 {

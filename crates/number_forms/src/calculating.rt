@@ -1,6 +1,6 @@
 //! Sums and products of Numbers: of rationals, of a Number and a rational that leaves it as it is, of a few terms as values,
 //! and of more in the pool.
-ghost use Rattle.std.specs.Prelude.{ℕ, List, ◌≡◌, ◌↔◌, ◌==◌, ◌&&◌, ◌∷◌, [], true, false, IsTrue, IsErr, IfOk, IfErr, OnOk};
+ghost use Rattle.std.specs.Prelude.{ℕ, List, ◌≡◌, ◌↔◌, ◌==◌, ◌&&◌, ◌∷◌, [], true, false, IsTrue, IsErr, IfOk, IfErr};
 ghost use Rattle.calc_algebra.specs.Numbers.{is_number, value};
 ghost use Rattle.calc_measures.specs.PlainValues.{calculated};
 ghost use Rattle.calc_room.specs.Spans.{SpansTree};
@@ -12,12 +12,12 @@ ghost use Rattle.number_forms.specs.Answers.{AnswersRationals, IsNumberOver};
 ghost use Rattle.number_forms.specs.Joints.{JointOverflows, LacksJointRoom, both, is_neutral, op_of, operation};
 ghost use Rattle.number_forms.specs.Kept.{AnswersItself};
 ghost use Rattle.number_forms.specs.Values.{AreTermsOf};
+ghost use Rattle.number_forms.specs.Safety.{IsSafe};
 ghost use Rattle.rational128.specs.Refusals.{DoesNotFit};
-ghost use Rattle.tree_handles.specs.Causes.{IsCaused};
-ghost use Rattle.tree_handles.specs.Faults.{Faults, OfOverflow};
-ghost use Rattle.tree_handles.specs.Handed.{tree_of, IsHanded, Gives, KeepsFront};
+ghost use Rattle.tree_handles.specs.Faults.{OfOverflow};
+ghost use Rattle.tree_handles.specs.Handed.{tree_of, IsHanded, Gives};
 ghost use Rattle.tree_handles.specs.Roots.{without_root};
-ghost use Rattle.tree_handles.specs.Standing.{Stands, forest, KeepsRefusals};
+ghost use Rattle.tree_handles.specs.Standing.{Stands, forest};
 
 use crate::adding::{add_others, add_terms};
 use crate::multiplying::multiply_others;
@@ -52,15 +52,11 @@ pub(crate) fn calculate(
     requires second_number { is_number (tree_of b pool.old) ≡ true }
     ensures ok { IfOk result (λ h. Gives (without_root b (without_root a (forest pool.old))) (forest pool.new) h (IsNumberOver (both joint (value (tree_of a pool.old)) (value (tree_of b pool.old))))) }
     ensures rationals { (p q : Fraction) → tree_of a pool.old ≡ num p → tree_of b pool.old ≡ num q → AnswersRationals (calculated (operation joint) p q) pool.new result }
-    ensures front { KeepsFront (a ∷ b ∷ []) (forest pool.old) (forest pool.new) }
-    ensures kept { OnOk result (KeepsRefusals pool.old pool.new) }
-    ensures faults { IfErr result (Faults pool.old pool.new) }
     ensures overflow { (is_num (tree_of a pool.old) && is_num (tree_of b pool.old)) ≡ false → IfErr result (OfOverflow (JointOverflows joint (value (tree_of a pool.old)) (value (tree_of b pool.old)))) }
     ensures first_neutral { is_neutral joint (tree_of a pool.old) ≡ true → is_num (tree_of b pool.old) ≡ false → AnswersItself b pool.old pool.new result }
     ensures second_neutral { is_neutral joint (tree_of b pool.old) ≡ true → is_num (tree_of a pool.old) ≡ false → AnswersItself a pool.old pool.new result }
-    ensures caused { IfErr result (IsCaused pool.new) }
     ensures room { (gs : List ℕ) → SpansTree gs (tree_of a pool.old) → SpansTree gs (tree_of b pool.old) → IfErr result (LacksJointRoom joint a b pool.old gs) }
-    ensures stands { Stands pool.new }
+    ensures safe { IsSafe (a ∷ b ∷ []) pool.old pool.new result }
 {
     if roots::is_rational(pool, &a) && roots::is_rational(pool, &b) {
         calculate_rationals(pool, joint, a, b)
@@ -84,12 +80,8 @@ fn calculate_rationals(
     requires second_rational { is_num (tree_of b pool.old) ≡ true }
     ensures ok { IfOk result (λ h. Gives (without_root b (without_root a (forest pool.old))) (forest pool.new) h (IsNumberOver (both joint (value (tree_of a pool.old)) (value (tree_of b pool.old))))) }
     ensures rationals { (p q : Fraction) → tree_of a pool.old ≡ num p → tree_of b pool.old ≡ num q → AnswersRationals (calculated (operation joint) p q) pool.new result }
-    ensures front { KeepsFront (a ∷ b ∷ []) (forest pool.old) (forest pool.new) }
-    ensures kept { OnOk result (KeepsRefusals pool.old pool.new) }
-    ensures faults { IfErr result (Faults pool.old pool.new) }
-    ensures caused { IfErr result (IsCaused pool.new) }
     ensures room { (gs : List ℕ) → IfErr result (LacksJointRoom joint a b pool.old gs) }
-    ensures stands { Stands pool.new }
+    ensures safe { IsSafe (a ∷ b ∷ []) pool.old pool.new result }
 {
     let (p, q) = take_rationals(pool, a, b);
     let answer = of_rationals(joint, p, q)?;
@@ -122,15 +114,11 @@ fn calculate_terms(
     requires first_number { is_number (tree_of a pool.old) ≡ true }
     requires second_number { is_number (tree_of b pool.old) ≡ true }
     ensures ok { IfOk result (λ h. Gives (without_root b (without_root a (forest pool.old))) (forest pool.new) h (IsNumberOver (both joint (value (tree_of a pool.old)) (value (tree_of b pool.old))))) }
-    ensures front { KeepsFront (a ∷ b ∷ []) (forest pool.old) (forest pool.new) }
-    ensures kept { OnOk result (KeepsRefusals pool.old pool.new) }
-    ensures faults { IfErr result (Faults pool.old pool.new) }
     ensures overflow { IfErr result (OfOverflow (JointOverflows joint (value (tree_of a pool.old)) (value (tree_of b pool.old)))) }
-    ensures caused { IfErr result (IsCaused pool.new) }
     ensures room { (gs : List ℕ) → SpansTree gs (tree_of a pool.old) → SpansTree gs (tree_of b pool.old) → IfErr result (LacksJointRoom joint a b pool.old gs) }
     ensures first_neutral { is_neutral joint (tree_of a pool.old) ≡ true → AnswersItself b pool.old pool.new result }
     ensures second_neutral { is_neutral joint (tree_of a pool.old) ≡ false → is_neutral joint (tree_of b pool.old) ≡ true → AnswersItself a pool.old pool.new result }
-    ensures stands { Stands pool.new }
+    ensures safe { IsSafe (a ∷ b ∷ []) pool.old pool.new result }
 {
     if is_neutral(pool, joint, &a) {
         keep_other(pool, a, &b);
@@ -172,13 +160,9 @@ pub(crate) fn calculate_others(
     requires first_number { is_number (tree_of a pool.old) ≡ true }
     requires second_number { is_number (tree_of b pool.old) ≡ true }
     ensures ok { IfOk result (λ h. Gives (without_root b (without_root a (forest pool.old))) (forest pool.new) h (IsNumberOver (both joint (value (tree_of a pool.old)) (value (tree_of b pool.old))))) }
-    ensures front { KeepsFront (a ∷ b ∷ []) (forest pool.old) (forest pool.new) }
-    ensures kept { OnOk result (KeepsRefusals pool.old pool.new) }
-    ensures faults { IfErr result (Faults pool.old pool.new) }
     ensures overflow { IfErr result (OfOverflow (JointOverflows joint (value (tree_of a pool.old)) (value (tree_of b pool.old)))) }
-    ensures caused { IfErr result (IsCaused pool.new) }
     ensures room { (gs : List ℕ) → SpansTree gs (tree_of a pool.old) → SpansTree gs (tree_of b pool.old) → IfErr result (LacksJointRoom joint a b pool.old gs) }
-    ensures stands { Stands pool.new }
+    ensures safe { IsSafe (a ∷ b ∷ []) pool.old pool.new result }
 {
     let mut terms = TermList::new();
     if calculate_values(pool, joint, &a, &b, &mut terms) && has_room(pool, terms.as_slice()) {

@@ -12,6 +12,7 @@ ghost use Rattle.tree_handles.specs.Lacking.{OfFull};
 ghost use Rattle.number_forms.specs.Overflows.{InverseOverflows, inverting_calculations};
 ghost use Rattle.number_forms.specs.Rooms.{LacksRoom, SpansInverse};
 ghost use Rattle.number_forms.specs.Shapes.{sum_of_terms};
+ghost use Rattle.number_forms.specs.Safety.{IsSafePlacing};
 ghost use Rattle.tree_handles.specs.Building.{building};
 ghost use Rattle.tree_handles.specs.Causes.{IsCaused, OnlyLacksLongForm, Overflows};
 ghost use Rattle.tree_handles.specs.Handed.{tree_of, IsHanded, Gives, KeepsFront};
@@ -19,8 +20,7 @@ ghost use Rattle.surd_bits.specs.Inverted.{IsNoLargerThanInverse};
 ghost use Rattle.surd_terms.specs.Calculations.{first_misfit, misfit_of};
 ghost use Rattle.surd_terms.specs.Terms.{term_of};
 ghost use Rattle.tree_handles.specs.Faults.{Faults, OfOverflow};
-ghost use Rattle.tree_handles.specs.Roots.{without_root};
-ghost use Rattle.tree_handles.specs.Standing.{Stands, forest, KeepsRefusals, LacksBytes, Refuses};
+ghost use Rattle.tree_handles.specs.Standing.{Stands, forest, KeepsRefusals};
 
 use crate::placing::place_term;
 use crate::roots;
@@ -110,12 +110,8 @@ fn inverse_terms(pool: &Pool, a: &Handle, terms: u16) -> Result<Terms, Overflow>
 fn place_inverse(pool: &mut Pool, terms: Terms) -> Result<Handle, Full>
     requires stands { Stands pool.old }
     ensures ok { IfOk result (λ h. Gives (forest pool.old) (forest pool.new) h (λ t. t ≡ tree_of_terms terms)) }
-    ensures front { KeepsFront [] (forest pool.old) (forest pool.new) }
-    ensures kept { OnOk result (KeepsRefusals pool.old pool.new) }
-    ensures full { IfErr result (Refuses pool.old pool.new) }
-    ensures caused { IfErr result (LacksBytes pool.new) }
     ensures first_lack { IfErr result (λ full. building (free_of pool.old) (tree_of_terms terms) ≡ Err full) }
-    ensures stands { Stands pool.new }
+    ensures safe { IsSafePlacing [] pool.old pool.new result }
 {
     match terms {
         Terms::One(term) => place_term(pool, term),
@@ -127,12 +123,8 @@ fn place_inverse(pool: &mut Pool, terms: Terms) -> Result<Handle, Full>
 fn place_sum(pool: &mut Pool, a: Term, b: Term) -> Result<Handle, Full>
     requires stands { Stands pool.old }
     ensures ok { IfOk result (λ h. Gives (forest pool.old) (forest pool.new) h (λ t. t ≡ sum_of_terms (term_of a) (term_of b))) }
-    ensures front { KeepsFront [] (forest pool.old) (forest pool.new) }
-    ensures kept { OnOk result (KeepsRefusals pool.old pool.new) }
-    ensures full { IfErr result (Refuses pool.old pool.new) }
-    ensures caused { IfErr result (LacksBytes pool.new) }
     ensures first_lack { IfErr result (λ full. building (free_of pool.old) (sum_of_terms (term_of a) (term_of b)) ≡ Err full) }
-    ensures stands { Stands pool.new }
+    ensures safe { IsSafePlacing [] pool.old pool.new result }
 {
     let first = place_term(pool, a)?;
     let second = place_term(pool, b)?;

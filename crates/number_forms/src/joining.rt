@@ -1,5 +1,5 @@
 //! Terms joined to a sum of terms that stands last.
-ghost use Rattle.std.specs.Prelude.{◌≡◌, ◌<◌, ◌≤◌, ◌-◌, ◌^◌, ◌∷◌, [], ℕ, IsTrue, IfOk, IfErr, MatchOption, OnOk};
+ghost use Rattle.std.specs.Prelude.{◌≡◌, ◌<◌, ◌-◌, ◌^◌, ◌∷◌, [], IsTrue, IfOk, IfErr, MatchOption, OnOk};
 ghost use Rattle.calc_algebra.specs.Clean.{IsClean};
 ghost use Rattle.calc_algebra.specs.Numbers.{value, term_of as term_of_tree, terms_of};
 ghost use Rattle.calc_terms.specs.Trees.{count};
@@ -9,12 +9,13 @@ ghost use Rattle.number_forms.specs.Sums.{IsSum, IsSumOf, IsApart, IsPlace, AreB
 ghost use Rattle.number_forms.specs.Joins.{IsMatch, IsOther};
 ghost use Rattle.tree_handles.specs.Lacking.{OfFull};
 ghost use Rattle.number_forms.specs.Overflows.{JoinOverflows};
-ghost use Rattle.tree_handles.specs.Standing.{LacksBytes, Stands, forest, KeepsRefusals, Refuses};
-ghost use Rattle.tree_handles.specs.Causes.{IsCaused, Overflows};
-ghost use Rattle.tree_handles.specs.Handed.{tree_of, Gives, KeepsFront};
+ghost use Rattle.number_forms.specs.Safety.{IsSafe, IsSafePlacing};
+ghost use Rattle.tree_handles.specs.Standing.{Stands, forest};
+ghost use Rattle.tree_handles.specs.Causes.{Overflows};
+ghost use Rattle.tree_handles.specs.Handed.{tree_of, Gives};
 ghost use Rattle.surd_terms.specs.Terms.{term_of};
 ghost use Rattle.tree_handles.specs.Expressions.{children_of, nth, plain, IsExpression};
-ghost use Rattle.tree_handles.specs.Faults.{Faults, OfOverflow};
+ghost use Rattle.tree_handles.specs.Faults.{OfOverflow};
 ghost use Rattle.tree_handles.specs.Inside.{tree_at};
 ghost use Rattle.tree_handles.specs.Roots.{without_root};
 
@@ -55,13 +56,9 @@ pub(crate) fn join_term<const N: usize>(
     requires lists { Lists list.old sum.now (forest pool.old) }
     ensures ok { OnOk result (Gives (without_root sum.now (forest pool.old)) (forest pool.new) sum.now (IsSumOf (term_of term ∷ value (tree_of sum.now pool.old)))) }
     ensures lists { OnOk result (Lists list.new sum.now (forest pool.new)) }
-    ensures front { KeepsFront (sum.now ∷ []) (forest pool.old) (forest pool.new) }
-    ensures kept { OnOk result (KeepsRefusals pool.old pool.new) }
-    ensures faults { IfErr result (Faults pool.old pool.new) }
     ensures overflow { IfErr result (OfOverflow (JoinOverflows (tree_of sum.now pool.old) (term_of term))) }
-    ensures caused { IfErr result (IsCaused pool.new) }
     ensures room { IfErr result (OfFull (λ full. free_of pool.old < 96)) }
-    ensures stands { Stands pool.new }
+    ensures safe { IsSafe (sum.now ∷ []) pool.old pool.new result }
 {
     match match_in(pool, sum.id(), list, term, seen)? {
         Match::Apart(at) => insert(pool, sum, list, at, term)?,
@@ -206,12 +203,8 @@ fn insert<const N: usize>(
     requires place { IsPlace at (term_of term).radicand (children_of (tree_of sum.now pool.old)) }
     ensures ok { OnOk result (Gives (without_root sum.now (forest pool.old)) (forest pool.new) sum.now (IsSumOf (term_of term ∷ value (tree_of sum.now pool.old)))) }
     ensures lists { OnOk result (Lists list.new sum.now (forest pool.new)) }
-    ensures front { KeepsFront (sum.now ∷ []) (forest pool.old) (forest pool.new) }
-    ensures kept { OnOk result (KeepsRefusals pool.old pool.new) }
-    ensures full { IfErr result (Refuses pool.old pool.new) }
-    ensures caused { IfErr result (LacksBytes pool.new) }
     ensures room { IfErr result (λ full. free_of pool.old < 96) }
-    ensures stands { Stands pool.new }
+    ensures safe { IsSafePlacing (sum.now ∷ []) pool.old pool.new result }
 {
     let child = place_term(pool, term)?;
     insert_child(pool, sum, list, at, child);
@@ -233,12 +226,8 @@ fn replace<const N: usize>(
     requires apart { IsApart (term_of term).radicand (terms_of (removed at (children_of (tree_of sum.now pool.old)))) }
     ensures ok { OnOk result (Gives (without_root sum.now (forest pool.old)) (forest pool.new) sum.now (IsSumOf (term_of term ∷ terms_of (removed at (children_of (tree_of sum.now pool.old)))))) }
     ensures lists { OnOk result (Lists list.new sum.now (forest pool.new)) }
-    ensures front { KeepsFront (sum.now ∷ []) (forest pool.old) (forest pool.new) }
-    ensures kept { OnOk result (KeepsRefusals pool.old pool.new) }
-    ensures full { IfErr result (Refuses pool.old pool.new) }
-    ensures caused { IfErr result (LacksBytes pool.new) }
     ensures room { IfErr result (λ full. free_of pool.old < 96) }
-    ensures stands { Stands pool.new }
+    ensures safe { IsSafePlacing (sum.now ∷ []) pool.old pool.new result }
 {
     let stays = radicand_at(pool, sum.id(), list, at) == term.radicand();
     if stays && pool.free() >= TERM_BYTES {
@@ -267,12 +256,8 @@ fn exchange<const N: usize>(
     requires apart { IsApart (term_of term).radicand (terms_of (removed at (children_of (tree_of sum.now pool.old)))) }
     ensures ok { OnOk result (Gives (without_root sum.now (forest pool.old)) (forest pool.new) sum.now (IsSumOf (term_of term ∷ terms_of (removed at (children_of (tree_of sum.now pool.old)))))) }
     ensures lists { OnOk result (Lists list.new sum.now (forest pool.new)) }
-    ensures front { KeepsFront (sum.now ∷ []) (forest pool.old) (forest pool.new) }
-    ensures kept { OnOk result (KeepsRefusals pool.old pool.new) }
-    ensures full { IfErr result (Refuses pool.old pool.new) }
-    ensures caused { IfErr result (LacksBytes pool.new) }
     ensures room { IfErr result (λ full. free_of pool.old < 96) }
-    ensures stands { Stands pool.new }
+    ensures safe { IsSafePlacing (sum.now ∷ []) pool.old pool.new result }
 {
     let new = place_term(pool, term)?;
     exchange_child(pool, sum, list, at, new);

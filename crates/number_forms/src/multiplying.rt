@@ -17,6 +17,7 @@ ghost use Rattle.number_forms.specs.Kept.{AnswersItself};
 ghost use Rattle.number_forms.specs.Overflows.{terms_from, RowOverflows, ProductOverflows};
 ghost use Rattle.number_forms.specs.Rooms.{LacksRoom, joining_need};
 ghost use Rattle.number_forms.specs.Sums.{IsSum, IsSumOf};
+ghost use Rattle.number_forms.specs.Safety.{IsSafe};
 ghost use Rattle.tree_handles.specs.Causes.{IsCaused};
 ghost use Rattle.tree_handles.specs.Handed.{tree_of, IsHanded, Gives, KeepsFront};
 ghost use Rattle.surd_terms.specs.Terms.{term_of};
@@ -71,13 +72,9 @@ pub(crate) fn multiply_others(pool: &mut Pool, a: Handle, b: Handle) -> Result<H
     requires first_number { is_number (tree_of a pool.old) ≡ true }
     requires second_number { is_number (tree_of b pool.old) ≡ true }
     ensures ok { IfOk result (λ h. Gives (without_root b (without_root a (forest pool.old))) (forest pool.new) h (IsNumberOver (surd_times (value (tree_of a pool.old)) (value (tree_of b pool.old))))) }
-    ensures front { KeepsFront (a ∷ b ∷ []) (forest pool.old) (forest pool.new) }
-    ensures kept { OnOk result (KeepsRefusals pool.old pool.new) }
-    ensures faults { IfErr result (Faults pool.old pool.new) }
     ensures overflow { IfErr result (OfOverflow (ProductOverflows (value (tree_of a pool.old)) (value (tree_of b pool.old)))) }
-    ensures caused { IfErr result (IsCaused pool.new) }
     ensures room { (gs : List ℕ) → SpansTree gs (tree_of a pool.old) → SpansTree gs (tree_of b pool.old) → IfErr result (LacksRoom product_need (free_of pool.old + size (tree_of a pool.old) + size (tree_of b pool.old)) gs) }
-    ensures stands { Stands pool.new }
+    ensures safe { IsSafe (a ∷ b ∷ []) pool.old pool.new result }
 {
     let product = product_of(pool, &a, &b)?;
     release(pool, a);
@@ -93,13 +90,9 @@ pub(crate) fn product_of(pool: &mut Pool, a: &Handle, b: &Handle) -> Result<Hand
     requires first_number { is_number (tree_of a.now pool.old) ≡ true }
     requires second_number { is_number (tree_of b.now pool.old) ≡ true }
     ensures ok { IfOk result (λ h. Gives (forest pool.old) (forest pool.new) h (IsNumberOver (surd_times (value (tree_of a.now pool.old)) (value (tree_of b.now pool.old))))) }
-    ensures front { KeepsFront [] (forest pool.old) (forest pool.new) }
-    ensures kept { OnOk result (KeepsRefusals pool.old pool.new) }
-    ensures faults { IfErr result (Faults pool.old pool.new) }
     ensures overflow { IfErr result (OfOverflow (ProductOverflows (value (tree_of a.now pool.old)) (value (tree_of b.now pool.old)))) }
-    ensures caused { IfErr result (IsCaused pool.new) }
     ensures room { (gs : List ℕ) → SpansTree gs (tree_of a.now pool.old) → SpansTree gs (tree_of b.now pool.old) → IfErr result (LacksRoom joining_need (free_of pool.old) gs) }
-    ensures stands { Stands pool.new }
+    ensures safe { IsSafe [] pool.old pool.new result }
 {
     let terms = roots::term_count(pool, a).saturating_mul(roots::term_count(pool, b));
     let terms = usize::from(terms);
@@ -126,13 +119,9 @@ fn product_within<const N: usize>(
     requires first_number { is_number (tree_of a.now pool.old) ≡ true }
     requires second_number { is_number (tree_of b.now pool.old) ≡ true }
     ensures ok { IfOk result (λ h. Gives (forest pool.old) (forest pool.new) h (IsNumberOver (surd_times (value (tree_of a.now pool.old)) (value (tree_of b.now pool.old))))) }
-    ensures front { KeepsFront [] (forest pool.old) (forest pool.new) }
-    ensures kept { OnOk result (KeepsRefusals pool.old pool.new) }
-    ensures faults { IfErr result (Faults pool.old pool.new) }
     ensures overflow { IfErr result (OfOverflow (ProductOverflows (value (tree_of a.now pool.old)) (value (tree_of b.now pool.old)))) }
-    ensures caused { IfErr result (IsCaused pool.new) }
     ensures room { (gs : List ℕ) → SpansTree gs (tree_of a.now pool.old) → SpansTree gs (tree_of b.now pool.old) → IfErr result (LacksRoom joining_need (free_of pool.old) gs) }
-    ensures stands { Stands pool.new }
+    ensures safe { IsSafe [] pool.old pool.new result }
 {
     let sum = node(pool, Kind::Add)?;
     let mut list: ChildList<N> = ChildList::new();
@@ -161,13 +150,9 @@ fn join_rows<const N: usize>(
     requires terms { Lists terms.now b (forest pool.old) }
     ensures ok { OnOk result (Gives (without_root sum.now (forest pool.old)) (forest pool.new) sum.now (IsSumOf (value (tree_of sum.now pool.old) ++ surd_times (value (tree_of a pool.old)) (value (tree_of b pool.old))))) }
     ensures lists { OnOk result (Lists list.new sum.now (forest pool.new)) }
-    ensures front { KeepsFront (sum.now ∷ []) (forest pool.old) (forest pool.new) }
-    ensures kept { OnOk result (KeepsRefusals pool.old pool.new) }
-    ensures faults { IfErr result (Faults pool.old pool.new) }
     ensures overflow { value (tree_of sum.now pool.old) ≡ [] → IfErr result (OfOverflow (ProductOverflows (value (tree_of a pool.old)) (value (tree_of b pool.old)))) }
-    ensures caused { IfErr result (IsCaused pool.new) }
     ensures room { (gs : List ℕ) → Spans gs (value (tree_of sum.now pool.old)) → Spans gs (value (tree_of a pool.old)) → Spans gs (value (tree_of b pool.old)) → IfErr result (LacksRoom joining_need (free_of pool.old + size (tree_of sum.now pool.old)) gs) }
-    ensures stands { Stands pool.new }
+    ensures safe { IsSafe (sum.now ∷ []) pool.old pool.new result }
 {
     for at in 0..term_count(pool, a) {
         let term = nth_term(pool, a, at);
@@ -194,13 +179,9 @@ pub(crate) fn join_products<const N: usize>(
     requires terms { Lists terms.now number (forest pool.old) }
     ensures ok { OnOk result (Gives (without_root sum.now (forest pool.old)) (forest pool.new) sum.now (IsSumOf (value (tree_of sum.now pool.old) ++ map (term_times (term_of term)) (terms_from from (value (tree_of number pool.old)))))) }
     ensures lists { OnOk result (Lists list.new sum.now (forest pool.new)) }
-    ensures front { KeepsFront (sum.now ∷ []) (forest pool.old) (forest pool.new) }
-    ensures kept { OnOk result (KeepsRefusals pool.old pool.new) }
-    ensures faults { IfErr result (Faults pool.old pool.new) }
     ensures overflow { IfErr result (OfOverflow (RowOverflows (value (tree_of sum.now pool.old)) (term_of term) (terms_from from (value (tree_of number pool.old))))) }
-    ensures caused { IfErr result (IsCaused pool.new) }
     ensures room { (gs : List ℕ) → Spans gs (value (tree_of sum.now pool.old)) → IsSpanned gs (term_of term).radicand → Spans gs (value (tree_of number pool.old)) → IfErr result (LacksRoom joining_need (free_of pool.old + size (tree_of sum.now pool.old)) gs) }
-    ensures stands { Stands pool.new }
+    ensures safe { IsSafe (sum.now ∷ []) pool.old pool.new result }
 {
     for at in from..term_count(pool, number) {
         let other = listed_term(pool, number, terms, at);

@@ -8,6 +8,7 @@ ghost use Rattle.node_pool.specs.State.{free_of};
 ghost use Rattle.number_forms.specs.Placed.{Adds};
 ghost use Rattle.number_forms.specs.Shapes.{term_tree};
 ghost use Rattle.number_forms.specs.Values.{number_tree, trees_of};
+ghost use Rattle.number_forms.specs.Safety.{IsSafePlacing};
 ghost use Rattle.tree_handles.specs.Building.{building};
 ghost use Rattle.tree_handles.specs.Standing.{LacksBytes, Stands, forest, KeepsRefusals, Refuses};
 ghost use Rattle.surd_terms.specs.Terms.{term_of};
@@ -66,12 +67,8 @@ pub(crate) fn place_terms(pool: &mut Pool, terms: &[Term]) -> Result<Handle, Ful
     requires stands { Stands pool.old }
     requires few { length terms.now ≤ 8 }
     ensures ok { IfOk result (λ h. Gives (forest pool.old) (forest pool.new) h (λ t. t ≡ number_tree terms.now)) }
-    ensures front { KeepsFront [] (forest pool.old) (forest pool.new) }
-    ensures kept { OnOk result (KeepsRefusals pool.old pool.new) }
-    ensures full { IfErr result (Refuses pool.old pool.new) }
-    ensures caused { IfErr result (LacksBytes pool.new) }
     ensures room { IfErr result (λ full. free_of pool.old < 40 + 96 * length terms.now) }
-    ensures stands { Stands pool.new }
+    ensures safe { IsSafePlacing [] pool.old pool.new result }
 {
     if terms.is_empty() {
         return number(pool, Rat::whole(0));
@@ -91,12 +88,8 @@ fn place_all(pool: &mut Pool, terms: &[Term]) -> Result<u16, Full>
     requires few { length terms.now ≤ 8 }
     ensures count { IfOk result (λ many. many ≡ length terms.now) }
     ensures ok { OnOk result (Adds (trees_of terms.now) (forest pool.old) (forest pool.new)) }
-    ensures front { KeepsFront [] (forest pool.old) (forest pool.new) }
-    ensures kept { OnOk result (KeepsRefusals pool.old pool.new) }
-    ensures full { IfErr result (Refuses pool.old pool.new) }
-    ensures caused { IfErr result (LacksBytes pool.new) }
     ensures room { IfErr result (λ full. free_of pool.old < 96 * length terms.now) }
-    ensures stands { Stands pool.new }
+    ensures safe { IsSafePlacing [] pool.old pool.new result }
 {
     let mut placed = 0u16;
     for term in terms {
@@ -111,12 +104,8 @@ fn place_root(pool: &mut Pool, radicand: u128) -> Result<Handle, Full>
     requires stands { Stands pool.old }
     requires fits { radicand < 2 ^ 127 }
     ensures ok { IfOk result (λ h. Gives (forest pool.old) (forest pool.new) h (λ t. t ≡ root (num (whole_fraction (pos radicand))))) }
-    ensures front { KeepsFront [] (forest pool.old) (forest pool.new) }
-    ensures kept { OnOk result (KeepsRefusals pool.old pool.new) }
-    ensures full { IfErr result (Refuses pool.old pool.new) }
-    ensures caused { IfErr result (LacksBytes pool.new) }
     ensures first_lack { IfErr result (λ full. building (free_of pool.old) (root (num (whole_fraction (pos radicand)))) ≡ Err full) }
-    ensures stands { Stands pool.new }
+    ensures safe { IsSafePlacing [] pool.old pool.new result }
 {
     if pool.free() >= ROOT_BYTES {
         return plant_root(pool, radicand);
@@ -130,12 +119,8 @@ fn plant_root(pool: &mut Pool, radicand: u128) -> Result<Handle, Full>
     requires stands { Stands pool.old }
     requires fits { radicand < 2 ^ 127 }
     ensures ok { IfOk result (λ h. Gives (forest pool.old) (forest pool.new) h (λ t. t ≡ root (num (whole_fraction (pos radicand))))) }
-    ensures front { KeepsFront [] (forest pool.old) (forest pool.new) }
-    ensures kept { OnOk result (KeepsRefusals pool.old pool.new) }
-    ensures full { IfErr result (Refuses pool.old pool.new) }
-    ensures caused { IfErr result (LacksBytes pool.new) }
     ensures room { IfErr result (λ full. free_of pool.old < 48) }
-    ensures stands { Stands pool.new }
+    ensures safe { IsSafePlacing [] pool.old pool.new result }
 {
     let root = node(pool, Kind::Root)?;
     let _radicand = number(pool, whole(radicand))?;
@@ -148,12 +133,8 @@ fn place_multiple(pool: &mut Pool, coefficient: Rat, radicand: u128) -> Result<H
     requires stands { Stands pool.old }
     requires fits { radicand < 2 ^ 127 }
     ensures ok { IfOk result (λ h. Gives (forest pool.old) (forest pool.new) h (λ t. t ≡ mult (more (num (value_of coefficient)) (more (root (num (whole_fraction (pos radicand)))) none)))) }
-    ensures front { KeepsFront [] (forest pool.old) (forest pool.new) }
-    ensures kept { OnOk result (KeepsRefusals pool.old pool.new) }
-    ensures full { IfErr result (Refuses pool.old pool.new) }
-    ensures caused { IfErr result (LacksBytes pool.new) }
     ensures first_lack { IfErr result (λ full. building (free_of pool.old) (mult (more (num (value_of coefficient)) (more (root (num (whole_fraction (pos radicand)))) none))) ≡ Err full) }
-    ensures stands { Stands pool.new }
+    ensures safe { IsSafePlacing [] pool.old pool.new result }
 {
     if pool.free() >= TERM_BYTES {
         return plant_multiple(pool, coefficient, radicand);
@@ -168,12 +149,8 @@ fn plant_multiple(pool: &mut Pool, coefficient: Rat, radicand: u128) -> Result<H
     requires stands { Stands pool.old }
     requires fits { radicand < 2 ^ 127 }
     ensures ok { IfOk result (λ h. Gives (forest pool.old) (forest pool.new) h (λ t. t ≡ mult (more (num (value_of coefficient)) (more (root (num (whole_fraction (pos radicand)))) none)))) }
-    ensures front { KeepsFront [] (forest pool.old) (forest pool.new) }
-    ensures kept { OnOk result (KeepsRefusals pool.old pool.new) }
-    ensures full { IfErr result (Refuses pool.old pool.new) }
-    ensures caused { IfErr result (LacksBytes pool.new) }
     ensures room { IfErr result (λ full. free_of pool.old < 96) }
-    ensures stands { Stands pool.new }
+    ensures safe { IsSafePlacing [] pool.old pool.new result }
 {
     let product = node(pool, Kind::Mult)?;
     let _coefficient = number(pool, coefficient)?;

@@ -15,6 +15,7 @@ ghost use Rattle.number_forms.specs.Answers.{IsNumberOf, AnswersRationals, IsNum
 ghost use Rattle.number_forms.specs.Overflows.{SquareOverflows, PowerOverflows};
 ghost use Rattle.number_forms.specs.Rooms.{LacksRoom, joining_need, raising_need};
 ghost use Rattle.number_forms.specs.Values.{number_tree};
+ghost use Rattle.number_forms.specs.Safety.{IsSafe};
 ghost use Rattle.tree_handles.specs.Causes.{IsCaused};
 ghost use Rattle.tree_handles.specs.Handed.{tree_of, IsHanded, Gives, KeepsFront};
 ghost use Rattle.tree_handles.specs.Faults.{Faults, OfOverflow};
@@ -70,12 +71,8 @@ fn power_rational(pool: &mut Pool, a: Handle, n: i128) -> Result<Handle, NumberF
     requires positive { pos 1 ≤ℤ n }
     ensures ok { IfOk result (λ h. Gives (without_root a (forest pool.old)) (forest pool.new) h (IsPowerOver (value (tree_of a pool.old)) (nat_abs n))) }
     ensures rational { (q : Fraction) → tree_of a pool.old ≡ num q → AnswersRationals (calculated pow_op q (whole_fraction n)) pool.new result }
-    ensures front { KeepsFront (a ∷ []) (forest pool.old) (forest pool.new) }
-    ensures kept { OnOk result (KeepsRefusals pool.old pool.new) }
-    ensures faults { IfErr result (Faults pool.old pool.new) }
-    ensures caused { IfErr result (IsCaused pool.new) }
     ensures room { (gs : List ℕ) → IfErr result (LacksRoom power_need (free_of pool.old + size (tree_of a pool.old)) gs) }
-    ensures stands { Stands pool.new }
+    ensures safe { IsSafe (a ∷ []) pool.old pool.new result }
 {
     let q = take_rational(pool, a);
     let power = pow(q, n)?;
@@ -90,13 +87,9 @@ fn power_of(pool: &mut Pool, a: &Handle, n: u128) -> Result<Handle, NumberFault>
     requires number { is_number (tree_of a.now pool.old) ≡ true }
     requires twice { 2 ≤ n }
     ensures ok { IfOk result (λ h. Gives (forest pool.old) (forest pool.new) h (IsPowerOver (value (tree_of a.now pool.old)) n)) }
-    ensures front { KeepsFront [] (forest pool.old) (forest pool.new) }
-    ensures kept { OnOk result (KeepsRefusals pool.old pool.new) }
-    ensures faults { IfErr result (Faults pool.old pool.new) }
     ensures overflow { IfErr result (OfOverflow (PowerOverflows (value (tree_of a.now pool.old)) n)) }
-    ensures caused { IfErr result (IsCaused pool.new) }
     ensures room { (gs : List ℕ) → SpansTree gs (tree_of a.now pool.old) → IfErr result (LacksRoom raising_need (free_of pool.old) gs) }
-    ensures stands { Stands pool.new }
+    ensures safe { IsSafe [] pool.old pool.new result }
 {
     if n < 4 {
         return square_or_cube(pool, a, n);
@@ -115,13 +108,9 @@ fn square_or_cube(pool: &mut Pool, a: &Handle, n: u128) -> Result<Handle, Number
     requires twice { 2 ≤ n }
     requires few { n < 4 }
     ensures ok { IfOk result (λ h. Gives (forest pool.old) (forest pool.new) h (IsPowerOver (value (tree_of a.now pool.old)) n)) }
-    ensures front { KeepsFront [] (forest pool.old) (forest pool.new) }
-    ensures kept { OnOk result (KeepsRefusals pool.old pool.new) }
-    ensures faults { IfErr result (Faults pool.old pool.new) }
     ensures overflow { IfErr result (OfOverflow (PowerOverflows (value (tree_of a.now pool.old)) n)) }
-    ensures caused { IfErr result (IsCaused pool.new) }
     ensures room { (gs : List ℕ) → SpansTree gs (tree_of a.now pool.old) → IfErr result (LacksRoom raising_need (free_of pool.old) gs) }
-    ensures stands { Stands pool.new }
+    ensures safe { IsSafe [] pool.old pool.new result }
 {
     let mut terms = TermList::new();
     if raise_values(pool, a, n, &mut terms) && has_room(pool, terms.as_slice()) {
@@ -139,13 +128,9 @@ fn completed(pool: &mut Pool, square: Handle, a: &Handle, n: u128) -> Result<Han
     requires number { is_number (tree_of a.now pool.old) ≡ true }
     requires twice { 2 ≤ n }
     ensures ok { IfOk result (λ h. Gives (without_root square (forest pool.old)) (forest pool.new) h (IsPowerOver (value (tree_of a.now pool.old)) n)) }
-    ensures front { KeepsFront (square ∷ []) (forest pool.old) (forest pool.new) }
-    ensures kept { OnOk result (KeepsRefusals pool.old pool.new) }
-    ensures faults { IfErr result (Faults pool.old pool.new) }
     ensures overflow { IfErr result (OfOverflow (PowerOverflows (value (tree_of a.now pool.old)) n)) }
-    ensures caused { IfErr result (IsCaused pool.new) }
     ensures room { (gs : List ℕ) → SpansTree gs (tree_of a.now pool.old) → IfErr result (LacksRoom raising_need (free_of pool.old + size (tree_of square pool.old)) gs) }
-    ensures stands { Stands pool.new }
+    ensures safe { IsSafe (square ∷ []) pool.old pool.new result }
 {
     if n % 2 == 0 {
         return Ok(square);
@@ -178,13 +163,9 @@ fn squared(pool: &mut Pool, a: Handle) -> Result<Handle, NumberFault>
     requires handed { IsHanded a (forest pool.old) }
     requires number { is_number (tree_of a pool.old) ≡ true }
     ensures ok { IfOk result (λ h. Gives (without_root a (forest pool.old)) (forest pool.new) h (IsNumberOver (surd_times (value (tree_of a pool.old)) (value (tree_of a pool.old))))) }
-    ensures front { KeepsFront (a ∷ []) (forest pool.old) (forest pool.new) }
-    ensures kept { OnOk result (KeepsRefusals pool.old pool.new) }
-    ensures faults { IfErr result (Faults pool.old pool.new) }
     ensures overflow { IfErr result (OfOverflow (SquareOverflows (value (tree_of a pool.old)))) }
-    ensures caused { IfErr result (IsCaused pool.new) }
     ensures room { (gs : List ℕ) → SpansTree gs (tree_of a pool.old) → IfErr result (LacksRoom joining_need (free_of pool.old) gs) }
-    ensures stands { Stands pool.new }
+    ensures safe { IsSafe (a ∷ []) pool.old pool.new result }
 {
     let square = square_of(pool, &a)?;
     release(pool, a);

@@ -12,13 +12,13 @@ ghost use Rattle.number_forms.specs.Overflows.{terms_from, SquareRowOverflows, S
 ghost use Rattle.number_forms.specs.Rooms.{LacksRoom, joining_need};
 ghost use Rattle.number_forms.specs.Squares.{twice, square_row, square_terms};
 ghost use Rattle.number_forms.specs.Sums.{IsSum, IsSumOf};
+ghost use Rattle.number_forms.specs.Safety.{IsSafe};
 ghost use Rattle.rational128.specs.Refusals.{DoesNotFit};
 ghost use Rattle.surd_terms.specs.Terms.{term_of};
-ghost use Rattle.tree_handles.specs.Causes.{IsCaused};
-ghost use Rattle.tree_handles.specs.Faults.{Faults, OfOverflow};
-ghost use Rattle.tree_handles.specs.Handed.{tree_of, IsHanded, Gives, KeepsFront};
+ghost use Rattle.tree_handles.specs.Faults.{OfOverflow};
+ghost use Rattle.tree_handles.specs.Handed.{tree_of, IsHanded, Gives};
 ghost use Rattle.tree_handles.specs.Roots.{without_root};
-ghost use Rattle.tree_handles.specs.Standing.{Stands, forest, KeepsRefusals};
+ghost use Rattle.tree_handles.specs.Standing.{Stands, forest};
 
 use crate::adding::number_of;
 use crate::joining::{NOWHERE, join_term};
@@ -39,13 +39,9 @@ pub(crate) fn square_of(pool: &mut Pool, a: &Handle) -> Result<Handle, NumberFau
     requires handed { IsHanded a.now (forest pool.old) }
     requires number { is_number (tree_of a.now pool.old) ≡ true }
     ensures ok { IfOk result (λ h. Gives (forest pool.old) (forest pool.new) h (IsNumberOver (surd_times (value (tree_of a.now pool.old)) (value (tree_of a.now pool.old))))) }
-    ensures front { KeepsFront [] (forest pool.old) (forest pool.new) }
-    ensures kept { OnOk result (KeepsRefusals pool.old pool.new) }
-    ensures faults { IfErr result (Faults pool.old pool.new) }
     ensures overflow { IfErr result (OfOverflow (SquareOverflows (value (tree_of a.now pool.old)))) }
-    ensures caused { IfErr result (IsCaused pool.new) }
     ensures room { (gs : List ℕ) → SpansTree gs (tree_of a.now pool.old) → IfErr result (LacksRoom joining_need (free_of pool.old) gs) }
-    ensures stands { Stands pool.new }
+    ensures safe { IsSafe [] pool.old pool.new result }
 {
     let terms = roots::term_count(pool, a);
     let pairs = usize::from(terms.saturating_mul(terms) / 2);
@@ -66,13 +62,9 @@ fn square_within<const N: usize>(pool: &mut Pool, a: &Handle) -> Result<Handle, 
     requires handed { IsHanded a.now (forest pool.old) }
     requires number { is_number (tree_of a.now pool.old) ≡ true }
     ensures ok { IfOk result (λ h. Gives (forest pool.old) (forest pool.new) h (IsNumberOver (surd_times (value (tree_of a.now pool.old)) (value (tree_of a.now pool.old))))) }
-    ensures front { KeepsFront [] (forest pool.old) (forest pool.new) }
-    ensures kept { OnOk result (KeepsRefusals pool.old pool.new) }
-    ensures faults { IfErr result (Faults pool.old pool.new) }
     ensures overflow { IfErr result (OfOverflow (SquareOverflows (value (tree_of a.now pool.old)))) }
-    ensures caused { IfErr result (IsCaused pool.new) }
     ensures room { (gs : List ℕ) → SpansTree gs (tree_of a.now pool.old) → IfErr result (LacksRoom joining_need (free_of pool.old) gs) }
-    ensures stands { Stands pool.new }
+    ensures safe { IsSafe [] pool.old pool.new result }
 {
     let sum = node(pool, Kind::Add)?;
     let mut list: ChildList<N> = ChildList::new();
@@ -97,13 +89,9 @@ fn join_squares<const N: usize>(
     requires terms { Lists terms.now number (forest pool.old) }
     ensures ok { OnOk result (Gives (without_root sum.now (forest pool.old)) (forest pool.new) sum.now (IsSumOf (value (tree_of sum.now pool.old) ++ square_terms (value (tree_of number pool.old))))) }
     ensures lists { OnOk result (Lists list.new sum.now (forest pool.new)) }
-    ensures front { KeepsFront (sum.now ∷ []) (forest pool.old) (forest pool.new) }
-    ensures kept { OnOk result (KeepsRefusals pool.old pool.new) }
-    ensures faults { IfErr result (Faults pool.old pool.new) }
     ensures overflow { value (tree_of sum.now pool.old) ≡ [] → IfErr result (OfOverflow (SquareOverflows (value (tree_of number pool.old)))) }
-    ensures caused { IfErr result (IsCaused pool.new) }
     ensures room { (gs : List ℕ) → Spans gs (value (tree_of sum.now pool.old)) → Spans gs (value (tree_of number pool.old)) → IfErr result (LacksRoom joining_need (free_of pool.old + size (tree_of sum.now pool.old)) gs) }
-    ensures stands { Stands pool.new }
+    ensures safe { IsSafe (sum.now ∷ []) pool.old pool.new result }
 {
     for at in 0..term_count(pool, number) {
         let term = listed_term(pool, number, terms, at);
@@ -131,13 +119,9 @@ fn join_square_row<const N: usize>(
     requires terms { Lists terms.now number (forest pool.old) }
     ensures ok { OnOk result (Gives (without_root sum.now (forest pool.old)) (forest pool.new) sum.now (IsSumOf (value (tree_of sum.now pool.old) ++ square_row (term_of term) (terms_from from (value (tree_of number pool.old)))))) }
     ensures lists { OnOk result (Lists list.new sum.now (forest pool.new)) }
-    ensures front { KeepsFront (sum.now ∷ []) (forest pool.old) (forest pool.new) }
-    ensures kept { OnOk result (KeepsRefusals pool.old pool.new) }
-    ensures faults { IfErr result (Faults pool.old pool.new) }
     ensures overflow { IfErr result (OfOverflow (SquareRowOverflows (tree_of sum.now pool.old) (term_of term) (terms_from from (value (tree_of number pool.old))))) }
-    ensures caused { IfErr result (IsCaused pool.new) }
     ensures room { (gs : List ℕ) → Spans gs (value (tree_of sum.now pool.old)) → IsSpanned gs (term_of term).radicand → Spans gs (value (tree_of number pool.old)) → IfErr result (LacksRoom joining_need (free_of pool.old + size (tree_of sum.now pool.old)) gs) }
-    ensures stands { Stands pool.new }
+    ensures safe { IsSafe (sum.now ∷ []) pool.old pool.new result }
 {
     let square = product(term, term)?;
     join_term(pool, sum, list, square, NOWHERE)?;

@@ -1,19 +1,8 @@
-use Rattle.number_forms.proofs.Shared.{◌≡◌, ℕ, ◌≤◌, ◌∷◌, Some, length, sym, ap, ◌∙◌, arith, add-one, rules, ◌+◌, slice_get, is_number, value, classes, Tree, size, Same-refl, lists_kept, lists_listed}
-use Rattle.number_forms.proofs.Shared.{other_plain, other_read, other_expression, gives_rest, tree_of, term_of, given_other, given_handed, given_told, plain_root, SumOverflows, OfOverflow, passed_on}
-use Rattle.number_forms.proofs.{Shared.{overflow_as, spans_append, free_of, LacksRoom, joining_need}, Loops.{joined_none, joined_more, joined_all, from_all}, Worth.{terms_from, from_next}}
-use Rattle.number_forms.proofs.Rooms.{full_as, spans_from, term_lacks}
-use Rattle.number_forms.proofs.Refusals.{faults_after, none_kept}
-use Rattle.number_forms.proofs.Shared.{behind_first, front_after_one}
-use Rattle.tree_handles.specs.Causes.{IsCaused}
-use Rattle.tree_handles.specs.Faults.{Faults}
+use Rattle.number_forms.proofs.Shared.{◌≡◌, ℕ, ◌≤◌, ◌∷◌, Some, length, sym, ap, ◌∙◌, arith, add-one, rules, ◌+◌, slice_get, is_number, value, classes, Tree, size, Same-refl, lists_kept}
+use Rattle.number_forms.proofs.Shared.{lists_listed, other_plain, other_read, other_expression, gives_rest, tree_of, term_of, given_other, given_handed, given_told, plain_root, SumOverflows}
+use Rattle.number_forms.proofs.{Shared.{OfOverflow, passed_on, overflow_as, spans_append, free_of, LacksRoom, joining_need, behind_first}, Loops.{joined_none, joined_more, joined_all, from_all}}
+use Rattle.number_forms.proofs.{Worth.{terms_from, from_next}, Rooms.{full_as, spans_from, term_lacks}, Refusals.{none_kept}, Safety.{after_one, answered, passed}}
 use Rattle.number_forms.proofs.adding.join_terms.Goals as goal
-
-pub returns-in_err-join_term-clause-room : goal.returns-in_err-join_term-clause-room
-returns-in_err-join_term-clause-room g c = λ gs s t.
-    passed_on c.from_residual.result c.in_err-join_term.field-0.0 (LacksRoom joining_need (free_of c.args.pool.now + size (tree_of c.args.sum.now c.args.pool.now)) gs) c.from_residual.ensures.0 c.from_residual.ensures.1
-    (full_as c.in_err-join_term.field-0.0 c.in_err-join_term.ensures.room
-    (λ full few. term_lacks gs c.loop-at.invariant.joined c.requires.stands (given_handed c.requires.sum) (spans_append gs _ _ s t)
-    (spans_from gs (value (tree_of c.args.number c.args.pool.now)) c.loop-at.at t) few))
 
 pub term_count-at-end-requires-clause-expression : goal.term_count-at-end-requires-clause-expression
 term_count-at-end-requires-clause-expression g c = other_expression c.args.number c.args.pool.now c.requires.stands c.requires.sum c.requires.handed
@@ -38,53 +27,49 @@ loop-at-preserved g c =
     let here : slice_get (value number) c.loop-at.at ≡ Some (term_of c.listed_term-term.result) = ap (λ (t : Tree). slice_get (value t) c.loop-at.at) (sym same) ∙ c.listed_term-term.ensures in
     let next = from_next (value number) c.loop-at.at (term_of c.listed_term-term.result) here
     ∙ ap (λ (n : ℕ). term_of c.listed_term-term.result ∷ terms_from n (value number)) (sym (add-one c.loop-at.at)) in
-    record { joined = joined_more c.args.sum.now _ _ _ _ (term_of c.listed_term-term.result) c.args.pool.now c.loop-at.pool c.join_term.new.pool c.loop-at.invariant.joined next (Same-refl _) (λ d p. p) c.in_ok-join_term.ensures.ok c.join_term.ensures.front c.in_ok-join_term.ensures.kept c.join_term.ensures.stands; lists = c.in_ok-join_term.ensures.lists }
+    record { joined = joined_more c.args.sum.now _ _ _ _ (term_of c.listed_term-term.result) c.args.pool.now c.loop-at.pool c.join_term.new.pool c.loop-at.invariant.joined next (Same-refl _) (λ d p. p) c.in_ok-join_term.ensures.ok c.join_term.ensures.safe.front c.in_ok-join_term.ensures.safe.kept c.join_term.ensures.safe.stands; lists = c.in_ok-join_term.ensures.lists }
 
-pub returns-clause-ok : goal.returns-clause-ok
-returns-clause-ok g c =
-    let all = ap classes (plain_root c.args.number c.requires.stands (given_other c.requires.sum c.requires.handed).root) in
-    let end : length (value (tree_of c.args.number c.args.pool.now)) ≤ c.loop-at.at = omega (arith, all, c.term_count-at-end.ensures, c.loop-at-test.false) in
-    joined_all c.loop-at.invariant.joined (from_all (value (tree_of c.args.number c.args.pool.now)) c.loop-at.at end)
-
-pub returns-in_err-join_term-clause-overflow : goal.returns-in_err-join_term-clause-overflow
-returns-in_err-join_term-clause-overflow g c =
-    let number : Tree = tree_of c.args.number c.args.pool.now in
-    let same = other_read c.args.number c.loop-at.pool c.loop-at.invariant.joined.stands c.loop-at.invariant.joined.gives c.requires.handed
-    ∙ sym (other_plain c.args.number c.requires.sum c.requires.handed.root) in
-    let here : slice_get (value number) c.loop-at.at ≡ Some (term_of c.listed_term-term.result) = ap (λ (t : Tree). slice_get (value t) c.loop-at.at) (sym same) ∙ c.listed_term-term.ensures in
-    let told = given_told c.loop-at.invariant.joined.gives in
-    passed_on c.from_residual.result c.in_err-join_term.field-0.0 (OfOverflow (SumOverflows (value (tree_of c.args.sum.now c.args.pool.now)) (value number))) c.from_residual.ensures.0 c.from_residual.ensures.1
-    (overflow_as c.in_err-join_term.field-0.0 c.in_err-join_term.ensures.overflow (λ o j. record {
-      at = c.loop-at.at;
-      next = term_of c.listed_term-term.result;
-      here = here;
-      partial = tree_of c.args.sum.now c.loop-at.pool;
-      sum = told.sum;
-      worth = told.worth;
-      parts = told.parts;
-      joined = j;
-    }))
-
-pub returns-clause-lists : goal.returns-clause-lists
-returns-clause-lists g c = c.loop-at.invariant.lists
+pub returns : goal.returns
+returns g c =
+    record {
+      ok = let all = ap classes (plain_root c.args.number c.requires.stands (given_other c.requires.sum c.requires.handed).root) in
+          let end : length (value (tree_of c.args.number c.args.pool.now)) ≤ c.loop-at.at = omega (arith, all, c.term_count-at-end.ensures, c.loop-at-test.false) in
+          joined_all c.loop-at.invariant.joined (from_all (value (tree_of c.args.number c.args.pool.now)) c.loop-at.at end);
+      lists = c.loop-at.invariant.lists;
+      overflow = tt;
+      room = λ a b d. tt;
+      safe = let j = c.loop-at.invariant.joined in answered j.front j.kept j.stands;
+    }
 
 pub of-terms-requires : goal.of-terms-requires
 of-terms-requires g c = (search rules, (c.requires.stands, other_expression c.args.number c.args.pool.now c.requires.stands c.requires.sum c.requires.handed))
 
-pub returns-in_err-join_term-clause-ok : goal.returns-in_err-join_term-clause-ok
-returns-in_err-join_term-clause-ok g c = none_kept c.from_residual.result _ c.from_residual.ensures.0
-
-pub returns-in_err-join_term-clause-kept : goal.returns-in_err-join_term-clause-kept
-returns-in_err-join_term-clause-kept g c = none_kept c.from_residual.result _ c.from_residual.ensures.0
-
-pub returns-in_err-join_term-clause-faults : goal.returns-in_err-join_term-clause-faults
-returns-in_err-join_term-clause-faults g c = passed_on c.from_residual.result c.in_err-join_term.field-0.0 (Faults c.args.pool.now c.join_term.new.pool) c.from_residual.ensures.0 c.from_residual.ensures.1 (faults_after _ c.in_err-join_term.field-0.0 c.loop-at.invariant.joined.kept c.in_err-join_term.ensures.faults)
-
-pub returns-in_err-join_term-clause-caused : goal.returns-in_err-join_term-clause-caused
-returns-in_err-join_term-clause-caused g c = passed_on c.from_residual.result c.in_err-join_term.field-0.0 (IsCaused c.join_term.new.pool) c.from_residual.ensures.0 c.from_residual.ensures.1 (c.in_err-join_term.ensures.caused)
-
-pub returns-in_err-join_term-clause-lists : goal.returns-in_err-join_term-clause-lists
-returns-in_err-join_term-clause-lists g c = none_kept c.from_residual.result _ c.from_residual.ensures.0
-
-pub returns-in_err-join_term-clause-front : goal.returns-in_err-join_term-clause-front
-returns-in_err-join_term-clause-front g c = front_after_one behind_first c.loop-at.invariant.joined.front c.join_term.ensures.front
+pub returns-in_err-join_term : goal.returns-in_err-join_term
+returns-in_err-join_term g c =
+    let r = c.from_residual.result in let e = c.in_err-join_term.field-0.0 in let said = c.from_residual.ensures in
+    record {
+      ok = none_kept r _ said.0;
+      lists = none_kept r _ said.0;
+      overflow = let number : Tree = tree_of c.args.number c.args.pool.now in
+          let same = other_read c.args.number c.loop-at.pool c.loop-at.invariant.joined.stands c.loop-at.invariant.joined.gives c.requires.handed
+          ∙ sym (other_plain c.args.number c.requires.sum c.requires.handed.root) in
+          let here : slice_get (value number) c.loop-at.at ≡ Some (term_of c.listed_term-term.result) = ap (λ (t : Tree). slice_get (value t) c.loop-at.at) (sym same) ∙ c.listed_term-term.ensures in
+          let told = given_told c.loop-at.invariant.joined.gives in
+          passed_on r e (OfOverflow (SumOverflows (value (tree_of c.args.sum.now c.args.pool.now)) (value number))) said.0 said.1
+          (overflow_as c.in_err-join_term.field-0.0 c.in_err-join_term.ensures.overflow (λ o j. record {
+            at = c.loop-at.at;
+            next = term_of c.listed_term-term.result;
+            here = here;
+            partial = tree_of c.args.sum.now c.loop-at.pool;
+            sum = told.sum;
+            worth = told.worth;
+            parts = told.parts;
+            joined = j;
+          }));
+      room = λ gs s t.
+          passed_on r e (LacksRoom joining_need (free_of c.args.pool.now + size (tree_of c.args.sum.now c.args.pool.now)) gs) said.0 said.1
+          (full_as c.in_err-join_term.field-0.0 c.in_err-join_term.ensures.room
+          (λ full few. term_lacks gs c.loop-at.invariant.joined c.requires.stands (given_handed c.requires.sum) (spans_append gs _ _ s t)
+          (spans_from gs (value (tree_of c.args.number c.args.pool.now)) c.loop-at.at t) few));
+      safe = let j = c.loop-at.invariant.joined in after_one j.kept behind_first j.front (passed r e said.0 said.1 c.in_err-join_term.ensures.safe);
+    }

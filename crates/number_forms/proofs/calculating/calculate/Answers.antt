@@ -1,5 +1,6 @@
+use Rattle.number_forms.proofs.{Shared.{◌&&◌, ap, sym, ◌∙◌, is_num}, Kept.{no_neutral}}
+use Rattle.number_forms.proofs.calculating.calculate.Goals.{else-is_rational-via-then-is_rational+else-is_rational-2, else-is_rational-via-else-is_rational}
 use Rattle.std.proofs.lemmas.Bool.{false≢true}
-use Rattle.number_forms.proofs.{Kept.{no_neutral}, Shared.{◌&&◌, ap, sym, ◌∙◌, is_num}, calculating.calculate.Goals.{else-is_rational-via-then-is_rational+else-is_rational-2, else-is_rational-via-else-is_rational}}
 use Rattle.number_forms.proofs.calculating.calculate.Goals as goal
 
 pub returns-else-is_rational-clause-rationals : goal.returns-else-is_rational-clause-rationals

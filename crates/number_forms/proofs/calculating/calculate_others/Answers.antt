@@ -1,15 +1,10 @@
 use Rattle.number_forms.proofs.Shared.{◌≡◌, ◌≤◌, ◌+◌, ◌*◌, ◌∙◌, List, [], ◌∷◌, length, inl, sym, ap, subst, arith, rules, IfErr, IsHanded, IsNumberOver, KeepsFront, behind_first, behind_later}
-use Rattle.number_forms.proofs.Shared.{both_released_free, eqb-sym, forest, free_of, front_after, front_at, front_same, front_without, gives_as, handed_at, handed_beside, kept_after, owned, passed_on}
-use Rattle.number_forms.proofs.{Shared.{tree_of, value, without-swap, without_root, LacksJointRoom, both, number_tree, Joint}, ListedTerms.{number_over}}
-use Rattle.number_forms.proofs.calculating.calculate_others.Goals.{After-release, After-release-then-has_room}
+use Rattle.number_forms.proofs.Shared.{both_released_free, eqb-sym, forest, free_of, front_at, front_same, front_without, gives_as, handed_at, handed_beside, kept_after, owned, passed_on, tree_of}
+use Rattle.number_forms.proofs.{Shared.{value, without-swap, without_root, LacksJointRoom, both, number_tree, Joint, Gives, IfOk, OfOverflow}, ListedTerms.{number_over}}
+use Rattle.number_forms.proofs.{calculating.calculate_others.Goals.{After-release, After-release-then-has_room}, Refusals.{none_given}, Safety.{after, answer_of, passed_full}}
 use Rattle.surd_terms.specs.declared.term.Term.{Term}
-use Rattle.tree_handles.specs.declared.fault.NumberFault.TheVariants as fault
-use Rattle.number_forms.proofs.Refusals.{none_given, none_kept}
-use Rattle.number_forms.proofs.Shared.{Gives, IfOk, OfOverflow}
 use Rattle.number_forms.specs.Joints.{JointOverflows}
-use Rattle.tree_handles.proofs.Refused.{refuses_after}
-use Rattle.tree_handles.specs.Causes.{IsCaused}
-use Rattle.tree_handles.specs.Faults.{Faults}
+use Rattle.tree_handles.specs.declared.fault.NumberFault.TheVariants as fault
 use Rattle.number_forms.proofs.calculating.calculate_others.Goals as goal
 
 -- ---- both are gone
@@ -28,31 +23,6 @@ front c = front_at (front_without (behind_later behind_first) (front_without beh
 pub release-requires-then-has_room-clause-releasable : goal.release-requires-then-has_room-clause-releasable
 release-requires-then-has_room-clause-releasable c = inl (first (goal.at.release-requires-then-has_room-clause-releasable c).After-release).root
 
-pub returns-in_err-place_terms-clause-front : goal.returns-in_err-place_terms-clause-front
-returns-in_err-place_terms-clause-front c =
-    front_after (front (goal.at.returns-in_err-place_terms-clause-front c).After-release-then-has_room) c.place_terms.ensures.front
-
-pub returns-then-has_room-clause-front : goal.returns-then-has_room-clause-front
-returns-then-has_room-clause-front c =
-    front_after (front (goal.at.returns-then-has_room-clause-front c).After-release-then-has_room) c.place_terms.ensures.front
-
-pub returns-in_err-place_terms-clause-room : goal.returns-in_err-place_terms-clause-room
-returns-in_err-place_terms-clause-room c = λ gs s t.
-    let kept = kept_after c.release.ensures.kept c.release-then-has_room.ensures.kept in
-    let both_gone = gone (goal.at.returns-in_err-place_terms-clause-room c).After-release-then-has_room in
-    let free = both_released_free c.requires.stands c.release-then-has_room.ensures.stands kept c.requires.apart c.requires.first c.requires.second both_gone in
-    let enough : 40 + 96 * length c.as_slice.result.now ≤ free_of c.args.pool.now = c.has_room.ensures.0 (search rules) in
-    let same : c.as_slice.result.now ≡ c.as_slice-then-has_room.result.now = c.as_slice.ensures.value ∙ sym c.as_slice-then-has_room.ensures.value in
-    passed_on c.from_residual.result (fault.Full c.in_err-place_terms.field-0.0) (LacksJointRoom c.args.joint c.args.a c.args.b c.args.pool.now gs) c.from_residual.ensures.0 c.from_residual.ensures.1
-    (absurd (omega (arith, free, enough, ap (λ (ts : List Term). length ts) same, c.in_err-place_terms.ensures.room)))
-
-pub returns-then-has_room-clause-ok : goal.returns-then-has_room-clause-ok
-returns-then-has_room-clause-ok c =
-    let v = both c.args.joint (value (tree_of c.args.a c.args.pool.now)) (value (tree_of c.args.b c.args.pool.now)) in
-    let terms = c.calculate_values.ensures (search rules) in
-    gives_as c.in_ok-place_terms.ensures.ok (gone (goal.at.returns-then-has_room-clause-ok c).After-release-then-has_room)
-    (λ t e. subst (IsNumberOver v) (sym (e ∙ ap number_tree c.as_slice-then-has_room.ensures.value)) (number_over _ terms))
-
 pub returns-in-Sum-clause-room : goal.returns-in-Sum-clause-room
 returns-in-Sum-clause-room c = λ gs s t.
     subst (λ (j : Joint). IfErr c.add_others.result (LacksJointRoom j c.args.a c.args.b c.args.pool.now gs)) (sym c.in-Sum.is) (c.add_others.ensures.room gs s t)
@@ -61,20 +31,34 @@ pub returns-in-Product-clause-room : goal.returns-in-Product-clause-room
 returns-in-Product-clause-room c = λ gs s t.
     subst (λ (j : Joint). IfErr c.multiply_others.result (LacksJointRoom j c.args.a c.args.b c.args.pool.now gs)) (sym c.in-Product.is) (c.multiply_others.ensures.room gs s t)
 
-pub returns-in_err-place_terms-clause-ok : goal.returns-in_err-place_terms-clause-ok
-returns-in_err-place_terms-clause-ok c = none_given c.from_residual.result _ c.from_residual.ensures.0
+pub returns-in_err-place_terms : goal.returns-in_err-place_terms
+returns-in_err-place_terms c =
+    let r = c.from_residual.result in let e = fault.Full c.in_err-place_terms.field-0.0 in let said = c.from_residual.ensures in
+    record {
+      ok = none_given r _ said.0;
+      overflow = search rules;
+      room = λ gs s t.
+          let kept = kept_after c.release.ensures.kept c.release-then-has_room.ensures.kept in
+          let both_gone = gone (goal.at.returns-in_err-place_terms c).After-release-then-has_room in
+          let free = both_released_free c.requires.stands c.release-then-has_room.ensures.stands kept c.requires.apart c.requires.first c.requires.second both_gone in
+          let enough : 40 + 96 * length c.as_slice.result.now ≤ free_of c.args.pool.now = c.has_room.ensures.0 (search rules) in
+          let same : c.as_slice.result.now ≡ c.as_slice-then-has_room.result.now = c.as_slice.ensures.value ∙ sym c.as_slice-then-has_room.ensures.value in
+          passed_on r e (LacksJointRoom c.args.joint c.args.a c.args.b c.args.pool.now gs) said.0 said.1
+          (absurd (omega (arith, free, enough, ap (λ (ts : List Term). length ts) same, c.in_err-place_terms.ensures.room)));
+      safe = after (kept_after c.release.ensures.kept c.release-then-has_room.ensures.kept) (front (goal.at.returns-in_err-place_terms c).After-release-then-has_room) (passed_full r c.in_err-place_terms.field-0.0 said.0 said.1 c.in_err-place_terms.ensures.safe);
+    }
 
-pub returns-in_err-place_terms-clause-kept : goal.returns-in_err-place_terms-clause-kept
-returns-in_err-place_terms-clause-kept c = none_kept c.from_residual.result _ c.from_residual.ensures.0
-
-pub returns-in_err-place_terms-clause-faults : goal.returns-in_err-place_terms-clause-faults
-returns-in_err-place_terms-clause-faults c = passed_on c.from_residual.result (fault.Full c.in_err-place_terms.field-0.0) (Faults c.args.pool.now c.place_terms.new.pool) c.from_residual.ensures.0 c.from_residual.ensures.1 (refuses_after (kept_after c.release.ensures.kept c.release-then-has_room.ensures.kept) c.in_err-place_terms.ensures.full)
-
-pub returns-in_err-place_terms-clause-caused : goal.returns-in_err-place_terms-clause-caused
-returns-in_err-place_terms-clause-caused c = passed_on c.from_residual.result (fault.Full c.in_err-place_terms.field-0.0) (IsCaused c.place_terms.new.pool) c.from_residual.ensures.0 c.from_residual.ensures.1 (c.in_err-place_terms.ensures.caused)
-
-pub returns-then-has_room-clause-kept : goal.returns-then-has_room-clause-kept
-returns-then-has_room-clause-kept c = kept_after c.release.ensures.kept (kept_after c.release-then-has_room.ensures.kept c.in_ok-place_terms.ensures.kept)
+pub returns-then-has_room : goal.returns-then-has_room
+returns-then-has_room c =
+    record {
+      ok = let v = both c.args.joint (value (tree_of c.args.a c.args.pool.now)) (value (tree_of c.args.b c.args.pool.now)) in
+          let terms = c.calculate_values.ensures (search rules) in
+          gives_as c.in_ok-place_terms.ensures.ok (gone (goal.at.returns-then-has_room c).After-release-then-has_room)
+          (λ t e. subst (IsNumberOver v) (sym (e ∙ ap number_tree c.as_slice-then-has_room.ensures.value)) (number_over _ terms));
+      overflow = tt;
+      room = λ a b d. tt;
+      safe = after (kept_after c.release.ensures.kept c.release-then-has_room.ensures.kept) (front (goal.at.returns-then-has_room c).After-release-then-has_room) (answer_of c.in_ok-place_terms.ensures.safe);
+    }
 
 pub returns-in-Sum-clause-ok : goal.returns-in-Sum-clause-ok
 returns-in-Sum-clause-ok c = subst (λ (j : Joint). IfOk c.add_others.result (λ h. Gives (without_root c.args.b (without_root c.args.a (forest c.args.pool.now))) (forest c.add_others.new.pool) h (IsNumberOver (both j (value (tree_of c.args.a c.args.pool.now)) (value (tree_of c.args.b c.args.pool.now)))))) (sym c.in-Sum.is) c.add_others.ensures.ok

@@ -1,5 +1,5 @@
-use Rattle.number_forms.proofs.{Shared.{refl, subst, sym, ◌∙◌, IfErr, tree_of, gives_as, without-swap, LacksJointRoom, Joint}, Kept.{with_neutral, neutral_with}}
-use Rattle.number_forms.proofs.Shared.{Gives, IfOk, IsNumberOver, OfOverflow, both, forest, value, without_root}
+use Rattle.number_forms.proofs.Shared.{refl, subst, sym, ◌∙◌, IfErr, tree_of, gives_as, without-swap, LacksJointRoom, Joint, Gives, IfOk, IsNumberOver, OfOverflow, both, forest, value, without_root}
+use Rattle.number_forms.proofs.{Shared.{behind_first, behind_later, front_same, front_after_two}, Kept.{with_neutral, neutral_with}, Safety.{answered}}
 use Rattle.number_forms.specs.Joints.{JointOverflows}
 use Rattle.number_forms.proofs.calculating.calculate_terms.Goals as goal
 
@@ -36,3 +36,9 @@ returns-in-Product-clause-first_neutral c = λ h. absurd (cc (c.is_neutral.ensur
 
 pub returns-in-Product-clause-second_neutral : goal.returns-in-Product-clause-second_neutral
 returns-in-Product-clause-second_neutral c = λ k h. absurd (cc (c.is_neutral-else-is_neutral.ensures, c.if-is_neutral-2.false, h))
+
+pub returns-then-is_neutral-clause-safe : goal.returns-then-is_neutral-clause-safe
+returns-then-is_neutral-clause-safe c = answered c.keep_other.ensures.front c.keep_other.ensures.kept c.keep_other.ensures.stands
+
+pub returns-then-is_neutral-2-clause-safe : goal.returns-then-is_neutral-2-clause-safe
+returns-then-is_neutral-2-clause-safe c = answered (front_after_two (behind_later behind_first) behind_first front_same c.keep_other-then-is_neutral-2.ensures.front) c.keep_other-then-is_neutral-2.ensures.kept c.keep_other-then-is_neutral-2.ensures.stands

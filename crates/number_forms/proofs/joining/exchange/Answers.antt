@@ -1,15 +1,7 @@
 use Rattle.number_forms.proofs.Shared.{rules, ◌≡◌, ◌<◌, ◌≤◌, true, refl, sym, ap, subst, arith, Tree, count, is_add, term_of, Full, free_of, passed_on, Forest, Gives, children_of, without_root}
 use Rattle.number_forms.proofs.Shared.{lists_behind, given_rest, given_root, given_told, gives_as, gives_rest, other_plain, behind_first, behind_new, front_same, front_after, front_after_two}
-use Rattle.number_forms.proofs.{Exchanged.{exchanged_in}, LastSums.{sum_add}}
-use Rattle.number_forms.proofs.Refusals.{none_kept}
-use Rattle.number_forms.proofs.Shared.{kept_after}
-use Rattle.tree_handles.specs.Standing.{LacksBytes, Refuses}
+use Rattle.number_forms.proofs.{Shared.{kept_after}, Exchanged.{exchanged_in}, LastSums.{sum_add}, Refusals.{none_kept}, Safety.{lacked, placed}}
 use Rattle.number_forms.proofs.joining.exchange.Goals as goal
-
-pub returns-in_err-new-clause-room : goal.returns-in_err-new-clause-room
-returns-in_err-new-clause-room g c =
-    let lacking : 96 ≤ free_of c.args.pool.now → ⊥ = λ enough. absurd (cc (c.in_err-new.ensures.room enough)) in
-    passed_on c.from_residual.result c.in_err-new.field-0.0 (λ (full : Full). free_of c.args.pool.now < 96) c.from_residual.ensures.0 c.from_residual.ensures.1 (omega (arith, lacking))
 
 pub exchange_child-requires : goal.exchange_child-requires
 exchange_child-requires g c =
@@ -25,26 +17,16 @@ returns-clause-ok g c =
     gives_as c.exchange_child.ensures.sum (ap (without_root c.args.sum.now) (given_rest p))
     (λ u h. exchanged_in c.args.at _ (term_of c.args.term) (given_told c.requires.sum) same (given_told p) c.args.term.positive c.requires.within c.requires.radicand c.requires.apart h)
 
-pub returns-clause-front : goal.returns-clause-front
-returns-clause-front g c = front_after_two behind_first (behind_new c.in_ok-new.ensures.ok.ends front_same) (front_after front_same c.place_term.ensures.front) c.exchange_child.ensures.front
+pub returns-in_err-new : goal.returns-in_err-new
+returns-in_err-new g c =
+    let r = c.from_residual.result in let e = c.in_err-new.field-0.0 in let said = c.from_residual.ensures in
+    record {
+      ok = none_kept r _ said.0;
+      lists = none_kept r _ said.0;
+      room = let lacking : 96 ≤ free_of c.args.pool.now → ⊥ = λ enough. absurd (cc (c.in_err-new.ensures.room enough)) in
+          passed_on r e (λ (full : Full). free_of c.args.pool.now < 96) said.0 said.1 (omega (arith, lacking));
+      safe = lacked r e said.0 said.1 (front_after front_same c.place_term.ensures.front) c.in_err-new.ensures.full c.in_err-new.ensures.caused c.place_term.ensures.stands;
+    }
 
-pub returns-in_err-new-clause-ok : goal.returns-in_err-new-clause-ok
-returns-in_err-new-clause-ok g c = none_kept c.from_residual.result _ c.from_residual.ensures.0
-
-pub returns-in_err-new-clause-kept : goal.returns-in_err-new-clause-kept
-returns-in_err-new-clause-kept g c = none_kept c.from_residual.result _ c.from_residual.ensures.0
-
-pub returns-in_err-new-clause-full : goal.returns-in_err-new-clause-full
-returns-in_err-new-clause-full g c = passed_on c.from_residual.result c.in_err-new.field-0.0 (Refuses c.args.pool.now c.place_term.new.pool) c.from_residual.ensures.0 c.from_residual.ensures.1 (c.in_err-new.ensures.full)
-
-pub returns-in_err-new-clause-caused : goal.returns-in_err-new-clause-caused
-returns-in_err-new-clause-caused g c = passed_on c.from_residual.result c.in_err-new.field-0.0 (LacksBytes c.place_term.new.pool) c.from_residual.ensures.0 c.from_residual.ensures.1 (c.in_err-new.ensures.caused)
-
-pub returns-in_err-new-clause-lists : goal.returns-in_err-new-clause-lists
-returns-in_err-new-clause-lists g c = none_kept c.from_residual.result _ c.from_residual.ensures.0
-
-pub returns-in_err-new-clause-front : goal.returns-in_err-new-clause-front
-returns-in_err-new-clause-front g c = front_after front_same c.place_term.ensures.front
-
-pub returns-clause-kept : goal.returns-clause-kept
-returns-clause-kept g c = kept_after c.in_ok-new.ensures.kept c.exchange_child.ensures.kept
+pub returns-clause-safe : goal.returns-clause-safe
+returns-clause-safe g c = placed (front_after_two behind_first (behind_new c.in_ok-new.ensures.ok.ends front_same) (front_after front_same c.place_term.ensures.front) c.exchange_child.ensures.front) (kept_after c.in_ok-new.ensures.kept c.exchange_child.ensures.kept) c.exchange_child.ensures.stands

@@ -1,15 +1,7 @@
 use Rattle.number_forms.proofs.Shared.{rules, ◌≡◌, ◌<◌, ◌≤◌, true, refl, sym, ap, subst, arith, Tree, count, is_add, term_of, Full, free_of, passed_on, Forest, Gives, children_of, without_root}
 use Rattle.number_forms.proofs.Shared.{lists_behind, given_rest, given_root, given_told, gives_as, gives_rest, other_plain, behind_first, behind_new, front_same, front_after, front_after_two}
-use Rattle.number_forms.proofs.{LastSums.{sum_add}, SumChanges.{inserted_in}}
-use Rattle.number_forms.proofs.Refusals.{none_kept}
-use Rattle.number_forms.proofs.Shared.{kept_after}
-use Rattle.tree_handles.specs.Standing.{LacksBytes, Refuses}
+use Rattle.number_forms.proofs.{Shared.{kept_after}, LastSums.{sum_add}, SumChanges.{inserted_in}, Refusals.{none_kept}, Safety.{lacked, placed}}
 use Rattle.number_forms.proofs.joining.insert.Goals as goal
-
-pub returns-in_err-child-clause-room : goal.returns-in_err-child-clause-room
-returns-in_err-child-clause-room g c =
-    let lacking : 96 ≤ free_of c.args.pool.now → ⊥ = λ enough. absurd (cc (c.in_err-child.ensures.room enough)) in
-    passed_on c.from_residual.result c.in_err-child.field-0.0 (λ (full : Full). free_of c.args.pool.now < 96) c.from_residual.ensures.0 c.from_residual.ensures.1 (omega (arith, lacking))
 
 pub insert_child-requires : goal.insert_child-requires
 insert_child-requires g c =
@@ -25,26 +17,16 @@ returns-clause-ok g c =
     gives_as c.insert_child.ensures.sum (ap (without_root c.args.sum.now) (given_rest p))
     (λ u h. inserted_in c.args.at _ (term_of c.args.term) (given_told c.requires.sum) same (given_told p) c.args.term.positive c.requires.apart c.requires.place h)
 
-pub returns-clause-front : goal.returns-clause-front
-returns-clause-front g c = front_after_two behind_first (behind_new c.in_ok-child.ensures.ok.ends front_same) (front_after front_same c.place_term.ensures.front) c.insert_child.ensures.front
+pub returns-in_err-child : goal.returns-in_err-child
+returns-in_err-child g c =
+    let r = c.from_residual.result in let e = c.in_err-child.field-0.0 in let said = c.from_residual.ensures in
+    record {
+      ok = none_kept r _ said.0;
+      lists = none_kept r _ said.0;
+      room = let lacking : 96 ≤ free_of c.args.pool.now → ⊥ = λ enough. absurd (cc (c.in_err-child.ensures.room enough)) in
+          passed_on r e (λ (full : Full). free_of c.args.pool.now < 96) said.0 said.1 (omega (arith, lacking));
+      safe = lacked r e said.0 said.1 (front_after front_same c.place_term.ensures.front) c.in_err-child.ensures.full c.in_err-child.ensures.caused c.place_term.ensures.stands;
+    }
 
-pub returns-in_err-child-clause-ok : goal.returns-in_err-child-clause-ok
-returns-in_err-child-clause-ok g c = none_kept c.from_residual.result _ c.from_residual.ensures.0
-
-pub returns-in_err-child-clause-kept : goal.returns-in_err-child-clause-kept
-returns-in_err-child-clause-kept g c = none_kept c.from_residual.result _ c.from_residual.ensures.0
-
-pub returns-in_err-child-clause-full : goal.returns-in_err-child-clause-full
-returns-in_err-child-clause-full g c = passed_on c.from_residual.result c.in_err-child.field-0.0 (Refuses c.args.pool.now c.place_term.new.pool) c.from_residual.ensures.0 c.from_residual.ensures.1 (c.in_err-child.ensures.full)
-
-pub returns-in_err-child-clause-caused : goal.returns-in_err-child-clause-caused
-returns-in_err-child-clause-caused g c = passed_on c.from_residual.result c.in_err-child.field-0.0 (LacksBytes c.place_term.new.pool) c.from_residual.ensures.0 c.from_residual.ensures.1 (c.in_err-child.ensures.caused)
-
-pub returns-in_err-child-clause-lists : goal.returns-in_err-child-clause-lists
-returns-in_err-child-clause-lists g c = none_kept c.from_residual.result _ c.from_residual.ensures.0
-
-pub returns-in_err-child-clause-front : goal.returns-in_err-child-clause-front
-returns-in_err-child-clause-front g c = front_after front_same c.place_term.ensures.front
-
-pub returns-clause-kept : goal.returns-clause-kept
-returns-clause-kept g c = kept_after c.in_ok-child.ensures.kept c.insert_child.ensures.kept
+pub returns-clause-safe : goal.returns-clause-safe
+returns-clause-safe g c = placed (front_after_two behind_first (behind_new c.in_ok-child.ensures.ok.ends front_same) (front_after front_same c.place_term.ensures.front) c.insert_child.ensures.front) (kept_after c.in_ok-child.ensures.kept c.insert_child.ensures.kept) c.insert_child.ensures.stands

@@ -1,10 +1,7 @@
 use Rattle.number_forms.proofs.Shared.{rules, ◌≡◌, ◌<◌, ◌∷◌, OnOk, refl, sym, ap, ◌∙◌, subst, value, terms_of, Surd, Tree, count, IsSumOf, IsApart, removed, lists_at, term_of, children_of, nth}
-use Rattle.number_forms.proofs.{Shared.{Forest, tree_of, Gives, without_root, forest, given_handed, given_told, given_rest, gives_as, expression, seen}, LastSums.{sum_add}}
-use Rattle.number_forms.proofs.SumChanges.{read_sum, read_place, removed_is_sum}
+use Rattle.number_forms.proofs.Shared.{Forest, tree_of, Gives, without_root, forest, given_handed, given_told, given_rest, gives_as, expression, seen, behind_first, front_after_one}
+use Rattle.number_forms.proofs.{LastSums.{sum_add}, SumChanges.{read_sum, read_place, removed_is_sum}, Safety.{then_placing}}
 use Rattle.calc_algebra.specs.Numbers.{term_of as term_of_tree}
-use Rattle.number_forms.proofs.Refusals.{keeps_on}
-use Rattle.number_forms.proofs.Rooms.{refusal_as}
-use Rattle.tree_handles.proofs.Refused.{refuses_after}
 use Rattle.number_forms.proofs.joining.replace.Goals as goal
 
 pub radicand_at-requires : goal.radicand_at-requires
@@ -41,8 +38,5 @@ returns-else-stays-clause-ok g c =
     (subst (λ (f : Forest). OnOk c.insert.result (Gives f (forest c.insert.new.pool) c.args.sum.now (IsSumOf (term_of c.args.term ∷ value (tree_of c.args.sum.now c.remove_child.new.pool)))))
     (given_rest rest) c.insert.ensures.ok)
 
-pub returns-else-stays-clause-kept : goal.returns-else-stays-clause-kept
-returns-else-stays-clause-kept g c = keeps_on _ c.insert.result c.remove_child.ensures.kept c.insert.ensures.kept
-
-pub returns-else-stays-clause-full : goal.returns-else-stays-clause-full
-returns-else-stays-clause-full g c = refusal_as c.insert.result c.insert.ensures.full (λ e f. refuses_after c.remove_child.ensures.kept f)
+pub returns-else-stays-clause-safe : goal.returns-else-stays-clause-safe
+returns-else-stays-clause-safe g c = then_placing c.remove_child.ensures.kept (front_after_one behind_first c.remove_child.ensures.front c.insert.ensures.safe.front) c.insert.ensures.safe

@@ -1,28 +1,11 @@
 use Rattle.number_forms.proofs.Shared.{◌≡◌, ℕ, ◌≤◌, ◌∷◌, Some, length, map, sym, ap, ◌∙◌, arith, add-one, rules, ◌+◌, ◌-◌, inl, inr, slice_get, is_number, value, classes, term_times, Tree, size}
-use Rattle.number_forms.proofs.Shared.{Same-refl, other_plain, other_read, other_expression, gives_rest, lists_at, lists_kept, behind_first, front_after_one, tree_of, term_of, given_handed}
-use Rattle.number_forms.proofs.Shared.{given_other, given_told, plain_root, RowOverflows, OfOverflow, passed_on, overflow_as, spans_append, spans_row, free_of, LacksRoom, joining_need, expression}
+use Rattle.number_forms.proofs.Shared.{Same-refl, other_plain, other_read, other_expression, gives_rest, lists_at, lists_kept, behind_first, tree_of, term_of, given_handed, given_other, given_told}
+use Rattle.number_forms.proofs.Shared.{plain_root, RowOverflows, OfOverflow, passed_on, overflow_as, spans_append, spans_row, free_of, LacksRoom, joining_need, expression}
 use Rattle.number_forms.proofs.{Denominators.{parts_extracted}, Loops.{joined_none, joined_more, joined_all, from_all}, Worth.{terms_from, products_next, same_first, get_from, from_from}}
 use Rattle.number_forms.proofs.{SumChanges.{read_sum}, Rows.{product_join_overflows}, Rooms.{full_as, spans_from, term_lacks}, multiplying.join_products.Goals.{After-listed_term-other}}
-use Rattle.number_forms.proofs.multiplying.join_products.Given.{Over}
+use Rattle.number_forms.proofs.{multiplying.join_products.Given.{Over}, Refusals.{none_kept}, Safety.{after_one, answered, overflowed, passed}}
 use Rattle.tree_handles.specs.declared.fault.NumberFault.TheVariants as fault
-use Rattle.number_forms.proofs.Refusals.{faults_after, none_kept}
-use Rattle.tree_handles.specs.Causes.{IsCaused}
-use Rattle.tree_handles.specs.Faults.{Faults}
 use Rattle.number_forms.proofs.multiplying.join_products.Goals as goal
-
-pub returns-in_err-product-clause-room : goal.returns-in_err-product-clause-room
-returns-in_err-product-clause-room g c = λ gs s x t.
-    passed_on c.from_residual.result (fault.Overflow c.in_err-product.field-0.0)
-    (LacksRoom joining_need (free_of c.args.pool.now + size (tree_of c.args.sum.now c.args.pool.now)) gs) c.from_residual.ensures.0 c.from_residual.ensures.1 tt
-
-pub returns-in_err-join_term-clause-room : goal.returns-in_err-join_term-clause-room
-returns-in_err-join_term-clause-room g c = λ gs s x t.
-    let v = value (tree_of c.args.number c.args.pool.now) in
-    let row = spans_row gs (term_of c.args.term) (terms_from c.args.from v) x (spans_from gs v c.args.from t) in
-    let left = spans_row gs (term_of c.args.term) (terms_from c.loop-at.at v) x (spans_from gs v c.loop-at.at t) in
-    passed_on c.from_residual-in_err-join_term.result c.in_err-join_term.field-0.0
-    (LacksRoom joining_need (free_of c.args.pool.now + size (tree_of c.args.sum.now c.args.pool.now)) gs) c.from_residual-in_err-join_term.ensures.0 c.from_residual-in_err-join_term.ensures.1
-    (full_as c.in_err-join_term.field-0.0 c.in_err-join_term.ensures.room (λ full few. term_lacks gs c.loop-at.invariant.joined c.requires.stands (given_handed c.requires.sum) (spans_append gs _ _ s row) left few))
 
 pub term_count-at-end-requires-clause-expression : goal.term_count-at-end-requires-clause-expression
 term_count-at-end-requires-clause-expression g c = other_expression c.args.number c.args.pool.now c.requires.stands c.requires.sum c.requires.handed
@@ -55,16 +38,10 @@ loop-at-preserved g c =
       joined = joined_more c.args.sum.now _ _ _ _ (term_times x y) c.args.pool.now c.loop-at.pool c.join_term.new.pool c.loop-at.invariant.joined next
           (same_first (term_of c.in_ok-product.product) (term_times x y) _ _ c.in_ok-product.ensures.product (Same-refl _))
           (parts_extracted (term_of c.in_ok-product.product) (term_times x y) _ c.in_ok-product.ensures.extracted)
-          c.in_ok-join_term.ensures.ok c.join_term.ensures.front c.in_ok-join_term.ensures.kept c.join_term.ensures.stands;
+          c.in_ok-join_term.ensures.ok c.join_term.ensures.safe.front c.in_ok-join_term.ensures.safe.kept c.join_term.ensures.safe.stands;
       begun = omega (arith, c.loop-at.invariant.begun);
       lists = c.in_ok-join_term.ensures.lists;
     }
-
-pub returns-clause-ok : goal.returns-clause-ok
-returns-clause-ok g c =
-    let all = ap classes (plain_root c.args.number c.requires.stands (given_other c.requires.sum c.requires.handed).root) in
-    let end : length (value (tree_of c.args.number c.args.pool.now)) ≤ c.loop-at.at = omega (arith, all, c.term_count-at-end.ensures, c.loop-at-test.false) in
-    joined_all c.loop-at.invariant.joined (ap (map (term_times (term_of c.args.term))) (from_all (value (tree_of c.args.number c.args.pool.now)) c.loop-at.at end))
 
 -- the place among the terms from the first on
 here : (g : Over) (c : After-listed_term-other g) → c.args.from ≤ c.loop-at.at
@@ -75,58 +52,56 @@ here g c begun =
     ∙ sym (other_plain c.args.number c.requires.sum c.requires.handed.root) in
     get_from c.args.from c.loop-at.at v begun ∙ ap (λ (t : Tree). slice_get (value t) c.loop-at.at) (sym same) ∙ c.listed_term-other.ensures
 
-pub returns-in_err-product-clause-overflow : goal.returns-in_err-product-clause-overflow
-returns-in_err-product-clause-overflow g c =
-    passed_on c.from_residual.result (fault.Overflow c.in_err-product.field-0.0)
-    (OfOverflow (RowOverflows (value (tree_of c.args.sum.now c.args.pool.now)) (term_of c.args.term) (terms_from c.args.from (value (tree_of c.args.number c.args.pool.now))))) c.from_residual.ensures.0 c.from_residual.ensures.1
-    (record { at = c.loop-at.at - c.args.from; other = term_of c.listed_term-other.result; here = here g (goal.at.returns-in_err-product-clause-overflow g c).After-listed_term-other c.loop-at.invariant.begun; cause = inl c.in_err-product.ensures.overflow })
+pub returns : goal.returns
+returns g c =
+    record {
+      ok = let all = ap classes (plain_root c.args.number c.requires.stands (given_other c.requires.sum c.requires.handed).root) in
+          let end : length (value (tree_of c.args.number c.args.pool.now)) ≤ c.loop-at.at = omega (arith, all, c.term_count-at-end.ensures, c.loop-at-test.false) in
+          joined_all c.loop-at.invariant.joined (ap (map (term_times (term_of c.args.term))) (from_all (value (tree_of c.args.number c.args.pool.now)) c.loop-at.at end));
+      lists = c.loop-at.invariant.lists;
+      overflow = tt;
+      room = λ a b d f. tt;
+      safe = let j = c.loop-at.invariant.joined in answered j.front j.kept j.stands;
+    }
 
-pub returns-in_err-join_term-clause-overflow : goal.returns-in_err-join_term-clause-overflow
-returns-in_err-join_term-clause-overflow g c =
-    let v = value (tree_of c.args.number c.args.pool.now) in
-    let told = given_told c.loop-at.invariant.joined.gives in
-    let left : terms_from (c.loop-at.at - c.args.from) (terms_from c.args.from v) ≡ terms_from c.loop-at.at v = from_from c.args.from c.loop-at.at v c.loop-at.invariant.begun in
-    passed_on c.from_residual-in_err-join_term.result c.in_err-join_term.field-0.0
-    (OfOverflow (RowOverflows (value (tree_of c.args.sum.now c.args.pool.now)) (term_of c.args.term) (terms_from c.args.from v))) c.from_residual-in_err-join_term.ensures.0 c.from_residual-in_err-join_term.ensures.1
-    (overflow_as c.in_err-join_term.field-0.0 c.in_err-join_term.ensures.overflow (λ o j. record {
-      at = c.loop-at.at - c.args.from;
-      other = term_of c.listed_term-other.result;
-      here = here g (goal.at.returns-in_err-join_term-clause-overflow g c).After-listed_term-other c.loop-at.invariant.begun;
-      cause = inr (product_join_overflows (sym left) (term_of c.in_ok-product.product) (tree_of c.args.sum.now c.loop-at.pool) c.in_ok-product.ensures.extracted told j);
-    }))
+pub returns-in_err-join_term : goal.returns-in_err-join_term
+returns-in_err-join_term g c =
+    let r = c.from_residual-in_err-join_term.result in let e = c.in_err-join_term.field-0.0 in let said = c.from_residual-in_err-join_term.ensures in
+    record {
+      ok = none_kept r _ said.0;
+      lists = none_kept r _ said.0;
+      overflow = let v = value (tree_of c.args.number c.args.pool.now) in
+          let told = given_told c.loop-at.invariant.joined.gives in
+          let left : terms_from (c.loop-at.at - c.args.from) (terms_from c.args.from v) ≡ terms_from c.loop-at.at v = from_from c.args.from c.loop-at.at v c.loop-at.invariant.begun in
+          passed_on r e
+          (OfOverflow (RowOverflows (value (tree_of c.args.sum.now c.args.pool.now)) (term_of c.args.term) (terms_from c.args.from v))) said.0 said.1
+          (overflow_as c.in_err-join_term.field-0.0 c.in_err-join_term.ensures.overflow (λ o j. record {
+            at = c.loop-at.at - c.args.from;
+            other = term_of c.listed_term-other.result;
+            here = here g (goal.at.returns-in_err-join_term g c).After-listed_term-other c.loop-at.invariant.begun;
+            cause = inr (product_join_overflows (sym left) (term_of c.in_ok-product.product) (tree_of c.args.sum.now c.loop-at.pool) c.in_ok-product.ensures.extracted told j);
+          }));
+      room = λ gs s x t.
+          let v = value (tree_of c.args.number c.args.pool.now) in
+          let row = spans_row gs (term_of c.args.term) (terms_from c.args.from v) x (spans_from gs v c.args.from t) in
+          let left = spans_row gs (term_of c.args.term) (terms_from c.loop-at.at v) x (spans_from gs v c.loop-at.at t) in
+          passed_on r e
+          (LacksRoom joining_need (free_of c.args.pool.now + size (tree_of c.args.sum.now c.args.pool.now)) gs) said.0 said.1
+          (full_as c.in_err-join_term.field-0.0 c.in_err-join_term.ensures.room (λ full few. term_lacks gs c.loop-at.invariant.joined c.requires.stands (given_handed c.requires.sum) (spans_append gs _ _ s row) left few));
+      safe = let j = c.loop-at.invariant.joined in after_one j.kept behind_first j.front (passed r e said.0 said.1 c.in_err-join_term.ensures.safe);
+    }
 
-pub returns-clause-lists : goal.returns-clause-lists
-returns-clause-lists g c = c.loop-at.invariant.lists
-
-pub returns-in_err-join_term-clause-front : goal.returns-in_err-join_term-clause-front
-returns-in_err-join_term-clause-front g c = front_after_one behind_first c.loop-at.invariant.joined.front c.join_term.ensures.front
-
-pub returns-in_err-join_term-clause-ok : goal.returns-in_err-join_term-clause-ok
-returns-in_err-join_term-clause-ok g c = none_kept c.from_residual-in_err-join_term.result _ c.from_residual-in_err-join_term.ensures.0
-
-pub returns-in_err-join_term-clause-kept : goal.returns-in_err-join_term-clause-kept
-returns-in_err-join_term-clause-kept g c = none_kept c.from_residual-in_err-join_term.result _ c.from_residual-in_err-join_term.ensures.0
-
-pub returns-in_err-join_term-clause-faults : goal.returns-in_err-join_term-clause-faults
-returns-in_err-join_term-clause-faults g c = passed_on c.from_residual-in_err-join_term.result c.in_err-join_term.field-0.0 (Faults c.args.pool.now c.join_term.new.pool) c.from_residual-in_err-join_term.ensures.0 c.from_residual-in_err-join_term.ensures.1 (faults_after _ c.in_err-join_term.field-0.0 c.loop-at.invariant.joined.kept c.in_err-join_term.ensures.faults)
-
-pub returns-in_err-join_term-clause-caused : goal.returns-in_err-join_term-clause-caused
-returns-in_err-join_term-clause-caused g c = passed_on c.from_residual-in_err-join_term.result c.in_err-join_term.field-0.0 (IsCaused c.join_term.new.pool) c.from_residual-in_err-join_term.ensures.0 c.from_residual-in_err-join_term.ensures.1 (c.in_err-join_term.ensures.caused)
-
-pub returns-in_err-join_term-clause-lists : goal.returns-in_err-join_term-clause-lists
-returns-in_err-join_term-clause-lists g c = none_kept c.from_residual-in_err-join_term.result _ c.from_residual-in_err-join_term.ensures.0
-
-pub returns-in_err-product-clause-ok : goal.returns-in_err-product-clause-ok
-returns-in_err-product-clause-ok g c = none_kept c.from_residual.result _ c.from_residual.ensures.0
-
-pub returns-in_err-product-clause-kept : goal.returns-in_err-product-clause-kept
-returns-in_err-product-clause-kept g c = none_kept c.from_residual.result _ c.from_residual.ensures.0
-
-pub returns-in_err-product-clause-faults : goal.returns-in_err-product-clause-faults
-returns-in_err-product-clause-faults g c = passed_on c.from_residual.result (fault.Overflow c.in_err-product.field-0.0) (Faults c.args.pool.now c.loop-at.pool) c.from_residual.ensures.0 c.from_residual.ensures.1 (c.loop-at.invariant.joined.kept)
-
-pub returns-in_err-product-clause-lists : goal.returns-in_err-product-clause-lists
-returns-in_err-product-clause-lists g c = none_kept c.from_residual.result _ c.from_residual.ensures.0
-
-pub returns-in_err-product-clause-front : goal.returns-in_err-product-clause-front
-returns-in_err-product-clause-front g c = c.loop-at.invariant.joined.front
+pub returns-in_err-product : goal.returns-in_err-product
+returns-in_err-product g c =
+    let r = c.from_residual.result in let e = fault.Overflow c.in_err-product.field-0.0 in let said = c.from_residual.ensures in
+    record {
+      ok = none_kept r _ said.0;
+      lists = none_kept r _ said.0;
+      overflow = passed_on r e
+          (OfOverflow (RowOverflows (value (tree_of c.args.sum.now c.args.pool.now)) (term_of c.args.term) (terms_from c.args.from (value (tree_of c.args.number c.args.pool.now))))) said.0 said.1
+          (record { at = c.loop-at.at - c.args.from; other = term_of c.listed_term-other.result; here = here g (goal.at.returns-in_err-product g c).After-listed_term-other c.loop-at.invariant.begun; cause = inl c.in_err-product.ensures.overflow });
+      room = λ gs s x t.
+          passed_on r e
+          (LacksRoom joining_need (free_of c.args.pool.now + size (tree_of c.args.sum.now c.args.pool.now)) gs) said.0 said.1 tt;
+      safe = let j = c.loop-at.invariant.joined in overflowed r c.in_err-product.field-0.0 said.0 said.1 c.in_err-product.ensures.caused j.front j.kept j.stands;
+    }

@@ -1,9 +1,7 @@
-use Rattle.number_forms.proofs.Shared.{◌<◌, ◌*◌, List, length, take, subst, arith, length-take-le, take_all, Trees, forest, free_of, front_after, front_same, kept_after, kept_same}
-use Rattle.number_forms.proofs.{Shared.{passed_on, Adds, trees_of}, ListedTerms.{terms_size, trees_more}, Placings.{given_is}, Planted.{adds_free, adds_more, adds_none}}
+use Rattle.number_forms.proofs.Shared.{◌<◌, ◌*◌, List, length, take, subst, arith, length-take-le, take_all, Trees, forest, free_of, front_after, front_same, kept_after, kept_same, passed_on, Adds}
+use Rattle.number_forms.proofs.{Shared.{trees_of}, ListedTerms.{terms_size, trees_more}, Placings.{given_is}, Planted.{adds_free, adds_more, adds_none}, Refusals.{none_given, none_kept}}
+use Rattle.number_forms.proofs.Safety.{after_placing, lacked, placed}
 use Rattle.surd_terms.specs.declared.term.Term.{Term}
-use Rattle.number_forms.proofs.Refusals.{none_given, none_kept}
-use Rattle.tree_handles.proofs.Refused.{refuses_after}
-use Rattle.tree_handles.specs.Standing.{LacksBytes, Refuses}
 use Rattle.number_forms.proofs.placing.place_all.Goals as goal
 
 pub loop-term-init : goal.loop-term-init
@@ -30,29 +28,20 @@ returns-clause-ok c =
     subst (λ (ts : List Term). Adds (trees_of ts) (forest c.args.pool.now) (forest c.loop-term.pool))
     (take_all c.loop-term.term-index c.args.terms.now (omega (arith, c.loop-term-test.false))) c.loop-term.invariant.adds
 
-pub returns-in_err-_term-clause-room : goal.returns-in_err-_term-clause-room
-returns-in_err-_term-clause-room c =
-    let i = c.loop-term.invariant in
-    let n = c.loop-term.term-index in
-    let free = adds_free c.requires.stands i.stands i.kept i.adds in
-    let few : free_of c.loop-term.pool < 96 = grind (arith, c.in_err-_term.ensures.room) in
-    passed_on c.from_residual.result c.in_err-_term.field-0.0 (λ full. free_of c.args.pool.now < 96 * length c.args.terms.now) c.from_residual.ensures.0 c.from_residual.ensures.1
-    (omega (arith, free, few, terms_size (take n c.args.terms.now), length-take-le n c.args.terms.now (omega (arith, c.loop-term-test.true)), c.loop-term-test.true))
+pub returns-in_err-_term : goal.returns-in_err-_term
+returns-in_err-_term c =
+    let r = c.from_residual.result in let e = c.in_err-_term.field-0.0 in let said = c.from_residual.ensures in
+    record {
+      count = none_given r _ said.0;
+      ok = none_kept r _ said.0;
+      room = let i = c.loop-term.invariant in
+          let n = c.loop-term.term-index in
+          let free = adds_free c.requires.stands i.stands i.kept i.adds in
+          let few : free_of c.loop-term.pool < 96 = grind (arith, c.in_err-_term.ensures.room) in
+          passed_on r e (λ full. free_of c.args.pool.now < 96 * length c.args.terms.now) said.0 said.1
+          (omega (arith, free, few, terms_size (take n c.args.terms.now), length-take-le n c.args.terms.now (omega (arith, c.loop-term-test.true)), c.loop-term-test.true));
+      safe = after_placing c.loop-term.invariant.kept c.loop-term.invariant.front (lacked r e said.0 said.1 c.place_term.ensures.front c.in_err-_term.ensures.full c.in_err-_term.ensures.caused c.place_term.ensures.stands);
+    }
 
-pub returns-in_err-_term-clause-ok : goal.returns-in_err-_term-clause-ok
-returns-in_err-_term-clause-ok c = none_kept c.from_residual.result _ c.from_residual.ensures.0
-
-pub returns-in_err-_term-clause-kept : goal.returns-in_err-_term-clause-kept
-returns-in_err-_term-clause-kept c = none_kept c.from_residual.result _ c.from_residual.ensures.0
-
-pub returns-in_err-_term-clause-full : goal.returns-in_err-_term-clause-full
-returns-in_err-_term-clause-full c = passed_on c.from_residual.result c.in_err-_term.field-0.0 (Refuses c.args.pool.now c.place_term.new.pool) c.from_residual.ensures.0 c.from_residual.ensures.1 (refuses_after c.loop-term.invariant.kept c.in_err-_term.ensures.full)
-
-pub returns-in_err-_term-clause-caused : goal.returns-in_err-_term-clause-caused
-returns-in_err-_term-clause-caused c = passed_on c.from_residual.result c.in_err-_term.field-0.0 (LacksBytes c.place_term.new.pool) c.from_residual.ensures.0 c.from_residual.ensures.1 (c.in_err-_term.ensures.caused)
-
-pub returns-in_err-_term-clause-count : goal.returns-in_err-_term-clause-count
-returns-in_err-_term-clause-count c = none_given c.from_residual.result _ c.from_residual.ensures.0
-
-pub returns-in_err-_term-clause-front : goal.returns-in_err-_term-clause-front
-returns-in_err-_term-clause-front c = front_after c.loop-term.invariant.front c.place_term.ensures.front
+pub returns-clause-safe : goal.returns-clause-safe
+returns-clause-safe c = placed c.loop-term.invariant.front c.loop-term.invariant.kept c.loop-term.invariant.stands

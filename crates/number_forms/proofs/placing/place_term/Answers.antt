@@ -1,6 +1,7 @@
 use Rattle.number_forms.proofs.Shared.{◌≡◌, ◌↔◌, subst, ◌≤◌, sym, ap, ◌∙◌, false, pos, IsOk, IfErr, Err, is_one_fraction, one_is, whole_fraction, value_of, Tree, num, root, mult, more, none, size}
-use Rattle.number_forms.proofs.{Shared.{term_tree, root_size, free_of, building, term_of}, ListedTerms.{term_told}, Placings.{exact, multiple_term, number_lacks, one_test, rational_term, root_term}}
-use Rattle.number_forms.proofs.{Placings.{told_tree}, TermTrees.{if_gives}, placing.place_term.Goals.{After-radicand-then-is_one, After-radicand-else-is_one}}
+use Rattle.number_forms.proofs.{Shared.{term_tree, root_size, free_of, building, term_of}, ListedTerms.{term_told}}
+use Rattle.number_forms.proofs.{Placings.{exact, multiple_term, number_lacks, one_test, rational_term, root_term, told_tree}, TermTrees.{if_gives}}
+use Rattle.number_forms.proofs.placing.place_term.Goals.{After-radicand-then-is_one, After-radicand-else-is_one}
 use Rattle.number_forms.proofs.placing.place_term.Goals as goal
 
 -- the coefficient is 1, and the root stands alone
@@ -41,12 +42,12 @@ returns-then-radicand-eq1-clause-exactly c =
 pub returns-then-is_one-clause-exactly : goal.returns-then-is_one-clause-exactly
 returns-then-is_one-clause-exactly c = subst (λ (t : Tree). IsOk c.place_root.result ↔ (size t ≤ free_of c.args.pool.now))
     (rooted (goal.at.returns-then-is_one-clause-exactly c).After-radicand-then-is_one)
-    (exact _ c.place_root.result c.requires.stands c.place_root.ensures.stands c.place_root.ensures.kept c.place_root.ensures.ok c.place_root.ensures.first_lack)
+    (exact _ c.place_root.result c.requires.stands c.place_root.ensures.safe.stands c.place_root.ensures.safe.kept c.place_root.ensures.ok c.place_root.ensures.first_lack)
 
 pub returns-else-is_one-clause-exactly : goal.returns-else-is_one-clause-exactly
 returns-else-is_one-clause-exactly c = subst (λ (t : Tree). IsOk c.place_multiple.result ↔ (size t ≤ free_of c.args.pool.now))
     (multiplied (goal.at.returns-else-is_one-clause-exactly c).After-radicand-else-is_one)
-    (exact _ c.place_multiple.result c.requires.stands c.place_multiple.ensures.stands c.place_multiple.ensures.kept c.place_multiple.ensures.ok c.place_multiple.ensures.first_lack)
+    (exact _ c.place_multiple.result c.requires.stands c.place_multiple.ensures.safe.stands c.place_multiple.ensures.safe.kept c.place_multiple.ensures.ok c.place_multiple.ensures.first_lack)
 
 pub returns-then-is_one-clause-first_lack : goal.returns-then-is_one-clause-first_lack
 returns-then-is_one-clause-first_lack c = subst (λ (t : Tree). IfErr c.place_root.result (λ full. building (free_of c.args.pool.now) t ≡ Err full))

@@ -1,21 +1,14 @@
 use Rattle.number_forms.proofs.Shared.{◌≡◌, inl, refl, sym, ap, ◌∙◌, rules, FitsSigned, ◌+◌, subst, ℕ, ◌*◌, ◌≤◌, arith, to_z, of_z, ℤ, nat_abs, w128, to_z-of_z, value, surd_power, size, Tree}
 use Rattle.number_forms.proofs.Shared.{Same-refl, gives_without, tree_of, behind_first, front_same, front_at, front_without, front_after, front_end, given_other, gives_as, owned, given_told}
 use Rattle.number_forms.proofs.Shared.{power_need, SpansTree, free_of, LacksRoom, passed_on, overflow_as, last_tree, plain, Forest, IsNoLargerThanPower, OfOverflow, IsNumberOf, IsPowerOver}
-use Rattle.number_forms.proofs.{Rooms.{answer_spans, full_as, power_lacks, power_spans}, Over.{of_power, power_itself}, RationalBits.{at_least_one, power_no_larger, if_power_no_larger}}
-use Rattle.number_forms.proofs.{RationalBits.{power_not_refused}, PowersWithin.{power_within}, TermTrees.{if_given}}
+use Rattle.number_forms.proofs.{Shared.{PowerOverflows, is_num, kept_after}, Rooms.{answer_spans, full_as, power_lacks, power_spans}, Over.{of_power, power_itself}}
+use Rattle.number_forms.proofs.{RationalBits.{at_least_one, power_no_larger, if_power_no_larger, power_not_refused}, PowersWithin.{power_within}, TermTrees.{if_given}}
 use Rattle.number_forms.proofs.Refusals.{none_given, none_kept}
-use Rattle.number_forms.proofs.Shared.{PowerOverflows, is_num, kept_after}
-use Rattle.tree_handles.specs.Causes.{IsCaused}
-use Rattle.tree_handles.specs.Faults.{Faults}
+use Rattle.tree_handles.specs.{Causes.{IsCaused}, Faults.{Faults}}
 use Rattle.number_forms.proofs.powers.power_number.Goals as goal
 
 pub returns-then-is_rational-clause-room : goal.returns-then-is_rational-clause-room
 returns-then-is_rational-clause-room c = λ gs s. c.power_rational.ensures.room gs
-
-pub returns-in_err-power-clause-room : goal.returns-in_err-power-clause-room
-returns-in_err-power-clause-room c = λ gs s.
-    passed_on c.from_residual.result c.in_err-power.field-0.0 (LacksRoom power_need (free_of c.args.pool.now + size (tree_of c.args.a c.args.pool.now)) gs) c.from_residual.ensures.0 c.from_residual.ensures.1
-    (full_as c.in_err-power.field-0.0 (c.in_err-power.ensures.room gs s) (λ full few. power_lacks gs _ _ c.requires.number s few))
 
 pub returns-then-is_rational-clause-spanned : goal.returns-then-is_rational-clause-spanned
 returns-then-is_rational-clause-spanned c = λ gs s.
@@ -43,7 +36,7 @@ returns-in_ok-power-clause-ok c =
 
 pub returns-in_ok-power-clause-front : goal.returns-in_ok-power-clause-front
 returns-in_ok-power-clause-front c =
-    front_at (front_without behind_first (front_after front_same c.power_of.ensures.front)) (c.release.ensures.owned (owned (given_other c.in_ok-power.ensures.ok c.requires.handed)))
+    front_at (front_without behind_first (front_after front_same c.power_of.ensures.safe.front)) (c.release.ensures.owned (owned (given_other c.in_ok-power.ensures.ok c.requires.handed)))
 
 pub returns-then-n-eq1-clause-front : goal.returns-then-n-eq1-clause-front
 returns-then-n-eq1-clause-front c = front_end c.move_last.ensures.last (front_without behind_first front_same)
@@ -87,43 +80,33 @@ returns-then-is_rational-clause-bits c = λ h l k few.
     power_not_refused (tree_of c.args.a c.args.pool.now) (to_z w128 (of_z w128 c.args.n)) c.power_rational.new.pool c.power_rational.result rational c.power_rational.ensures.rational h l k
     (subst (λ (z : ℤ). nat_abs z * (2 * h + 4 * l) ≤ 124) (sym (to_z-of_z w128 c.args.n fits)) few)
 
-pub returns-in_err-power-clause-bits : goal.returns-in_err-power-clause-bits
-returns-in_err-power-clause-bits c = λ h l k few.
-    let fits : FitsSigned w128 c.args.n = search rules in
-    let many : c.unsigned_abs.result ≡ nat_abs c.args.n = c.unsigned_abs.ensures.value ∙ ap nat_abs (to_z-of_z w128 c.args.n fits) in
-    passed_on c.from_residual.result c.in_err-power.field-0.0 (OfOverflow (λ o. ⊥)) c.from_residual.ensures.0 c.from_residual.ensures.1
-    (overflow_as c.in_err-power.field-0.0 c.in_err-power.ensures.overflow (λ o p. absurd (power_within (value (tree_of c.args.a c.args.pool.now)) c.unsigned_abs.result h l o k (subst (λ (n : ℕ). n * (2 * h + 4 * l) ≤ 124) (sym many) few) p)))
-
-pub returns-in_err-power-clause-ok : goal.returns-in_err-power-clause-ok
-returns-in_err-power-clause-ok c = none_given c.from_residual.result _ c.from_residual.ensures.0
-
-pub returns-in_err-power-clause-kept : goal.returns-in_err-power-clause-kept
-returns-in_err-power-clause-kept c = none_kept c.from_residual.result _ c.from_residual.ensures.0
-
-pub returns-in_err-power-clause-faults : goal.returns-in_err-power-clause-faults
-returns-in_err-power-clause-faults c = passed_on c.from_residual.result c.in_err-power.field-0.0 (Faults c.args.pool.now c.power_of.new.pool) c.from_residual.ensures.0 c.from_residual.ensures.1 (c.in_err-power.ensures.faults)
-
-pub returns-in_err-power-clause-caused : goal.returns-in_err-power-clause-caused
-returns-in_err-power-clause-caused c = passed_on c.from_residual.result c.in_err-power.field-0.0 (IsCaused c.power_of.new.pool) c.from_residual.ensures.0 c.from_residual.ensures.1 (c.in_err-power.ensures.caused)
-
-pub returns-in_err-power-clause-measured : goal.returns-in_err-power-clause-measured
-returns-in_err-power-clause-measured c = none_given c.from_residual.result _ c.from_residual.ensures.0
-
-pub returns-in_err-power-clause-spanned : goal.returns-in_err-power-clause-spanned
-returns-in_err-power-clause-spanned c = λ gs s. none_given c.from_residual.result _ c.from_residual.ensures.0
-
-pub returns-in_err-power-clause-rational : goal.returns-in_err-power-clause-rational
-returns-in_err-power-clause-rational c = λ q e. absurd (cc (c.is_rational.ensures ∙ ap is_num e, c.if-is_rational.false))
-
-pub returns-in_err-power-clause-front : goal.returns-in_err-power-clause-front
-returns-in_err-power-clause-front c = front_after front_same c.power_of.ensures.front
-
-pub returns-in_err-power-clause-overflow : goal.returns-in_err-power-clause-overflow
-returns-in_err-power-clause-overflow c = λ h.
-    let fits : FitsSigned w128 c.args.n = search rules in
-    let many = c.unsigned_abs.ensures.value ∙ ap nat_abs (to_z-of_z w128 c.args.n fits) in
-    passed_on c.from_residual.result c.in_err-power.field-0.0 (OfOverflow (PowerOverflows (value (tree_of c.args.a c.args.pool.now)) (nat_abs c.args.n))) c.from_residual.ensures.0 c.from_residual.ensures.1
-    (subst (λ (m : ℕ). OfOverflow (PowerOverflows (value (tree_of c.args.a c.args.pool.now)) m) c.in_err-power.field-0.0) many c.in_err-power.ensures.overflow)
+pub returns-in_err-power : goal.returns-in_err-power
+returns-in_err-power c =
+    let r = c.from_residual.result in let e = c.in_err-power.field-0.0 in let said = c.from_residual.ensures in
+    record {
+      ok = none_given r _ said.0;
+      rational = λ q e. absurd (cc (c.is_rational.ensures ∙ ap is_num e, c.if-is_rational.false));
+      front = front_after front_same c.power_of.ensures.safe.front;
+      kept = none_kept r _ said.0;
+      faults = passed_on r e (Faults c.args.pool.now c.power_of.new.pool) said.0 said.1 (c.in_err-power.ensures.safe.faults);
+      overflow = λ h.
+          let fits : FitsSigned w128 c.args.n = search rules in
+          let many = c.unsigned_abs.ensures.value ∙ ap nat_abs (to_z-of_z w128 c.args.n fits) in
+          passed_on r e (OfOverflow (PowerOverflows (value (tree_of c.args.a c.args.pool.now)) (nat_abs c.args.n))) said.0 said.1
+          (subst (λ (m : ℕ). OfOverflow (PowerOverflows (value (tree_of c.args.a c.args.pool.now)) m) c.in_err-power.field-0.0) many c.in_err-power.ensures.overflow);
+      measured = none_given r _ said.0;
+      bits = λ h l k few.
+          let fits : FitsSigned w128 c.args.n = search rules in
+          let many : c.unsigned_abs.result ≡ nat_abs c.args.n = c.unsigned_abs.ensures.value ∙ ap nat_abs (to_z-of_z w128 c.args.n fits) in
+          passed_on r e (OfOverflow (λ o. ⊥)) said.0 said.1
+          (overflow_as c.in_err-power.field-0.0 c.in_err-power.ensures.overflow (λ o p. absurd (power_within (value (tree_of c.args.a c.args.pool.now)) c.unsigned_abs.result h l o k (subst (λ (n : ℕ). n * (2 * h + 4 * l) ≤ 124) (sym many) few) p)));
+      caused = passed_on r e (IsCaused c.power_of.new.pool) said.0 said.1 (c.in_err-power.ensures.safe.caused);
+      room = λ gs s.
+          passed_on r e (LacksRoom power_need (free_of c.args.pool.now + size (tree_of c.args.a c.args.pool.now)) gs) said.0 said.1
+          (full_as c.in_err-power.field-0.0 (c.in_err-power.ensures.room gs s) (λ full few. power_lacks gs _ _ c.requires.number s few));
+      spanned = λ gs s. none_given r _ said.0;
+      stands = search rules;
+    }
 
 pub returns-then-is_rational-clause-overflow : goal.returns-then-is_rational-clause-overflow
 returns-then-is_rational-clause-overflow c = λ h. absurd (cc (c.is_rational.ensures, c.if-is_rational.true, h))
@@ -135,4 +118,4 @@ pub returns-in_ok-power-clause-rational : goal.returns-in_ok-power-clause-ration
 returns-in_ok-power-clause-rational c = λ q e. absurd (cc (c.is_rational.ensures ∙ ap is_num e, c.if-is_rational.false))
 
 pub returns-in_ok-power-clause-kept : goal.returns-in_ok-power-clause-kept
-returns-in_ok-power-clause-kept c = kept_after c.in_ok-power.ensures.kept c.release.ensures.kept
+returns-in_ok-power-clause-kept c = kept_after c.in_ok-power.ensures.safe.kept c.release.ensures.kept

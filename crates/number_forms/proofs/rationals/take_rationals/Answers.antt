@@ -1,5 +1,5 @@
-use Rattle.number_forms.proofs.Shared.{sym, ap, ◌∙◌, arith, is_num, size, plain, Forest, root_tree, forest, behind_first, behind_later, front_same, front_at, front_without, handed_beside}
-use Rattle.number_forms.proofs.Shared.{handed_at, tree-without}
+use Rattle.number_forms.proofs.Shared.{sym, ap, ◌∙◌, arith, is_num, size, plain, Forest, root_tree, forest, behind_first, behind_later, front_same, front_at, front_without, handed_beside, handed_at}
+use Rattle.number_forms.proofs.Shared.{tree-without}
 use Rattle.number_forms.proofs.rationals.take_rationals.Goals as goal
 
 pub take_rational-q-requires-clause-handed : goal.take_rational-q-requires-clause-handed

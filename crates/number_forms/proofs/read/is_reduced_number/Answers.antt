@@ -1,5 +1,5 @@
-use Rattle.number_forms.proofs.{Shared.{◌≡◌, ◌-◌, true, sym, ap, ◌∙◌, subst, arith, is_number, is_reduced, Tree, add, count, has_term_shape, plain, children_of, tree_at, forest}, ByKind.{add_by_kind}}
-use Rattle.number_forms.proofs.{ReducedNumbers.{reduced_two, reduced_sum}, read.is_reduced_number.Goals.{After-children-last}}
+use Rattle.number_forms.proofs.Shared.{◌≡◌, ◌-◌, true, sym, ap, ◌∙◌, subst, arith, is_number, is_reduced, Tree, add, count, has_term_shape, plain, children_of, tree_at, forest}
+use Rattle.number_forms.proofs.{ByKind.{add_by_kind}, ReducedNumbers.{reduced_two, reduced_sum}, read.is_reduced_number.Goals.{After-children-last}}
 use Rattle.number_forms.proofs.read.is_reduced_number.Goals as goal
 
 sum : (c : After-children-last) → plain (tree_at c.args.id (forest c.args.pool.now)) ≡ add (children_of (plain (tree_at c.args.id (forest c.args.pool.now))))

@@ -1,5 +1,5 @@
-use Rattle.number_forms.proofs.{Shared.{◌≡◌, sym, ap, ◌∙◌, drop, root_kind, plain, tree_at, forest, first_kind, is_multiple_next, is_number_next, one_at, visits_of}, TermNodes.{number_has_shape}}
-use Rattle.number_forms.proofs.{TermNodes.{other_shape, product_has_shape, root_has_shape, root_next}, shape.has_term_shape.Goals.{After-next_kind}}
+use Rattle.number_forms.proofs.Shared.{◌≡◌, sym, ap, ◌∙◌, drop, root_kind, plain, tree_at, forest, first_kind, is_multiple_next, is_number_next, one_at, visits_of}
+use Rattle.number_forms.proofs.{TermNodes.{number_has_shape, other_shape, product_has_shape, root_has_shape, root_next}, shape.has_term_shape.Goals.{After-next_kind}}
 use Rattle.number_forms.proofs.shape.has_term_shape.Goals as goal
 
 kind-is : (c : After-next_kind) → c.next_kind.result ≡ root_kind (plain (tree_at c.args.id (forest c.args.pool.now)))

@@ -1,14 +1,10 @@
 use Rattle.number_forms.proofs.Shared.{◌≡◌, [], ◌∷◌, ◌++◌, map, inl, inr, refl, sym, ap, ◌∙◌, subst, rules, ◌+◌, is_number, value, Term, Surd, term_times, Same-refl, spans_append, IsSpanned, Spans}
 use Rattle.number_forms.proofs.Shared.{Tree, size, free_of, terms_from, RowOverflows, SquareRowOverflows, LacksRoom, joining_need, twice, square_row, IsSumOf, lists_kept, kept_after, overflow_as}
 use Rattle.number_forms.proofs.Shared.{other_plain, gives_rest, passed_on, term_of, OfOverflow, tree_of, Gives, without_root, forest, behind_first, front_after_one, given_handed, given_rest}
-use Rattle.number_forms.proofs.{Shared.{given_told, gives_as, handed_at}, Loops.{IsJoined, joined_none, joined_more, joined_part, joined_all}}
+use Rattle.number_forms.proofs.{Shared.{given_told, gives_as, handed_at, front_same, kept_same}, Loops.{IsJoined, joined_none, joined_more, joined_part, joined_all}}
 use Rattle.number_forms.proofs.{Rooms.{full_as, spans_from, partial_spanned, term_lacks, row_lacks}, Rows.{nothing_more, joined_extracted}, Squares.{spans_square_row}, Twice.{twice_refused}}
-use Rattle.number_forms.proofs.{squaring.join_square_row.Goals.{In_ok-join_term}, squaring.join_square_row.Given.{Over}}
+use Rattle.number_forms.proofs.{squaring.join_square_row.Goals.{In_ok-join_term}, squaring.join_square_row.Given.{Over}, Refusals.{none_kept}, Safety.{after_one, answered, overflowed, passed}}
 use Rattle.tree_handles.specs.declared.fault.NumberFault.TheVariants as fault
-use Rattle.number_forms.proofs.Refusals.{faults_after, none_kept}
-use Rattle.number_forms.proofs.Shared.{front_same, kept_same}
-use Rattle.tree_handles.specs.Causes.{IsCaused}
-use Rattle.tree_handles.specs.Faults.{Faults}
 use Rattle.number_forms.proofs.squaring.join_square_row.Goals as goal
 
 -- the sum with the square of the term
@@ -23,7 +19,7 @@ joined g c =
     let row : Surd = square_row x (terms_from c.args.from (value (tree_of c.args.number c.args.pool.now))) in
     joined_more c.args.sum.now row _ _ _ (term_times x x) c.args.pool.now c.args.pool.now c.join_term.new.pool
     (joined_none c.args.sum.now row c.args.pool.now c.requires.stands c.requires.sum) refl (Same-refl _) (λ d p. p)
-    (summed g c) c.join_term.ensures.front c.in_ok-join_term.ensures.kept c.join_term.ensures.stands
+    (summed g c) c.join_term.ensures.safe.front c.in_ok-join_term.ensures.safe.kept c.join_term.ensures.safe.stands
 
 -- the Number as it stands then
 same : (g : Over) (c : In_ok-join_term g) → tree_of c.args.number c.join_term.new.pool ≡ tree_of c.args.number c.args.pool.now
@@ -49,116 +45,77 @@ returns-clause-ok g c =
     let mixed = subst (λ (y : Term). Gives (without_root c.args.sum.now (forest c.join_term.new.pool)) (forest c.join_products.new.pool) c.args.sum.now
     (IsSumOf (value (tree_of c.args.sum.now c.join_term.new.pool) ++ map (term_times y) (terms_from c.args.from v)))) c.in_ok-double.ensures.sum one in
     joined_all (joined_part c.args.sum.now _ _ [] _ c.args.pool.now c.join_term.new.pool c.join_products.new.pool (joined g at)
-    (nothing_more _) mixed c.join_products.ensures.front c.in_ok-join_products.ensures.kept c.join_products.ensures.stands) refl
-
-pub returns-clause-kept : goal.returns-clause-kept
-returns-clause-kept g c = kept_after c.in_ok-join_term.ensures.kept c.in_ok-join_products.ensures.kept
-
-pub returns-clause-front : goal.returns-clause-front
-returns-clause-front g c = front_after_one behind_first c.join_term.ensures.front c.join_products.ensures.front
-
-pub returns-in_err-join_products-clause-front : goal.returns-in_err-join_products-clause-front
-returns-in_err-join_products-clause-front g c = front_after_one behind_first c.join_term.ensures.front c.join_products.ensures.front
+    (nothing_more _) mixed c.join_products.ensures.safe.front c.in_ok-join_products.ensures.safe.kept c.join_products.ensures.safe.stands) refl
 
 -- ---- what is refused
-
-pub returns-in_err-square-clause-overflow : goal.returns-in_err-square-clause-overflow
-returns-in_err-square-clause-overflow g c =
-    passed_on c.from_residual.result (fault.Overflow c.in_err-square.field-0.0) (OfOverflow (SquareRowOverflows (tree_of c.args.sum.now c.args.pool.now) (term_of c.args.term) (terms_from c.args.from (value (tree_of c.args.number c.args.pool.now))))) c.from_residual.ensures.0 c.from_residual.ensures.1
-    (inl c.in_err-square.ensures.overflow)
-
-pub returns-in_err-join_term-clause-overflow : goal.returns-in_err-join_term-clause-overflow
-returns-in_err-join_term-clause-overflow g c =
-    passed_on c.from_residual-in_err-join_term.result c.in_err-join_term.field-0.0
-    (OfOverflow (SquareRowOverflows (tree_of c.args.sum.now c.args.pool.now) (term_of c.args.term) (terms_from c.args.from (value (tree_of c.args.number c.args.pool.now))))) c.from_residual-in_err-join_term.ensures.0 c.from_residual-in_err-join_term.ensures.1
-    (overflow_as c.in_err-join_term.field-0.0 c.in_err-join_term.ensures.overflow (λ o j. inr (inl (record { product = term_of c.in_ok-square.square; extracted = c.in_ok-square.ensures.extracted; joined = j }))))
 
 pub returns-in_err-double : goal.returns-in_err-double
 returns-in_err-double g c = absurd (twice_refused c.args.term c.in_ok-square.square c.in_ok-square.ensures.extracted (c.in_err-double.ensures.refused.0 refl))
 
-pub returns-in_err-join_products-clause-overflow : goal.returns-in_err-join_products-clause-overflow
-returns-in_err-join_products-clause-overflow g c =
-    let at = (goal.at.returns-in_err-join_products-clause-overflow g c).In_ok-join_term in
-    let partial : Tree = tree_of c.args.sum.now c.join_term.new.pool in
-    let v = value (tree_of c.args.number c.args.pool.now) in
-    passed_on c.from_residual-in_err-join_products.result c.in_err-join_products.field-0.0
-    (OfOverflow (SquareRowOverflows (tree_of c.args.sum.now c.args.pool.now) (term_of c.args.term) (terms_from c.args.from v))) c.from_residual-in_err-join_products.ensures.0 c.from_residual-in_err-join_products.ensures.1
-    (overflow_as c.in_err-join_products.field-0.0 c.in_err-join_products.ensures.overflow (λ o r. inr (inr (record {
-      partial = partial;
-      with_square = given_told (summed g at);
-      row = subst (λ (y : Term). RowOverflows (value partial) y (terms_from c.args.from v) o) c.in_ok-double.ensures.sum
-          (subst (λ (t : Tree). RowOverflows (value partial) (term_of c.in_ok-double.double) (terms_from c.args.from (value t)) o) (same g at) r);
-    }))))
-
 -- ---- for how few bytes
 
-pub returns-in_err-square-clause-room : goal.returns-in_err-square-clause-room
-returns-in_err-square-clause-room g c = λ gs s h t.
-    passed_on c.from_residual.result (fault.Overflow c.in_err-square.field-0.0) (LacksRoom joining_need (free_of c.args.pool.now + size (tree_of c.args.sum.now c.args.pool.now)) gs) c.from_residual.ensures.0 c.from_residual.ensures.1 tt
+pub returns-in_err-square : goal.returns-in_err-square
+returns-in_err-square g c =
+    let r = c.from_residual.result in let e = fault.Overflow c.in_err-square.field-0.0 in let said = c.from_residual.ensures in
+    record {
+      ok = none_kept r _ said.0;
+      lists = none_kept r _ said.0;
+      overflow = passed_on r e (OfOverflow (SquareRowOverflows (tree_of c.args.sum.now c.args.pool.now) (term_of c.args.term) (terms_from c.args.from (value (tree_of c.args.number c.args.pool.now))))) said.0 said.1
+          (inl c.in_err-square.ensures.overflow);
+      room = λ gs s h t.
+          passed_on r e (LacksRoom joining_need (free_of c.args.pool.now + size (tree_of c.args.sum.now c.args.pool.now)) gs) said.0 said.1 tt;
+      safe = overflowed r c.in_err-square.field-0.0 said.0 said.1 c.in_err-square.ensures.caused front_same (kept_same c.args.pool.now) c.requires.stands;
+    }
 
-pub returns-in_err-join_term-clause-room : goal.returns-in_err-join_term-clause-room
-returns-in_err-join_term-clause-room g c = λ gs s h t.
-    let x : Term = term_of c.args.term in
-    let w : Surd = terms_from c.args.from (value (tree_of c.args.number c.args.pool.now)) in
-    let row : Spans gs (square_row x w) = spans_square_row gs x w h (spans_from gs _ c.args.from t) in
-    passed_on c.from_residual-in_err-join_term.result c.in_err-join_term.field-0.0
-    (LacksRoom joining_need (free_of c.args.pool.now + size (tree_of c.args.sum.now c.args.pool.now)) gs) c.from_residual-in_err-join_term.ensures.0 c.from_residual-in_err-join_term.ensures.1
-    (full_as c.in_err-join_term.field-0.0 c.in_err-join_term.ensures.room (λ full few. term_lacks gs (joined_none c.args.sum.now (square_row x w) c.args.pool.now c.requires.stands c.requires.sum) c.requires.stands (given_handed c.requires.sum) (spans_append gs _ (square_row x w) s row) row few))
+pub returns-in_err-join_term : goal.returns-in_err-join_term
+returns-in_err-join_term g c =
+    let r = c.from_residual-in_err-join_term.result in let e = c.in_err-join_term.field-0.0 in let said = c.from_residual-in_err-join_term.ensures in
+    record {
+      ok = none_kept r _ said.0;
+      lists = none_kept r _ said.0;
+      overflow = passed_on r e
+          (OfOverflow (SquareRowOverflows (tree_of c.args.sum.now c.args.pool.now) (term_of c.args.term) (terms_from c.args.from (value (tree_of c.args.number c.args.pool.now))))) said.0 said.1
+          (overflow_as c.in_err-join_term.field-0.0 c.in_err-join_term.ensures.overflow (λ o j. inr (inl (record { product = term_of c.in_ok-square.square; extracted = c.in_ok-square.ensures.extracted; joined = j }))));
+      room = λ gs s h t.
+          let x : Term = term_of c.args.term in
+          let w : Surd = terms_from c.args.from (value (tree_of c.args.number c.args.pool.now)) in
+          let row : Spans gs (square_row x w) = spans_square_row gs x w h (spans_from gs _ c.args.from t) in
+          passed_on r e
+          (LacksRoom joining_need (free_of c.args.pool.now + size (tree_of c.args.sum.now c.args.pool.now)) gs) said.0 said.1
+          (full_as c.in_err-join_term.field-0.0 c.in_err-join_term.ensures.room (λ full few. term_lacks gs (joined_none c.args.sum.now (square_row x w) c.args.pool.now c.requires.stands c.requires.sum) c.requires.stands (given_handed c.requires.sum) (spans_append gs _ (square_row x w) s row) row few));
+      safe = passed r e said.0 said.1 c.in_err-join_term.ensures.safe;
+    }
 
-pub returns-in_err-join_products-clause-room : goal.returns-in_err-join_products-clause-room
-returns-in_err-join_products-clause-room g c = λ gs s h t.
-    let at = (goal.at.returns-in_err-join_products-clause-room g c).In_ok-join_term in
-    let x : Term = term_of c.args.term in
-    let w : Surd = terms_from c.args.from (value (tree_of c.args.number c.args.pool.now)) in
-    let row : Spans gs (square_row x w) = spans_square_row gs x w h (spans_from gs _ c.args.from t) in
-    let partial = partial_spanned gs (map (term_times (twice x)) w) _ (tree_of c.args.sum.now c.join_term.new.pool) (given_told (joined g at).gives) (spans_append gs _ (square_row x w) s row) row.1 in
-    let double = subst (λ (y : Term). IsSpanned gs y.radicand) (sym c.in_ok-double.ensures.sum) h in
-    passed_on c.from_residual-in_err-join_products.result c.in_err-join_products.field-0.0
-    (LacksRoom joining_need (free_of c.args.pool.now + size (tree_of c.args.sum.now c.args.pool.now)) gs) c.from_residual-in_err-join_products.ensures.0 c.from_residual-in_err-join_products.ensures.1
-    (full_as c.in_err-join_products.field-0.0 (c.in_err-join_products.ensures.room gs partial double (subst (λ (u : Tree). Spans gs (value u)) (sym (same g at)) t))
-    (λ full few. row_lacks gs (joined g at) c.requires.stands (given_handed c.requires.sum) few))
+pub returns-in_err-join_products : goal.returns-in_err-join_products
+returns-in_err-join_products g c =
+    let r = c.from_residual-in_err-join_products.result in let e = c.in_err-join_products.field-0.0 in let said = c.from_residual-in_err-join_products.ensures in
+    record {
+      ok = none_kept r _ said.0;
+      lists = none_kept r _ said.0;
+      overflow = let at = (goal.at.returns-in_err-join_products g c).In_ok-join_term in
+          let partial : Tree = tree_of c.args.sum.now c.join_term.new.pool in
+          let v = value (tree_of c.args.number c.args.pool.now) in
+          passed_on r e
+          (OfOverflow (SquareRowOverflows (tree_of c.args.sum.now c.args.pool.now) (term_of c.args.term) (terms_from c.args.from v))) said.0 said.1
+          (overflow_as c.in_err-join_products.field-0.0 c.in_err-join_products.ensures.overflow (λ o r. inr (inr (record {
+            partial = partial;
+            with_square = given_told (summed g at);
+            row = subst (λ (y : Term). RowOverflows (value partial) y (terms_from c.args.from v) o) c.in_ok-double.ensures.sum
+                (subst (λ (t : Tree). RowOverflows (value partial) (term_of c.in_ok-double.double) (terms_from c.args.from (value t)) o) (same g at) r);
+          }))));
+      room = λ gs s h t.
+          let at = (goal.at.returns-in_err-join_products g c).In_ok-join_term in
+          let x : Term = term_of c.args.term in
+          let w : Surd = terms_from c.args.from (value (tree_of c.args.number c.args.pool.now)) in
+          let row : Spans gs (square_row x w) = spans_square_row gs x w h (spans_from gs _ c.args.from t) in
+          let partial = partial_spanned gs (map (term_times (twice x)) w) _ (tree_of c.args.sum.now c.join_term.new.pool) (given_told (joined g at).gives) (spans_append gs _ (square_row x w) s row) row.1 in
+          let double = subst (λ (y : Term). IsSpanned gs y.radicand) (sym c.in_ok-double.ensures.sum) h in
+          passed_on r e
+          (LacksRoom joining_need (free_of c.args.pool.now + size (tree_of c.args.sum.now c.args.pool.now)) gs) said.0 said.1
+          (full_as c.in_err-join_products.field-0.0 (c.in_err-join_products.ensures.room gs partial double (subst (λ (u : Tree). Spans gs (value u)) (sym (same g at)) t))
+          (λ full few. row_lacks gs (joined g at) c.requires.stands (given_handed c.requires.sum) few));
+      safe = after_one c.in_ok-join_term.ensures.safe.kept behind_first c.join_term.ensures.safe.front (passed r e said.0 said.1 c.in_err-join_products.ensures.safe);
+    }
 
-pub returns-in_err-square-clause-ok : goal.returns-in_err-square-clause-ok
-returns-in_err-square-clause-ok g c = none_kept c.from_residual.result _ c.from_residual.ensures.0
-
-pub returns-in_err-square-clause-kept : goal.returns-in_err-square-clause-kept
-returns-in_err-square-clause-kept g c = none_kept c.from_residual.result _ c.from_residual.ensures.0
-
-pub returns-in_err-square-clause-faults : goal.returns-in_err-square-clause-faults
-returns-in_err-square-clause-faults g c = passed_on c.from_residual.result (fault.Overflow c.in_err-square.field-0.0) (Faults c.args.pool.now c.args.pool.now) c.from_residual.ensures.0 c.from_residual.ensures.1 (kept_same c.args.pool.now)
-
-pub returns-in_err-square-clause-lists : goal.returns-in_err-square-clause-lists
-returns-in_err-square-clause-lists g c = none_kept c.from_residual.result _ c.from_residual.ensures.0
-
-pub returns-in_err-square-clause-front : goal.returns-in_err-square-clause-front
-returns-in_err-square-clause-front g c = front_same
-
-pub returns-in_err-join_term-clause-ok : goal.returns-in_err-join_term-clause-ok
-returns-in_err-join_term-clause-ok g c = none_kept c.from_residual-in_err-join_term.result _ c.from_residual-in_err-join_term.ensures.0
-
-pub returns-in_err-join_term-clause-kept : goal.returns-in_err-join_term-clause-kept
-returns-in_err-join_term-clause-kept g c = none_kept c.from_residual-in_err-join_term.result _ c.from_residual-in_err-join_term.ensures.0
-
-pub returns-in_err-join_term-clause-faults : goal.returns-in_err-join_term-clause-faults
-returns-in_err-join_term-clause-faults g c = passed_on c.from_residual-in_err-join_term.result c.in_err-join_term.field-0.0 (Faults c.args.pool.now c.join_term.new.pool) c.from_residual-in_err-join_term.ensures.0 c.from_residual-in_err-join_term.ensures.1 (c.in_err-join_term.ensures.faults)
-
-pub returns-in_err-join_term-clause-caused : goal.returns-in_err-join_term-clause-caused
-returns-in_err-join_term-clause-caused g c = passed_on c.from_residual-in_err-join_term.result c.in_err-join_term.field-0.0 (IsCaused c.join_term.new.pool) c.from_residual-in_err-join_term.ensures.0 c.from_residual-in_err-join_term.ensures.1 (c.in_err-join_term.ensures.caused)
-
-pub returns-in_err-join_term-clause-lists : goal.returns-in_err-join_term-clause-lists
-returns-in_err-join_term-clause-lists g c = none_kept c.from_residual-in_err-join_term.result _ c.from_residual-in_err-join_term.ensures.0
-
-pub returns-in_err-join_products-clause-ok : goal.returns-in_err-join_products-clause-ok
-returns-in_err-join_products-clause-ok g c = none_kept c.from_residual-in_err-join_products.result _ c.from_residual-in_err-join_products.ensures.0
-
-pub returns-in_err-join_products-clause-kept : goal.returns-in_err-join_products-clause-kept
-returns-in_err-join_products-clause-kept g c = none_kept c.from_residual-in_err-join_products.result _ c.from_residual-in_err-join_products.ensures.0
-
-pub returns-in_err-join_products-clause-faults : goal.returns-in_err-join_products-clause-faults
-returns-in_err-join_products-clause-faults g c = passed_on c.from_residual-in_err-join_products.result c.in_err-join_products.field-0.0 (Faults c.args.pool.now c.join_products.new.pool) c.from_residual-in_err-join_products.ensures.0 c.from_residual-in_err-join_products.ensures.1 (faults_after _ c.in_err-join_products.field-0.0 c.in_ok-join_term.ensures.kept c.in_err-join_products.ensures.faults)
-
-pub returns-in_err-join_products-clause-caused : goal.returns-in_err-join_products-clause-caused
-returns-in_err-join_products-clause-caused g c = passed_on c.from_residual-in_err-join_products.result c.in_err-join_products.field-0.0 (IsCaused c.join_products.new.pool) c.from_residual-in_err-join_products.ensures.0 c.from_residual-in_err-join_products.ensures.1 (c.in_err-join_products.ensures.caused)
-
-pub returns-in_err-join_products-clause-lists : goal.returns-in_err-join_products-clause-lists
-returns-in_err-join_products-clause-lists g c = none_kept c.from_residual-in_err-join_products.result _ c.from_residual-in_err-join_products.ensures.0
+pub returns-clause-safe : goal.returns-clause-safe
+returns-clause-safe g c = answered (front_after_one behind_first c.join_term.ensures.safe.front c.join_products.ensures.safe.front) (kept_after c.in_ok-join_term.ensures.safe.kept c.in_ok-join_products.ensures.safe.kept) c.join_products.ensures.safe.stands

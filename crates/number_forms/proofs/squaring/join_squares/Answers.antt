@@ -1,13 +1,9 @@
 use Rattle.number_forms.proofs.Shared.{◌≡◌, ℕ, ◌≤◌, ◌++◌, Some, length, sym, ap, ◌∙◌, arith, add-one, subst, rules, ◌+◌, slice_get, is_number, value, classes, Same, Surd, SharesDenominators}
 use Rattle.number_forms.proofs.Shared.{spans_append, Spans, Tree, size, free_of, SquareRowOverflows, SquareOverflows, LacksRoom, joining_need, square_row, square_terms, IsSumOf, lists_kept}
 use Rattle.number_forms.proofs.Shared.{other_plain, other_read, other_expression, gives_rest, passed_on, overflow_as, term_of, OfOverflow, tree_of, Gives, without_root, forest, given_other}
-use Rattle.number_forms.proofs.{Shared.{given_rest, handed_at, given_handed, given_told, plain_root}, Loops.{joined_none, joined_part, joined_all, from_all}}
+use Rattle.number_forms.proofs.{Shared.{given_rest, handed_at, given_handed, given_told, plain_root, behind_first}, Loops.{joined_none, joined_part, joined_all, from_all}}
 use Rattle.number_forms.proofs.{Rooms.{full_as, spans_from, spans_nth, partial_spanned, row_lacks}, Squares.{spans_square}, Worth.{terms_from, from_next}}
-use Rattle.number_forms.proofs.{squaring.join_squares.Goals.{After-listed_term-term}, squaring.join_squares.Given.{Over}}
-use Rattle.number_forms.proofs.Refusals.{faults_after, none_kept}
-use Rattle.number_forms.proofs.Shared.{behind_first, front_after_one}
-use Rattle.tree_handles.specs.Causes.{IsCaused}
-use Rattle.tree_handles.specs.Faults.{Faults}
+use Rattle.number_forms.proofs.{squaring.join_squares.Goals.{After-listed_term-term}, squaring.join_squares.Given.{Over}, Refusals.{none_kept}, Safety.{after_one, answered, passed}}
 use Rattle.number_forms.proofs.squaring.join_squares.Goals as goal
 
 -- the Number as it stands now
@@ -19,17 +15,6 @@ here g c =
     let read = other_read c.args.number c.loop-at.pool c.loop-at.invariant.joined.stands c.loop-at.invariant.joined.gives c.requires.handed
     ∙ sym (other_plain c.args.number c.requires.sum c.requires.handed.root) in
     ap (λ (t : Tree). slice_get (value t) c.loop-at.at) (sym read) ∙ c.listed_term-term.ensures
-
-pub returns-in_err-join_square_row-clause-room : goal.returns-in_err-join_square_row-clause-room
-returns-in_err-join_square_row-clause-room g c = λ gs s t.
-    let at = (goal.at.returns-in_err-join_square_row-clause-room g c).After-listed_term-term in
-    let v = value (tree_of c.args.number c.args.pool.now) in
-    let joined = c.loop-at.invariant.joined in
-    let left = spans_square gs (terms_from c.loop-at.at v) (spans_from gs v c.loop-at.at t) in
-    let partial = partial_spanned gs _ _ (tree_of c.args.sum.now c.loop-at.pool) (given_told joined.gives) (spans_append gs _ _ s (spans_square gs v t)) left in
-    passed_on c.from_residual.result c.in_err-join_square_row.field-0.0 (LacksRoom joining_need (free_of c.args.pool.now + size (tree_of c.args.sum.now c.args.pool.now)) gs) c.from_residual.ensures.0 c.from_residual.ensures.1
-    (full_as c.in_err-join_square_row.field-0.0 (c.in_err-join_square_row.ensures.room gs partial (spans_nth gs v c.loop-at.at _ (here g at) t) (subst (λ (x : Tree). Spans gs (value x)) (sym (same g at)) t))
-    (λ full few. row_lacks gs joined c.requires.stands (given_handed c.requires.sum) few))
 
 pub term_count-at-end-requires-clause-expression : goal.term_count-at-end-requires-clause-expression
 term_count-at-end-requires-clause-expression g c = other_expression c.args.number c.args.pool.now c.requires.stands c.requires.sum c.requires.handed
@@ -64,55 +49,56 @@ loop-at-preserved g c =
     let next : square_terms (terms_from c.loop-at.at v) ≡ square_row x (terms_from (c.loop-at.at + 1) v) ++ square_terms (terms_from (c.loop-at.at + 1) v) =
     ap square_terms (from_next v c.loop-at.at x (here g at)) ∙ ap (λ (n : ℕ). square_row x (terms_from n v) ++ square_terms (terms_from n v)) (sym later) in
     record {
-      joined = joined_part c.args.sum.now _ _ _ _ c.args.pool.now c.loop-at.pool c.join_square_row.new.pool c.loop-at.invariant.joined next row c.join_square_row.ensures.front c.in_ok-join_square_row.ensures.kept c.join_square_row.ensures.stands;
+      joined = joined_part c.args.sum.now _ _ _ _ c.args.pool.now c.loop-at.pool c.join_square_row.new.pool c.loop-at.invariant.joined next row c.join_square_row.ensures.safe.front c.in_ok-join_square_row.ensures.safe.kept c.join_square_row.ensures.safe.stands;
       lists = c.in_ok-join_square_row.ensures.lists;
     }
 
-pub returns-clause-ok : goal.returns-clause-ok
-returns-clause-ok g c =
-    let v = value (tree_of c.args.number c.args.pool.now) in
-    let all = ap classes (plain_root c.args.number c.requires.stands (given_other c.requires.sum c.requires.handed).root) in
-    let end : length v ≤ c.loop-at.at = omega (arith, all, c.term_count-at-end.ensures, c.loop-at-test.false) in
-    joined_all c.loop-at.invariant.joined (ap square_terms (from_all v c.loop-at.at end))
+pub returns : goal.returns
+returns g c =
+    record {
+      ok = let v = value (tree_of c.args.number c.args.pool.now) in
+          let all = ap classes (plain_root c.args.number c.requires.stands (given_other c.requires.sum c.requires.handed).root) in
+          let end : length v ≤ c.loop-at.at = omega (arith, all, c.term_count-at-end.ensures, c.loop-at-test.false) in
+          joined_all c.loop-at.invariant.joined (ap square_terms (from_all v c.loop-at.at end));
+      lists = c.loop-at.invariant.lists;
+      overflow = λ a. tt;
+      room = λ a b d. tt;
+      safe = let j = c.loop-at.invariant.joined in answered j.front j.kept j.stands;
+    }
 
-pub returns-in_err-join_square_row-clause-overflow : goal.returns-in_err-join_square_row-clause-overflow
-returns-in_err-join_square_row-clause-overflow g c = λ empty.
-    let at = (goal.at.returns-in_err-join_square_row-clause-overflow g c).After-listed_term-term in
-    let v = value (tree_of c.args.number c.args.pool.now) in
-    let partial : Tree = tree_of c.args.sum.now c.loop-at.pool in
-    let left = square_terms (terms_from c.loop-at.at v) in
-    let x = term_of c.listed_term-term.result in
-    let told = given_told c.loop-at.invariant.joined.gives in
-    passed_on c.from_residual.result c.in_err-join_square_row.field-0.0 (OfOverflow (SquareOverflows v)) c.from_residual.ensures.0 c.from_residual.ensures.1
-    (overflow_as c.in_err-join_square_row.field-0.0 c.in_err-join_square_row.ensures.overflow (λ o r. record {
-      at = c.loop-at.at;
-      factor = x;
-      here = here g at;
-      partial = partial;
-      sum = told.sum;
-      worth = subst (λ (u : Surd). Same (value partial ++ left) (u ++ square_terms v)) empty told.worth;
-      parts = subst (λ (u : Surd). SharesDenominators (u ++ square_terms v) (value partial ++ left)) empty told.parts;
-      row = subst (λ (n : ℕ). SquareRowOverflows partial x (terms_from n v) o) (add-one c.loop-at.at)
-          (subst (λ (t : Tree). SquareRowOverflows partial x (terms_from (c.loop-at.at + 1) (value t)) o) (same g at) r);
-    }))
-
-pub returns-clause-lists : goal.returns-clause-lists
-returns-clause-lists g c = c.loop-at.invariant.lists
-
-pub returns-in_err-join_square_row-clause-ok : goal.returns-in_err-join_square_row-clause-ok
-returns-in_err-join_square_row-clause-ok g c = none_kept c.from_residual.result _ c.from_residual.ensures.0
-
-pub returns-in_err-join_square_row-clause-kept : goal.returns-in_err-join_square_row-clause-kept
-returns-in_err-join_square_row-clause-kept g c = none_kept c.from_residual.result _ c.from_residual.ensures.0
-
-pub returns-in_err-join_square_row-clause-faults : goal.returns-in_err-join_square_row-clause-faults
-returns-in_err-join_square_row-clause-faults g c = passed_on c.from_residual.result c.in_err-join_square_row.field-0.0 (Faults c.args.pool.now c.join_square_row.new.pool) c.from_residual.ensures.0 c.from_residual.ensures.1 (faults_after _ c.in_err-join_square_row.field-0.0 c.loop-at.invariant.joined.kept c.in_err-join_square_row.ensures.faults)
-
-pub returns-in_err-join_square_row-clause-caused : goal.returns-in_err-join_square_row-clause-caused
-returns-in_err-join_square_row-clause-caused g c = passed_on c.from_residual.result c.in_err-join_square_row.field-0.0 (IsCaused c.join_square_row.new.pool) c.from_residual.ensures.0 c.from_residual.ensures.1 (c.in_err-join_square_row.ensures.caused)
-
-pub returns-in_err-join_square_row-clause-lists : goal.returns-in_err-join_square_row-clause-lists
-returns-in_err-join_square_row-clause-lists g c = none_kept c.from_residual.result _ c.from_residual.ensures.0
-
-pub returns-in_err-join_square_row-clause-front : goal.returns-in_err-join_square_row-clause-front
-returns-in_err-join_square_row-clause-front g c = front_after_one behind_first c.loop-at.invariant.joined.front c.join_square_row.ensures.front
+pub returns-in_err-join_square_row : goal.returns-in_err-join_square_row
+returns-in_err-join_square_row g c =
+    let r = c.from_residual.result in let e = c.in_err-join_square_row.field-0.0 in let said = c.from_residual.ensures in
+    record {
+      ok = none_kept r _ said.0;
+      lists = none_kept r _ said.0;
+      overflow = λ empty.
+          let at = (goal.at.returns-in_err-join_square_row g c).After-listed_term-term in
+          let v = value (tree_of c.args.number c.args.pool.now) in
+          let partial : Tree = tree_of c.args.sum.now c.loop-at.pool in
+          let left = square_terms (terms_from c.loop-at.at v) in
+          let x = term_of c.listed_term-term.result in
+          let told = given_told c.loop-at.invariant.joined.gives in
+          passed_on r e (OfOverflow (SquareOverflows v)) said.0 said.1
+          (overflow_as c.in_err-join_square_row.field-0.0 c.in_err-join_square_row.ensures.overflow (λ o r. record {
+            at = c.loop-at.at;
+            factor = x;
+            here = here g at;
+            partial = partial;
+            sum = told.sum;
+            worth = subst (λ (u : Surd). Same (value partial ++ left) (u ++ square_terms v)) empty told.worth;
+            parts = subst (λ (u : Surd). SharesDenominators (u ++ square_terms v) (value partial ++ left)) empty told.parts;
+            row = subst (λ (n : ℕ). SquareRowOverflows partial x (terms_from n v) o) (add-one c.loop-at.at)
+                (subst (λ (t : Tree). SquareRowOverflows partial x (terms_from (c.loop-at.at + 1) (value t)) o) (same g at) r);
+          }));
+      room = λ gs s t.
+          let at = (goal.at.returns-in_err-join_square_row g c).After-listed_term-term in
+          let v = value (tree_of c.args.number c.args.pool.now) in
+          let joined = c.loop-at.invariant.joined in
+          let left = spans_square gs (terms_from c.loop-at.at v) (spans_from gs v c.loop-at.at t) in
+          let partial = partial_spanned gs _ _ (tree_of c.args.sum.now c.loop-at.pool) (given_told joined.gives) (spans_append gs _ _ s (spans_square gs v t)) left in
+          passed_on r e (LacksRoom joining_need (free_of c.args.pool.now + size (tree_of c.args.sum.now c.args.pool.now)) gs) said.0 said.1
+          (full_as c.in_err-join_square_row.field-0.0 (c.in_err-join_square_row.ensures.room gs partial (spans_nth gs v c.loop-at.at _ (here g at) t) (subst (λ (x : Tree). Spans gs (value x)) (sym (same g at)) t))
+          (λ full few. row_lacks gs joined c.requires.stands (given_handed c.requires.sum) few));
+      safe = let j = c.loop-at.invariant.joined in after_one j.kept behind_first j.front (passed r e said.0 said.1 c.in_err-join_square_row.ensures.safe);
+    }

@@ -1,5 +1,5 @@
-use Rattle.number_forms.proofs.{Shared.{ℕ, ◌++◌, ◌∙◌, ap, map, sym, arith, add-one, rules, Surd, surd_times, term_of, term_times, tree_of, value}, Loops.{from_all}, ValueLoops.{with_none, with_part}}
-use Rattle.number_forms.proofs.Worth.{rows_next, terms_from}
+use Rattle.number_forms.proofs.{Shared.{ℕ, ◌++◌, ◌∙◌, ap, map, sym, arith, add-one, rules, Surd, surd_times, term_of, term_times, tree_of, value}, Loops.{from_all}}
+use Rattle.number_forms.proofs.{ValueLoops.{with_none, with_part}, Worth.{rows_next, terms_from}}
 use Rattle.number_forms.proofs.values.multiply_values.Goals as goal
 
 pub loop-at-preserved : goal.loop-at-preserved
