@@ -7,8 +7,7 @@ use Rattle.number_forms.proofs.Shared.{length-root_ids, children_number}
 pub record AreLeft (from i : ℕ) (passed left : List ℕ) (f : Forest) : Type 0 where
   pub ids : root_ids (rest_trees from (kids_of i f)) ≡ passed ++ left
 
-pub left_more : {from i : ℕ} {f : Forest} (passed left : List ℕ) (x : ℕ) (rest : List ℕ) → AreLeft from i passed left f → left ≡ x ∷ rest
-    → AreLeft from i (passed ++ (x ∷ [])) rest f
+pub left_more : {from i : ℕ} {f : Forest} (passed left : List ℕ) (x : ℕ) (rest : List ℕ) → AreLeft from i passed left f → left ≡ x ∷ rest → AreLeft from i (passed ++ (x ∷ [])) rest f
 left_more passed left x rest h e = record { ids = h.ids ∙ ap (λ (ys : List ℕ). passed ++ ys) e ∙ sym (append_assoc passed (x ∷ []) rest) }
 
 -- ---- a child that comes next
@@ -25,8 +24,7 @@ pub record IsNextChild (n i x : ℕ) (s : State) : Type 0 where
   pub is : plain (tree_at x (forest s)) ≡ nth n (children_of (plain (tree_at i (forest s))))
 
 pub next_child : (from n i : ℕ) (passed left : List ℕ) (x : ℕ) (rest : List ℕ) (s : State) → Stands s → IsExpression i (forest s)
-    → from ≤ count (children_of (plain (tree_at i (forest s)))) → n ≡ from + length passed
-    → AreLeft from i passed left (forest s) → left ≡ x ∷ rest → IsNextChild n i x s
+    → from ≤ count (children_of (plain (tree_at i (forest s)))) → n ≡ from + length passed → AreLeft from i passed left (forest s) → left ≡ x ∷ rest → IsNextChild n i x s
 next_child from n i passed left x rest s st e w m h q =
     let f = forest s in
     let many = children_number i f e in

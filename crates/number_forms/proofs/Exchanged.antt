@@ -22,22 +22,17 @@ nth_behind (suc n) (more t ts) = nth_behind n ts
 
 -- its place among the others
 pub place_removed : (t : Tree) (n : ℕ) → IsSum t → n < count (children_of t) → IsPlace n (term_of (nth n (children_of t))).radicand (removed n (children_of t))
-place_removed t n h l =
-    let ts = children_of t in
-    let r = (term_of (nth n ts)).radicand in
-    let c = count_removed n ts l in
-    record {
-      within = omega (arith, l, c);
-      below = λ k x. subst (λ (u : Tree). (term_of u).radicand < r) (sym (nth_before k n ts x)) (rises_in_sum t k n h x l);
-      above = λ x. let up = rises_in_sum t n (suc n) h (omega arith) (omega (arith, x, c)) in subst (λ (u : Tree). r ≤ (term_of u).radicand) (sym (nth_behind n ts)) (omega (arith, up));
-    }
+place_removed t n h l = let ts = children_of t in let r = (term_of (nth n ts)).radicand in let c = count_removed n ts l in record {
+  within = omega (arith, l, c);
+  below = λ k x. subst (λ (u : Tree). (term_of u).radicand < r) (sym (nth_before k n ts x)) (rises_in_sum t k n h x l);
+  above = λ x. let up = rises_in_sum t n (suc n) h (omega arith) (omega (arith, x, c)) in subst (λ (u : Tree). r ≤ (term_of u).radicand) (sym (nth_behind n ts)) (omega (arith, up));
+}
 
 -- with a tree that is another term of the same radicand
 pub exchanged_in : {s v x : Tree} (n : ℕ) (u : Tree) (t : Term) → IsSum s → v ≡ s → (is_term u ≡ true) × (term_of u ≡ t) → 0 < t.radicand → n < count (children_of s)
     → (term_of (nth n (children_of s))).radicand ≡ t.radicand
     → IsApart t.radicand (terms_of (removed n (children_of s))) → x ≡ add (inserted n (more u none) (removed n (children_of v))) → IsSumOf (t ∷ terms_of (removed n (children_of s))) x
-exchanged_in {s = s} n u t is same told o l r a e =
-    let ts = children_of s in
+exchanged_in {s = s} n u t is same told o l r a e = let ts = children_of s in
     let others = removed n ts in
     let parts : IsSum (add ts) = subst IsSum (sum_is s is) is in
     let place : IsPlace n t.radicand others = subst (λ (k : ℕ). IsPlace n k others) r (place_removed s n is l) in

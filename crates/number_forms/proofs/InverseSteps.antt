@@ -30,8 +30,7 @@ two_rise : (t : Tree) (x y p q : Term) → is_number t ≡ true → value t ≡ 
 two_rise t x y p q h e f g = grind (arith, value_rises, number_words)
 
 -- the sum of two terms whose radicands rise
-placed_two : (t u x : Tree) (a b : Term) → t ≡ add (more u (more x none)) → is_term u ≡ true → term_of u ≡ a → is_term x ≡ true → term_of x ≡ b → Rises (a ∷ b ∷ [])
-    → IsNumberOf (a ∷ b ∷ []) t
+placed_two : (t u x : Tree) (a b : Term) → t ≡ add (more u (more x none)) → is_term u ≡ true → term_of u ≡ a → is_term x ≡ true → term_of x ≡ b → Rises (a ∷ b ∷ []) → IsNumberOf (a ∷ b ∷ []) t
 placed_two t u x a b e h f k g r = grind (arith, of_over, sum_number, term_words)
 
 -- ---- the terms of the inverse
@@ -45,10 +44,8 @@ one_inverse t x s e i f =
 pub two_inverse : (t : Tree) (x y : Term) (p q : CodeTerm) → is_number t ≡ true → value t ≡ x ∷ y ∷ [] → Inverts (code p ∷ code q ∷ []) (x ∷ y ∷ []) → code p ≡ first_of_inverse x y
     → code q ≡ second_of_inverse x y → IsInverseOf (value t) (sum_of_terms (code p) (code q))
 two_inverse t x y p q n e i f g =
-    inverse_number (value t) (x ∷ y ∷ []) _ (code p ∷ code q ∷ []) e i
-    (placed_two _ _ _ (code p) (code q) refl (term_is p).0 (term_is p).1 (term_is q).0 (term_is q).1
-    (two_rise t x y (code p) (code q) n e (ap (λ (z : Term). z.radicand) f) (ap (λ (z : Term). z.radicand) g)))
-    (ap inverse_trees e ∙ (λ i. more (sum_of_terms (sym f i) (sym g i)) none))
+    inverse_number (value t) (x ∷ y ∷ []) _ (code p ∷ code q ∷ []) e i (placed_two _ _ _ (code p) (code q) refl (term_is p).0 (term_is p).1 (term_is q).0 (term_is q).1
+    (two_rise t x y (code p) (code q) n e (ap (λ (z : Term). z.radicand) f) (ap (λ (z : Term). z.radicand) g))) (ap inverse_trees e ∙ (λ i. more (sum_of_terms (sym f i) (sym g i)) none))
 
 -- the inverse of a rational is one
 pub rational_inverse : (t u : Tree) (q : Fraction) → t ≡ num q → IsInverseOf (value t) u → (r : Fraction) × (u ≡ num r)

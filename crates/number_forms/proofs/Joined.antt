@@ -39,11 +39,7 @@ are_inserted (suc n) t none h a = (h, tt)
 are_inserted (suc n) t (more x ts) h (b, a) = (b, are_inserted n t ts h a)
 
 next_place : (n r : ℕ) (u : Tree) (ts : Trees) → IsPlace (suc n) r (more u ts) → IsPlace n r ts
-next_place n r u ts p = record {
-  within = (let h : suc n ≤ suc (count ts) = p.within in omega arith);
-  below = λ k l. p.below (suc k) (omega arith);
-  above = λ l. p.above (omega arith);
-}
+next_place n r u ts p = record { within = (let h : suc n ≤ suc (count ts) = p.within in omega arith); below = λ k l. p.below (suc k) (omega arith); above = λ l. p.above (omega arith) }
 
 pub rises_inserted : (n : ℕ) (t : Tree) (ts : Trees) → 0 < (term_of t).radicand → IsApart (term_of t).radicand (terms_of ts) → IsPlace n (term_of t).radicand ts → Rises (terms_of ts)
     → Rises (terms_of (inserted n (more t none) ts))

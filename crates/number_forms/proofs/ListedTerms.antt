@@ -95,13 +95,11 @@ small_below (t ∷ ts) a = by (small_below ts a.1)
 
 -- what the trees of a list are worth
 listed_as : {v : Surd} {w : Surd} (us : List CodeTerm) (ts : Trees) → trees_of us ≡ ts → IsSumOf v (add ts) → v ≡ w → AreSmall us → AreTermsOf w us
-listed_as {v} {w} us ts e s q a =
-    let h : IsSumOf v (add (trees_of us)) = subst (λ (x : Trees). IsSumOf v (add x)) (sym e) s in
-    record {
-      listed = record { sum = h.sum; small = a };
-      worth = Same-trans (Same-eq (sym (terms_of_trees us))) (Same-trans h.worth (Same-eq q));
-      parts = λ d p. shares_eq (terms_of_trees us) d (h.parts d (shares_eq (sym q) d p));
-    }
+listed_as {v} {w} us ts e s q a = let h : IsSumOf v (add (trees_of us)) = subst (λ (x : Trees). IsSumOf v (add x)) (sym e) s in record {
+  listed = record { sum = h.sum; small = a };
+  worth = Same-trans (Same-eq (sym (terms_of_trees us))) (Same-trans h.worth (Same-eq q));
+  parts = λ d p. shares_eq (terms_of_trees us) d (h.parts d (shares_eq (sym q) d p));
+}
 
 -- ---- with one more
 
@@ -183,8 +181,7 @@ trees_append (t ∷ ts) us = ap (more (term_tree (term_of t))) (trees_append ts 
 pub trees_more : (ts : List CodeTerm) (i : ℕ) (t : CodeTerm) → i < length ts → t ≡ get_or ts i t
     → append (trees_of (take i ts)) (more (term_tree (term_of t)) none) ≡ trees_of (take (i + 1) ts)
 trees_more ts i t l e =
-    let next : take (i + 1) ts ≡ take i ts ++ t ∷ [] = take_more ts i t l ∙ ap (λ (u : CodeTerm). take i ts ++ u ∷ []) (sym e) in
-    trees_append (take i ts) (t ∷ []) ∙ ap trees_of (sym next)
+    let next : take (i + 1) ts ≡ take i ts ++ t ∷ [] = take_more ts i t l ∙ ap (λ (u : CodeTerm). take i ts ++ u ∷ []) (sym e) in trees_append (take i ts) (t ∷ []) ∙ ap trees_of (sym next)
 
 term_size : (t : Term) → size (term_tree t) ≤ 96
 term_size t = grind (arith, num_most)
@@ -219,11 +216,7 @@ is_listed_number (t ∷ []) h = term_is_number (term_tree (term_of t)) (term_is 
 is_listed_number (t ∷ u ∷ ts) h = (sum_number (trees_of (t ∷ u ∷ ts)) (omega arith) h.sum.0 h.sum.1).number
 
 pub number_over : {v : Surd} (ts : List CodeTerm) → AreTermsOf v ts → IsNumberOver v (number_tree ts)
-number_over ts h = record {
-  number = is_listed_number ts h.listed;
-  worth = Same-trans (Same-eq (number_value ts)) h.worth;
-  parts = λ d p. shares_eq (sym (number_value ts)) d (h.parts d p);
-}
+number_over ts h = record { number = is_listed_number ts h.listed; worth = Same-trans (Same-eq (number_value ts)) h.worth; parts = λ d p. shares_eq (sym (number_value ts)) d (h.parts d p) }
 
 -- ---- worth the same
 
@@ -235,6 +228,5 @@ extracted_terms p q v ts s e h = terms_as ts (Same-append s (Same-refl v)) (part
 
 pub refill_set : (xs ys : List CodeTerm) (n m : ℕ) (t : CodeTerm) → ys ≡ xs → m ≡ length xs → refill m xs (set ys n t) ≡ set xs n t
 refill_set xs ys n m t e l =
-    ap (λ (zs : List CodeTerm). refill m xs (set zs n t)) e
-    ∙ ap (λ (zs : List CodeTerm). take m (set xs n t ++ zs)) (drop_all (length (set xs n t)) xs (omega (arith, length-set xs n t)))
+    ap (λ (zs : List CodeTerm). refill m xs (set zs n t)) e ∙ ap (λ (zs : List CodeTerm). take m (set xs n t ++ zs)) (drop_all (length (set xs n t)) xs (omega (arith, length-set xs n t)))
     ∙ ap (take m) (append-nil (set xs n t)) ∙ take_all m (set xs n t) (omega (arith, l, length-set xs n t))

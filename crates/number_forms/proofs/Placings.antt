@@ -16,8 +16,7 @@ pub taken : (free left n : ℕ) (ns : List ℕ) → free ≡ left + n → taking
 taken free left n ns e = grind arith
 
 pub lacking : {s t : State} {n : ℕ} {full : Full} (ns : List ℕ) → IsRefused n s t full → taking (free_of s) (n ∷ ns) ≡ Err full
-lacking {s = s} {n = n} {full = full} ns r =
-    let least : free_of s < n = subst (λ (f : Full). f.free < f.needed) r.told r.lacks.lacking in
+lacking {s = s} {n = n} {full = full} ns r = let least : free_of s < n = subst (λ (f : Full). f.free < f.needed) r.told r.lacks.lacking in
     ap (λ b. if b then taking (free_of s - n) ns else Err (record { needed = n; free = free_of s })) (lt-leb n (free_of s) least) ∙ ap (λ (f : Full). Err f) (sym r.told)
 
 -- what lacks bytes lacks them before others too

@@ -30,8 +30,7 @@ can_adopt {i} {n} {k} {g = g} {f = f} e a m = record {
   within = omega (arith, m, represents_count a.represents, ap arity (ap (behind_root i) (node_before e a) ∙ behind_there i g a.trees empty (label i k) e.clear refl));
 }
 
-pub adopts : {i n : ℕ} {k : Kind} {ts : Trees} {g f h new : Forest} → Ends i (one_tree i (bare k) empty) g f → Adds ts f h → n ≡ count ts → takes_kind k (count ts) ≡ true
-    → new ≡ adopted i n h
+pub adopts : {i n : ℕ} {k : Kind} {ts : Trees} {g f h new : Forest} → Ends i (one_tree i (bare k) empty) g f → Adds ts f h → n ≡ count ts → takes_kind k (count ts) ≡ true → new ≡ adopted i n h
     → Gives g new i (λ u. u ≡ compound k ts)
 adopts {i} {n} {k} {ts} {g} {f} {h} {new} e a m w q =
     let many : n ≡ arity a.trees = m ∙ sym (represents_count a.represents) in

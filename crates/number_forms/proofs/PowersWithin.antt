@@ -47,8 +47,7 @@ square_within v h l o p k few s =
     so_far s.partial (squares_before s.at v) (square_terms (terms_from s.at v)) h l (square_terms v) (squares_from s.at v) s.sum s.worth s.parts (square_held v h l k) in
     let next : IsHeld (value s.partial ++ (square_row s.factor rest ++ square_terms rest)) h l =
     subst (λ (u : Surd). IsHeld (value s.partial ++ square_terms u) h l) (from_next v s.at s.factor s.here) held in
-    let front : IsHeld (value s.partial ++ square_row s.factor rest) h l =
-    held_left (value s.partial ++ square_row s.factor rest) (square_terms rest) h l
+    let front : IsHeld (value s.partial ++ square_row s.factor rest) h l = held_left (value s.partial ++ square_row s.factor rest) (square_terms rest) h l
     (subst (λ (u : Surd). IsHeld u h l) (sym (append_assoc (value s.partial) (square_row s.factor rest) (square_terms rest))) next) in
     square_row_within s.partial s.factor rest h l o s.sum (proper_at v s.at s.factor p s.here) (proper_from (suc s.at) v p) front few s.row
 

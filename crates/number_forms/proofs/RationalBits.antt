@@ -147,8 +147,7 @@ as_num (num q) h = (q, refl)
 as_num _ h = cc
 
 -- an operation that fits is not refused for it
-not_refused : (op : Operation) (p q : Fraction) (s : State) (r : Result ℕ NumberFault) → operation_fits op p q ≡ true → AnswersRationals (calculated op p q) s r
-    → IfErr r (OfOverflow (λ o. ⊥))
+not_refused : (op : Operation) (p q : Fraction) (s : State) (r : Result ℕ NumberFault) → operation_fits op p q ≡ true → AnswersRationals (calculated op p q) s r → IfErr r (OfOverflow (λ o. ⊥))
 not_refused op p q s r f a = grind arith
 
 pub joint_parts : (j : Joint) (p q : Fraction) (a b : Tree) → a ≡ num p → b ≡ num q → SharesDenominators (both j (value a) (value b)) (value (num (result_of (operation j) p q)))
@@ -156,8 +155,7 @@ joint_parts joint.Sum p q a b e f = sum_parts p q a b e f
 joint_parts joint.Product p q a b e f = product_parts p q a b e f
 
 pub sum_not_refused : (a b : Tree) (s : State) (r : Result ℕ NumberFault) → is_num a ≡ true → is_num b ≡ true
-    → ((p q : Fraction) → a ≡ num p → b ≡ num q → AnswersRationals (calculated add_op p q) s r)
-    → HasFewBits (value a ++ value b) → IfErr r (OfOverflow (λ o. ⊥))
+    → ((p q : Fraction) → a ≡ num p → b ≡ num q → AnswersRationals (calculated add_op p q) s r) → HasFewBits (value a ++ value b) → IfErr r (OfOverflow (λ o. ⊥))
 sum_not_refused a b s r m n f k =
     let p = as_num a m in
     let q = as_num b n in
@@ -165,8 +163,7 @@ sum_not_refused a b s r m n f k =
     (f p.0 q.0 p.1 q.1)
 
 pub product_not_refused : (a b : Tree) (s : State) (r : Result ℕ NumberFault) → is_num a ≡ true → is_num b ≡ true
-    → ((p q : Fraction) → a ≡ num p → b ≡ num q → AnswersRationals (calculated mul_op p q) s r)
-    → HasFewBits (surd_times (value a) (value b)) → IfErr r (OfOverflow (λ o. ⊥))
+    → ((p q : Fraction) → a ≡ num p → b ≡ num q → AnswersRationals (calculated mul_op p q) s r) → HasFewBits (surd_times (value a) (value b)) → IfErr r (OfOverflow (λ o. ⊥))
 product_not_refused a b s r m n f k =
     let p = as_num a m in
     let q = as_num b n in

@@ -19,17 +19,14 @@ pub num_same : {p q : Fraction} → num p ≡ num q → p ≡ q
 num_same e = cc
 
 pub rational_value : (q : Fraction) → Same (value (num q)) (surd_of q)
-rational_value q = by_test (λ b. is_zero_fraction q ≡ b → Same (if b then [] else surd_of q) (surd_of q)) (is_zero_fraction q) (λ e f. Same-sym (zero_surd_of q (zero_is q f)))
-    (λ e f. Same-refl (surd_of q)) refl
+rational_value q = by_test (λ b. is_zero_fraction q ≡ b → Same (if b then [] else surd_of q) (surd_of q)) (is_zero_fraction q) (λ e f. Same-sym (zero_surd_of q (zero_is q f))) (λ e f. Same-refl (surd_of q)) refl
 
 -- the rational that an operation gives
 pub rational_over : (x q : Fraction) (t : Tree) (v : Surd) → x ≡ q → t ≡ num x → Same (surd_of q) v → SharesDenominators v (value (num q)) → IsNumberOver v t
-rational_over x q t v e f s p =
-    subst (IsNumberOver v) (sym (f ∙ ap num e)) (record { number = number_test (num q) tt; worth = Same-trans (rational_value q) s; parts = p })
+rational_over x q t v e f s p = subst (IsNumberOver v) (sym (f ∙ ap num e)) (record { number = number_test (num q) tt; worth = Same-trans (rational_value q) s; parts = p })
 
 pub rational_power_over : (x q : Fraction) (t : Tree) (v : Surd) (n : ℕ) → x ≡ q → t ≡ num x → Same (surd_of q) (surd_power v n) → SharesPowers v n (value (num q)) → IsPowerOver v n t
-rational_power_over x q t v n e f s p =
-    subst (IsPowerOver v n) (sym (f ∙ ap num e)) (record { number = number_test (num q) tt; worth = Same-trans (rational_value q) s; parts = p })
+rational_power_over x q t v n e f s p = subst (IsPowerOver v n) (sym (f ∙ ap num e)) (record { number = number_test (num q) tt; worth = Same-trans (rational_value q) s; parts = p })
 
 pub rational_sum : (p q : Fraction) (a b : Tree) → a ≡ num p → b ≡ num q → Same (surd_of (plus p q)) (value a ++ value b)
 rational_sum p q a b e f =

@@ -65,16 +65,13 @@ partial_size gs left whole t h w l =
 
 -- a term found no room beside the sum so far
 pub term_lacks : (gs : List ℕ) {i : ℕ} {left whole : Surd} {old now : State} → IsJoined i left whole old now → Stands old → IsHanded i (forest old) → Spans gs whole → Spans gs left
-    → free_of now < 96
-    → free_of old + size (tree_of i old) < joining_need * 2 ^ length gs
+    → free_of now < 96 → free_of old + size (tree_of i old) < joining_need * 2 ^ length gs
 term_lacks gs {i} {left} {whole} {old} {now} j st o w l few =
-    let bytes = partial_size gs left whole (tree_of i now) (given_told j.gives) w l in
-    omega (arith, replaced_free st j.stands j.kept o j.gives, bytes, few)
+    let bytes = partial_size gs left whole (tree_of i now) (given_told j.gives) w l in omega (arith, replaced_free st j.stands j.kept o j.gives, bytes, few)
 
 -- a row of products found none
 pub row_lacks : (gs : List ℕ) {i : ℕ} {left whole : Surd} {old now : State} → IsJoined i left whole old now → Stands old → IsHanded i (forest old)
-    → free_of now + size (tree_of i now) < joining_need * 2 ^ length gs
-    → free_of old + size (tree_of i old) < joining_need * 2 ^ length gs
+    → free_of now + size (tree_of i now) < joining_need * 2 ^ length gs → free_of old + size (tree_of i old) < joining_need * 2 ^ length gs
 row_lacks gs j st o few = omega (arith, replaced_free st j.stands j.kept o j.gives, few)
 
 -- ---- Numbers
@@ -95,8 +92,7 @@ sum_spans_same gs a t h k s =
 pub sum_spans : (gs : List ℕ) (a b t : Tree) → is_number a ≡ true → is_number b ≡ true → IsNumberOf (value a ++ value b) t → SpansTree gs a → SpansTree gs b → SpansTree gs t
 sum_spans gs a b t h k n = sum_spanned gs a b t (number_words a h) (number_words b k) (number_words t n.number) n.worth
 
-pub product_spans : (gs : List ℕ) (a b t : Tree) → is_number a ≡ true → is_number b ≡ true → IsNumberOf (surd_times (value a) (value b)) t → SpansTree gs a → SpansTree gs b
-    → SpansTree gs t
+pub product_spans : (gs : List ℕ) (a b t : Tree) → is_number a ≡ true → is_number b ≡ true → IsNumberOf (surd_times (value a) (value b)) t → SpansTree gs a → SpansTree gs b → SpansTree gs t
 product_spans gs a b t h k n = product_spanned gs a b t (number_words a h) (number_words b k) (number_words t n.number) n.worth
 
 pub power_spans : (gs : List ℕ) (a t : Tree) (n : ℕ) → is_number a ≡ true → IsNumberOf (surd_power (value a) n) t → SpansTree gs a → SpansTree gs t

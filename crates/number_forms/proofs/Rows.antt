@@ -15,8 +15,4 @@ nothing_more (x ∷ v) = ap (λ (w : Surd). x ∷ w) (nothing_more v)
 
 -- a term is joined once a square is taken before its root
 pub joined_extracted : {q u : Term} {v : Surd} {t : Tree} → Same (q ∷ []) (u ∷ []) → IsExtracted q u → IsSumOf (q ∷ v) t → IsSumOf (u ∷ v) t
-joined_extracted {q} {u} {v} {t} s e h = record {
-  sum = h.sum;
-  worth = same_first q u v (value t) s h.worth;
-  parts = λ d p. h.parts d (parts_extracted q u v e d p);
-}
+joined_extracted {q} {u} {v} {t} s e h = record { sum = h.sum; worth = same_first q u v (value t) s h.worth; parts = λ d p. h.parts d (parts_extracted q u v e d p) }

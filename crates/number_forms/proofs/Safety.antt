@@ -29,8 +29,7 @@ passed {handed = handed} {old = old} {new = new} r e h a s =
 -- by the clauses of a call for which bytes are lacking
 pub lacked : {B : Type 0} {handed : List ℕ} {old new : State} (r : Result B Full) (e : Full) → IsErr r → IsErrAnd r (λ x. x ≡ e) → KeepsFront handed (forest old) (forest new) → Refuses old new e → LacksBytes new e
     → Stands new → IsSafePlacing handed old new r
-lacked {handed = handed} {old = old} {new = new} r e h a f u l s =
-    passed_result r e (λ x. IsSafePlacing handed old new x) h a (record { front = f; kept = tt; full = u; caused = l; stands = s })
+lacked {handed = handed} {old = old} {new = new} r e h a f u l s = passed_result r e (λ x. IsSafePlacing handed old new x) h a (record { front = f; kept = tt; full = u; caused = l; stands = s })
 
 pub passed_placing : {A B : Type 0} {handed : List ℕ} {old new : State} (r : Result B Full) (e : Full) → IsErr r → IsErrAnd r (λ x. x ≡ e) → IsSafePlacing {A = A} handed old new (Err e)
     → IsSafePlacing handed old new r
@@ -52,8 +51,7 @@ refused {handed = handed} {old = old} {new = new} r e h a f s =
 
 pub overflowed : {B : Type 0} {handed : List ℕ} {old new : State} (r : Result B NumberFault) (o : Overflow) → IsErr r → IsErrAnd r (λ x. x ≡ fault.Overflow o) → Overflows o
     → KeepsFront handed (forest old) (forest new) → KeepsRefusals old new → Stands new → IsSafe handed old new r
-overflowed {handed = handed} {old = old} {new = new} r o h a u f k s =
-    passed_result r (fault.Overflow o) (λ x. IsSafe handed old new x) h a (record { front = f; kept = tt; faults = k; caused = u; stands = s })
+overflowed {handed = handed} {old = old} {new = new} r o h a u f k s = passed_result r (fault.Overflow o) (λ x. IsSafe handed old new x) h a (record { front = f; kept = tt; faults = k; caused = u; stands = s })
 
 -- a call that places one node
 pub one_placed : {A : Type 0} {handed : List ℕ} {old new : State} (n : ℕ) (r : Result A Full) → OnOk r (KeepsRefusals old new) → IfErr r (IsRefused n old new) → KeepsFront handed (forest old) (forest new) → Stands new

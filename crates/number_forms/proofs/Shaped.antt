@@ -51,9 +51,7 @@ one_of_sum none a e = absurd (omega arith)
 one_of_sum (more t (more u us)) a e = absurd (omega arith)
 
 pub one_sum : (t : Tree) (ts : Trees) → IsSum t → t ≡ add ts → count ts ≡ 1 → IsNumberOver (value t) (nth 0 ts)
-one_sum t ts h e l =
-    let parts : IsSum (add ts) = subst IsSum e h in
-    subst (λ (v : Surd). IsNumberOver v (nth 0 ts)) (sym (ap value e)) (one_of_sum ts parts.0 l)
+one_sum t ts h e l = let parts : IsSum (add ts) = subst IsSum e h in subst (λ (v : Surd). IsNumberOver v (nth 0 ts)) (sym (ap value e)) (one_of_sum ts parts.0 l)
 
 pub more_sum : (t : Tree) (ts : Trees) → IsSum t → t ≡ add ts → 2 ≤ count ts → IsNumberOver (value t) t
 more_sum t ts h e l = grind (arith, sum_number)
@@ -67,8 +65,7 @@ pub no_term_sum_of : (v : Surd) (t : Tree) → v ≡ [] → t ≡ add none → I
 no_term_sum_of v t e f = subst (λ (w : Surd). IsSumOf w t) (sym e) (subst (IsSumOf []) (sym f) (record { sum = (tt, tt); worth = Same-refl []; parts = λ d p. p }))
 
 pub one_term_sum_of : (a t : Tree) → IsTerm a → t ≡ add (more a none) → IsSumOf (value a) t
-one_term_sum_of a t h f =
-    subst (IsSumOf (value a)) (sym f) (record { sum = ((h, tt), (tt, tt)); worth = Same-eq (sym (term_value a h)); parts = shares_eq (term_value a h) })
+one_term_sum_of a t h f = subst (IsSumOf (value a)) (sym f) (record { sum = ((h, tt), (tt, tt)); worth = Same-eq (sym (term_value a h)); parts = shares_eq (term_value a h) })
 
 pub two_from : (n : ℕ) → n ≢ 0 → n ≢ 1 → 2 ≤ n
 two_from n a b = grind arith

@@ -53,11 +53,7 @@ below_up_to t m k r h l b x = grind (arith, at_most, rises_in_sum)
 
 -- the place of a radicand that a term has
 pub place_there : (t : Tree) (n r : ℕ) → IsSum t → n < count (children_of t) → r ≡ (term_of (nth n (children_of t))).radicand → IsPlace n r (children_of t)
-place_there t n r h l e = record {
-  within = omega (arith, l);
-  below = λ k x. let up = rises_in_sum t k n h x l in omega (arith, up, e);
-  above = λ x. omega (arith, e);
-}
+place_there t n r h l e = record { within = omega (arith, l); below = λ k x. let up = rises_in_sum t k n h x l in omega (arith, up, e); above = λ x. omega (arith, e) }
 
 -- ---- the last is the greatest
 

@@ -72,8 +72,7 @@ square_held v h l k = record {
   low = k.low;
   scale = k.scale;
   scaled = square_parts v k.scale k.scaled;
-  high =
-      let a : mass k.scale (square_terms v) ≤ mass k.scale (surd_times v v) = square_mass k.scale k.scale v k.scaled in
+  high = let a : mass k.scale (square_terms v) ≤ mass k.scale (surd_times v v) = square_mass k.scale k.scale v k.scaled in
       let b : mass k.scale (surd_times v v) ≤ k.scale * 2 ^ h = k.high in
       omega arith;
 }

@@ -24,8 +24,7 @@ sum_value t h = ap value (sum_is t h)
 -- ---- a term more
 
 pub inserted_of : (n : ℕ) (t : Term) (u : Tree) (ts : Trees) (v : Surd) → IsTerm u → term_of u ≡ t → v ≡ terms_of ts → 0 < t.radicand → IsApart t.radicand v → IsPlace n t.radicand ts
-    → AreTerms ts → Rises (terms_of ts)
-    → IsSumOf (t ∷ v) (add (inserted n (more u none) ts))
+    → AreTerms ts → Rises (terms_of ts) → IsSumOf (t ∷ v) (add (inserted n (more u none) ts))
 inserted_of n t u ts v w e q o a p are rises =
     let radicand : t.radicand ≡ (term_of u).radicand = ap (λ (x : Term). x.radicand) (sym e) in
     let positive : 0 < (term_of u).radicand = subst (λ (r : ℕ). 0 < r) radicand o in
@@ -39,10 +38,8 @@ inserted_of n t u ts v w e q o a p are rises =
 
 -- with a tree that is the term
 pub inserted_in : {s v x : Tree} (n : ℕ) (u : Tree) (t : Term) → IsSum s → v ≡ s → (is_term u ≡ true) × (term_of u ≡ t) → 0 < t.radicand → IsApart t.radicand (value s)
-    → IsPlace n t.radicand (children_of s)
-    → x ≡ add (inserted n (more u none) (children_of v)) → IsSumOf (t ∷ value s) x
-inserted_in {s = s} n u t is same told o a p e =
-    let parts : IsSum (add (children_of s)) = subst IsSum (sum_is s is) is in
+    → IsPlace n t.radicand (children_of s) → x ≡ add (inserted n (more u none) (children_of v)) → IsSumOf (t ∷ value s) x
+inserted_in {s = s} n u t is same told o a p e = let parts : IsSum (add (children_of s)) = subst IsSum (sum_is s is) is in
     let tree = e ∙ ap (λ (y : Tree). add (inserted n (more u none) (children_of y))) same in
     subst (IsSumOf (t ∷ value s)) (sym tree) (inserted_of n t u (children_of s) (value s) (term_words u told.0) told.1 (sum_value s is) o a p parts.0 parts.1)
 
@@ -72,8 +69,7 @@ cancelled n t u s h l k e = record {
 
 -- a term of the two took their place
 pub made_one : (n : ℕ) (t u x : Tree) (s j : Term) → IsSum t → n < count (children_of t) → Same (j ∷ []) (term_of (nth n (children_of t)) ∷ s ∷ [])
-    → SharesDenominators (term_of (nth n (children_of t)) ∷ s ∷ []) (j ∷ [])
-    → u ≡ add (removed n (children_of t)) → IsSumOf (j ∷ value u) x → IsSumOf (s ∷ value t) x
+    → SharesDenominators (term_of (nth n (children_of t)) ∷ s ∷ []) (j ∷ []) → u ≡ add (removed n (children_of t)) → IsSumOf (j ∷ value u) x → IsSumOf (s ∷ value t) x
 made_one n t u x s j h l k f e w = record {
   sum = w.sum;
   parts = λ d p.
@@ -91,6 +87,5 @@ pub matched : (t : Term) (u v : Tree) (m n : Match) → u ≡ v → m ≡ n → 
 matched t u v m n e f h = subst (λ (x : Match). IsMatch t (children_of v) x) f (subst (λ (x : Tree). IsMatch t (children_of x) m) e h)
 
 pub apart_rest : (n : ℕ) (t u : Tree) (s j : Term) → IsSum t → n < count (children_of t) → IsProper j → are_alike (term_of (nth n (children_of t))).radicand s.radicand ≡ true
-    → Same (j ∷ []) (term_of (nth n (children_of t)) ∷ s ∷ [])
-    → u ≡ add (removed n (children_of t)) → IsApart j.radicand (value u)
+    → Same (j ∷ []) (term_of (nth n (children_of t)) ∷ s ∷ []) → u ≡ add (removed n (children_of t)) → IsApart j.radicand (value u)
 apart_rest n t u s j h l p a k e = grind (arith, sum_is, apart_removed, alike_sum)

@@ -90,8 +90,7 @@ is_number_kind x = grind arith
 both : (x : Payload) (j s : Forest) (rest : List Node) → takes x (arity j) ≡ true → arity s ≡ 1 → AllExpressions s
     → (is_num_kind (kind_of_payload x) && (is_root_kind (first_kind (map visit_of ((flatten j ++ flatten s) ++ rest))) && is_number_next (drop 1 (map visit_of ((flatten j ++ flatten s) ++ rest))))) ≡ has_term_shape (mult (more (grown x (plains j)) (plains s)))
 both x j s rest h a w = elim (is_number_kind x) [
-  | inl e ↦
-      let (n, q, g) = num_is x (plains j) (arity j) h e in
+  | inl e ↦ let (n, q, g) = num_is x (plains j) (arity j) h e in
       let nodes : (flatten j ++ flatten s) ++ rest ≡ flatten s ++ rest = ap (λ (f : Forest). (flatten f ++ flatten s) ++ rest) (no_trees j n) in
       ap (λ c. is_num_kind c && (is_root_kind (first_kind (map visit_of ((flatten j ++ flatten s) ++ rest))) && is_number_next (drop 1 (map visit_of ((flatten j ++ flatten s) ++ rest))))) e
       ∙ ap (λ (ns : List Node). is_root_kind (first_kind (map visit_of ns)) && is_number_next (drop 1 (map visit_of ns))) nodes

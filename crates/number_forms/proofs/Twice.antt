@@ -16,8 +16,7 @@ one_and_one = plus_over (pos 1) (pos 1) 1 (omega arith)
 
 pub doubled : (q : Fraction) → plus q q ≡ times q (whole_fraction (pos 2))
 doubled q =
-    let one : q ≡ times q one_fraction = sym (one_times q) ∙ times_comm one_fraction q in
-    (λ i. plus (one i) (one i)) ∙ sym (times_plus q one_fraction one_fraction) ∙ ap (times q) one_and_one
+    let one : q ≡ times q one_fraction = sym (one_times q) ∙ times_comm one_fraction q in (λ i. plus (one i) (one i)) ∙ sym (times_plus q one_fraction one_fraction) ∙ ap (times q) one_and_one
 
 pub times_doubled : (c e : Fraction) → times (plus c c) e ≡ plus (times c e) (times c e)
 times_doubled c e = times_comm (plus c c) e ∙ times_plus e c c ∙ (λ i. plus (times_comm e c i) (times_comm e c i))

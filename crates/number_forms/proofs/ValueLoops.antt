@@ -10,8 +10,7 @@ pub record AreTermsWith (left whole : Surd) (ts : List CodeTerm) : Type 0 where
   pub worth : Same (surd_of ts ++ left) whole
   pub parts : SharesDenominators whole (surd_of ts ++ left)
 
-pub with_part : {left rest whole : Surd} {ts us : List CodeTerm} (row : Surd) → left ≡ row ++ rest → AreTermsOf (surd_of ts ++ row) us → AreTermsWith left whole ts
-    → AreTermsWith rest whole us
+pub with_part : {left rest whole : Surd} {ts us : List CodeTerm} (row : Surd) → left ≡ row ++ rest → AreTermsOf (surd_of ts ++ row) us → AreTermsWith left whole ts → AreTermsWith rest whole us
 with_part {left} {rest} {whole} {ts} {us} row e h k = record {
   listed = h.listed;
   worth = part_step (surd_of ts) (surd_of us) left row rest whole e h.worth k.worth;
@@ -19,8 +18,7 @@ with_part {left} {rest} {whole} {ts} {us} row e h k = record {
 }
 
 pub with_step : {left rest whole : Surd} {ts us : List CodeTerm} (y : Term) → left ≡ y ∷ rest → AreTermsOf (y ∷ surd_of ts) us → AreTermsWith left whole ts → AreTermsWith rest whole us
-with_step {ts = ts} {us = us} y e h k =
-    with_part (y ∷ []) e (record { listed = h.listed; worth = same_behind (surd_of ts) (surd_of us) y h.worth; parts = parts_behind (surd_of ts) (surd_of us) y h.parts }) k
+with_step {ts = ts} {us = us} y e h k = with_part (y ∷ []) e (record { listed = h.listed; worth = same_behind (surd_of ts) (surd_of us) y h.worth; parts = parts_behind (surd_of ts) (surd_of us) y h.parts }) k
 
 pub with_none : {left whole : Surd} {ts : List CodeTerm} → left ≡ [] → AreTermsWith left whole ts → AreTermsOf whole ts
 with_none {left} {whole} {ts} e k = record { listed = k.listed; worth = join_end (surd_of ts) left whole e k.worth; parts = parts_end (surd_of ts) left whole k.parts }

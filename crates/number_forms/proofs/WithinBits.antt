@@ -100,15 +100,13 @@ extracted_held a t u h l x k = record {
 pub row_within : (p : Tree) (x : Term) (w : Surd) (h l : ℕ) (o : Overflow) → IsSum p → IsProper x → AreProper w → IsHeld (value p ++ map (term_times x) w) h l → 2 * h + 4 * l ≤ 124
     → RowOverflows (value p) x w o → ⊥
 row_within p x w h l o is proper are k few r = elim r.cause [
-  | inl m ↦
-      let row : IsHeld (map (term_times x) w) h l = held_right (value p) (map (term_times x) w) h l k in
+  | inl m ↦ let row : IsHeld (map (term_times x) w) h l = held_right (value p) (map (term_times x) w) h l k in
       let here : map (term_times x) w ≡ map (term_times x) (take r.at w) ++ ((term_times x r.other ∷ []) ++ map (term_times x) (terms_from (suc r.at) w)) =
       ap (map (term_times x)) (at_place r.at w r.other r.here) ∙ map-append' (term_times x) (take r.at w) (r.other ∷ terms_from (suc r.at) w) in
       let end = held_right (map (term_times x) (take r.at w)) ((term_times x r.other ∷ []) ++ map (term_times x) (terms_from (suc r.at) w)) h l (subst (λ (v : Surd). IsHeld v h l) here row) in
       no_product_misfit x r.other h l (calculation_of o) proper (proper_at w r.at r.other are r.here)
       (held_left (term_times x r.other ∷ []) (map (term_times x) (terms_from (suc r.at) w)) h l end) few m
-  | inr j ↦
-      let left : Surd = map (term_times x) (terms_from r.at w) in
+  | inr j ↦ let left : Surd = map (term_times x) (terms_from r.at w) in
       let done : Surd = map (term_times x) (take r.at w) in
       let whole : value p ++ map (term_times x) w ≡ (value p ++ done) ++ left =
       ap (λ (v : Surd). value p ++ v) (ap (map (term_times x)) (before_from r.at w) ∙ map-append' (term_times x) (take r.at w) (terms_from r.at w)) ∙ sym (append_assoc (value p) done left) in

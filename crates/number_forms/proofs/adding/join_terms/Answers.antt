@@ -4,11 +4,12 @@ use Rattle.number_forms.proofs.{Shared.{OfOverflow, passed_on, overflow_as, span
 use Rattle.number_forms.proofs.{Worth.{terms_from, from_next}, Rooms.{full_as, spans_from, term_lacks}, Refusals.{none_kept}, Safety.{after_one, answered, passed}}
 use Rattle.number_forms.proofs.adding.join_terms.Goals as goal
 
-pub term_count-at-end-requires-clause-expression : goal.term_count-at-end-requires-clause-expression
-term_count-at-end-requires-clause-expression g c = other_expression c.args.number c.args.pool.now c.requires.stands c.requires.sum c.requires.handed
-
-pub term_count-at-end-requires-clause-number : goal.term_count-at-end-requires-clause-number
-term_count-at-end-requires-clause-number g c = ap is_number (plain_root c.args.number c.requires.stands (given_other c.requires.sum c.requires.handed).root) ∙ c.requires.number
+pub term_count-at-end-requires : goal.term_count-at-end-requires
+term_count-at-end-requires g c = record {
+  stands = c.requires.stands;
+  expression = other_expression c.args.number c.args.pool.now c.requires.stands c.requires.sum c.requires.handed;
+  number = ap is_number (plain_root c.args.number c.requires.stands (given_other c.requires.sum c.requires.handed).root) ∙ c.requires.number;
+}
 
 pub loop-at-init : goal.loop-at-init
 loop-at-init g c = record { joined = joined_none c.args.sum.now (value (tree_of c.args.number c.args.pool.now)) c.args.pool.now c.requires.stands c.requires.sum; lists = c.requires.lists }
@@ -30,46 +31,42 @@ loop-at-preserved g c =
     record { joined = joined_more c.args.sum.now _ _ _ _ (term_of c.listed_term-term.result) c.args.pool.now c.loop-at.pool c.join_term.new.pool c.loop-at.invariant.joined next (Same-refl _) (λ d p. p) c.in_ok-join_term.ensures.ok c.join_term.ensures.safe.front c.in_ok-join_term.ensures.safe.kept c.join_term.ensures.safe.stands; lists = c.in_ok-join_term.ensures.lists }
 
 pub returns : goal.returns
-returns g c =
-    record {
-      ok = let all = ap classes (plain_root c.args.number c.requires.stands (given_other c.requires.sum c.requires.handed).root) in
-          let end : length (value (tree_of c.args.number c.args.pool.now)) ≤ c.loop-at.at = omega (arith, all, c.term_count-at-end.ensures, c.loop-at-test.false) in
-          joined_all c.loop-at.invariant.joined (from_all (value (tree_of c.args.number c.args.pool.now)) c.loop-at.at end);
-      lists = c.loop-at.invariant.lists;
-      overflow = tt;
-      room = λ a b d. tt;
-      safe = let j = c.loop-at.invariant.joined in answered j.front j.kept j.stands;
-    }
+returns g c = record {
+  ok = let all = ap classes (plain_root c.args.number c.requires.stands (given_other c.requires.sum c.requires.handed).root) in
+      let end : length (value (tree_of c.args.number c.args.pool.now)) ≤ c.loop-at.at = omega (arith, all, c.term_count-at-end.ensures, c.loop-at-test.false) in
+      joined_all c.loop-at.invariant.joined (from_all (value (tree_of c.args.number c.args.pool.now)) c.loop-at.at end);
+  lists = c.loop-at.invariant.lists;
+  overflow = tt;
+  room = λ a b d. tt;
+  safe = let j = c.loop-at.invariant.joined in answered j.front j.kept j.stands;
+}
 
 pub of-terms-requires : goal.of-terms-requires
 of-terms-requires g c = (search rules, (c.requires.stands, other_expression c.args.number c.args.pool.now c.requires.stands c.requires.sum c.requires.handed))
 
 pub returns-in_err-join_term : goal.returns-in_err-join_term
-returns-in_err-join_term g c =
-    let r = c.from_residual.result in let e = c.in_err-join_term.field-0.0 in let said = c.from_residual.ensures in
-    record {
-      ok = none_kept r _ said.0;
-      lists = none_kept r _ said.0;
-      overflow = let number : Tree = tree_of c.args.number c.args.pool.now in
-          let same = other_read c.args.number c.loop-at.pool c.loop-at.invariant.joined.stands c.loop-at.invariant.joined.gives c.requires.handed
-          ∙ sym (other_plain c.args.number c.requires.sum c.requires.handed.root) in
-          let here : slice_get (value number) c.loop-at.at ≡ Some (term_of c.listed_term-term.result) = ap (λ (t : Tree). slice_get (value t) c.loop-at.at) (sym same) ∙ c.listed_term-term.ensures in
-          let told = given_told c.loop-at.invariant.joined.gives in
-          passed_on r e (OfOverflow (SumOverflows (value (tree_of c.args.sum.now c.args.pool.now)) (value number))) said.0 said.1
-          (overflow_as c.in_err-join_term.field-0.0 c.in_err-join_term.ensures.overflow (λ o j. record {
-            at = c.loop-at.at;
-            next = term_of c.listed_term-term.result;
-            here = here;
-            partial = tree_of c.args.sum.now c.loop-at.pool;
-            sum = told.sum;
-            worth = told.worth;
-            parts = told.parts;
-            joined = j;
-          }));
-      room = λ gs s t.
-          passed_on r e (LacksRoom joining_need (free_of c.args.pool.now + size (tree_of c.args.sum.now c.args.pool.now)) gs) said.0 said.1
-          (full_as c.in_err-join_term.field-0.0 c.in_err-join_term.ensures.room
-          (λ full few. term_lacks gs c.loop-at.invariant.joined c.requires.stands (given_handed c.requires.sum) (spans_append gs _ _ s t)
-          (spans_from gs (value (tree_of c.args.number c.args.pool.now)) c.loop-at.at t) few));
-      safe = let j = c.loop-at.invariant.joined in after_one j.kept behind_first j.front (passed r e said.0 said.1 c.in_err-join_term.ensures.safe);
-    }
+returns-in_err-join_term g c = let r = c.from_residual.result in let e = c.in_err-join_term.field-0.0 in let said = c.from_residual.ensures in record {
+  ok = none_kept r _ said.0;
+  lists = none_kept r _ said.0;
+  overflow = let number : Tree = tree_of c.args.number c.args.pool.now in
+      let same = other_read c.args.number c.loop-at.pool c.loop-at.invariant.joined.stands c.loop-at.invariant.joined.gives c.requires.handed
+      ∙ sym (other_plain c.args.number c.requires.sum c.requires.handed.root) in
+      let here : slice_get (value number) c.loop-at.at ≡ Some (term_of c.listed_term-term.result) = ap (λ (t : Tree). slice_get (value t) c.loop-at.at) (sym same) ∙ c.listed_term-term.ensures in
+      let told = given_told c.loop-at.invariant.joined.gives in
+      passed_on r e (OfOverflow (SumOverflows (value (tree_of c.args.sum.now c.args.pool.now)) (value number))) said.0 said.1
+      (overflow_as c.in_err-join_term.field-0.0 c.in_err-join_term.ensures.overflow (λ o j. record {
+        at = c.loop-at.at;
+        next = term_of c.listed_term-term.result;
+        here = here;
+        partial = tree_of c.args.sum.now c.loop-at.pool;
+        sum = told.sum;
+        worth = told.worth;
+        parts = told.parts;
+        joined = j;
+      }));
+  room = λ gs s t. passed_on r e (LacksRoom joining_need (free_of c.args.pool.now + size (tree_of c.args.sum.now c.args.pool.now)) gs) said.0 said.1
+      (full_as c.in_err-join_term.field-0.0 c.in_err-join_term.ensures.room
+      (λ full few. term_lacks gs c.loop-at.invariant.joined c.requires.stands (given_handed c.requires.sum) (spans_append gs _ _ s t)
+      (spans_from gs (value (tree_of c.args.number c.args.pool.now)) c.loop-at.at t) few));
+  safe = let j = c.loop-at.invariant.joined in after_one j.kept behind_first j.front (passed r e said.0 said.1 c.in_err-join_term.ensures.safe);
+}

@@ -23,41 +23,35 @@ release-requires-then-terms-eq1-clause-releasable c =
     inl (only_owned c.requires.sum (children_of sum) (sum_is sum (given_told c.requires.sum)) (c.take_child-term.ensures.last (given_root c.requires.sum))).root
 
 pub returns-else-terms-eq1 : goal.returns-else-terms-eq1
-returns-else-terms-eq1 c =
-    record {
-      ok = let sum = tree_of c.args.sum c.args.pool.now in
-          let told = given_told c.requires.sum in
-          let all : c.children-terms.result ≡ count (children_of sum) = terms (goal.at.returns-else-terms-eq1 c).After-children-terms in
-          let two : 2 ≤ c.children-terms.result = two_from c.children-terms.result c.if-terms-eq0.false c.if-terms-eq1.false in
-          gives_as (gives_itself c.requires.sum) refl (λ t h. let e = h.1 in subst (IsNumberOver (value sum)) (sym e) (more_sum sum (children_of sum) told (sum_is sum told) (omega (arith, all, two))));
-      room = tt;
-      safe = placed front_same (kept_same c.args.pool.now) c.requires.stands;
-    }
+returns-else-terms-eq1 c = record {
+  ok = let sum = tree_of c.args.sum c.args.pool.now in let told = given_told c.requires.sum in
+      let all : c.children-terms.result ≡ count (children_of sum) = terms (goal.at.returns-else-terms-eq1 c).After-children-terms in
+      let two : 2 ≤ c.children-terms.result = two_from c.children-terms.result c.if-terms-eq0.false c.if-terms-eq1.false in
+      gives_as (gives_itself c.requires.sum) refl (λ t h. let e = h.1 in subst (IsNumberOver (value sum)) (sym e) (more_sum sum (children_of sum) told (sum_is sum told) (omega (arith, all, two))));
+  room = tt;
+  safe = placed front_same (kept_same c.args.pool.now) c.requires.stands;
+}
 
 pub returns-then-terms-eq0 : goal.returns-then-terms-eq0
-returns-then-terms-eq0 c =
-    record {
-      ok = let sum = tree_of c.args.sum c.args.pool.now in
-          let none : count (children_of sum) ≡ 0 = sym (terms (goal.at.returns-then-terms-eq0 c).After-children-terms) ∙ c.if-terms-eq0.true in
-          if_given _ _ _ _ _ c.number.result c.number.ensures.given (c.release.ensures.owned (owned (given_handed c.requires.sum)))
-          (λ t e. zero_number_of _ t _ (zero_sum sum (given_told c.requires.sum) none) e (whole_is c.whole.result (pos 0) c.whole.ensures));
-      room = let sum = given_handed c.requires.sum in
-          let free = released_free c.requires.stands c.release.ensures.stands c.release.ensures.kept sum (c.release.ensures.owned (owned sum)) in
-          refusal_as c.number.result c.number.ensures.full (λ full r.
-          let few : free_of c.release.new.pool < root_size (num (value_of c.whole.result)) = refused_below r in
-          omega (arith, free, few, num_most (value_of c.whole.result)));
-      safe = after_placing c.release.ensures.kept (front_at (front_without behind_first front_same) (c.release.ensures.owned (owned (given_handed c.requires.sum)))) (one_placed _ c.number.result c.number.ensures.kept c.number.ensures.full c.number.ensures.front c.number.ensures.stands);
-    }
+returns-then-terms-eq0 c = record {
+  ok = let sum = tree_of c.args.sum c.args.pool.now in
+      let none : count (children_of sum) ≡ 0 = sym (terms (goal.at.returns-then-terms-eq0 c).After-children-terms) ∙ c.if-terms-eq0.true in
+      if_given _ _ _ _ _ c.number.result c.number.ensures.given (c.release.ensures.owned (owned (given_handed c.requires.sum)))
+      (λ t e. zero_number_of _ t _ (zero_sum sum (given_told c.requires.sum) none) e (whole_is c.whole.result (pos 0) c.whole.ensures));
+  room = let sum = given_handed c.requires.sum in
+      let free = released_free c.requires.stands c.release.ensures.stands c.release.ensures.kept sum (c.release.ensures.owned (owned sum)) in
+      refusal_as c.number.result c.number.ensures.full (λ full r. let few : free_of c.release.new.pool < root_size (num (value_of c.whole.result)) = refused_below r in
+      omega (arith, free, few, num_most (value_of c.whole.result)));
+  safe = after_placing c.release.ensures.kept (front_at (front_without behind_first front_same) (c.release.ensures.owned (owned (given_handed c.requires.sum)))) (one_placed _ c.number.result c.number.ensures.kept c.number.ensures.full c.number.ensures.front c.number.ensures.stands);
+}
 
 pub returns-then-terms-eq1 : goal.returns-then-terms-eq1
-returns-then-terms-eq1 c =
-    record {
-      ok = let sum = tree_of c.args.sum c.args.pool.now in
-          let told = given_told c.requires.sum in
-          let one : count (children_of sum) ≡ 1 = sym (terms (goal.at.returns-then-terms-eq1 c).After-children-terms) ∙ c.if-terms-eq1.true in
-          let taken = c.take_child-term.ensures.last (given_root c.requires.sum) in
-          let gone = c.release-then-terms-eq1.ensures.owned (owned (only_owned c.requires.sum (children_of sum) (sum_is sum told) taken)) in
-          only_child c.requires.sum (children_of sum) (sum_is sum told) (omega (arith, one)) taken gone (one_sum sum (children_of sum) told (sum_is sum told) one);
-      room = tt;
-      safe = placed (let sum = tree_of c.args.sum c.args.pool.now in let taken = c.take_child-term.ensures.last (given_root c.requires.sum) in let gone = c.release-then-terms-eq1.ensures.owned (owned (only_owned c.requires.sum (children_of sum) (sum_is sum (given_told c.requires.sum)) taken)) in front_at (front_without behind_first (front_end taken (front_put _ behind_first front_same))) gone) (kept_after c.take_child-term.ensures.kept c.release-then-terms-eq1.ensures.kept) c.release-then-terms-eq1.ensures.stands;
-    }
+returns-then-terms-eq1 c = record {
+  ok = let sum = tree_of c.args.sum c.args.pool.now in let told = given_told c.requires.sum in
+      let one : count (children_of sum) ≡ 1 = sym (terms (goal.at.returns-then-terms-eq1 c).After-children-terms) ∙ c.if-terms-eq1.true in
+      let taken = c.take_child-term.ensures.last (given_root c.requires.sum) in
+      let gone = c.release-then-terms-eq1.ensures.owned (owned (only_owned c.requires.sum (children_of sum) (sum_is sum told) taken)) in
+      only_child c.requires.sum (children_of sum) (sum_is sum told) (omega (arith, one)) taken gone (one_sum sum (children_of sum) told (sum_is sum told) one);
+  room = tt;
+  safe = placed (let sum = tree_of c.args.sum c.args.pool.now in let taken = c.take_child-term.ensures.last (given_root c.requires.sum) in let gone = c.release-then-terms-eq1.ensures.owned (owned (only_owned c.requires.sum (children_of sum) (sum_is sum (given_told c.requires.sum)) taken)) in front_at (front_without behind_first (front_end taken (front_put _ behind_first front_same))) gone) (kept_after c.take_child-term.ensures.kept c.release-then-terms-eq1.ensures.kept) c.release-then-terms-eq1.ensures.stands;
+}

@@ -10,26 +10,19 @@ returns-then-is_neutral-clause-ok c =
 
 pub returns-then-is_neutral-2-clause-ok : goal.returns-then-is_neutral-2-clause-ok
 returns-then-is_neutral-2-clause-ok c =
-    gives_as c.keep_other-then-is_neutral-2.ensures.gives (without-swap c.args.a c.args.b _ c.requires.apart)
-    (λ t e.
+    gives_as c.keep_other-then-is_neutral-2.ensures.gives (without-swap c.args.a c.args.b _ c.requires.apart) (λ t e.
     let neutral = sym c.is_neutral-else-is_neutral.ensures ∙ c.if-is_neutral-2.true in
     with_neutral c.args.joint (tree_of c.args.a c.args.pool.now) (tree_of c.args.b c.args.pool.now) t neutral c.requires.first_number e)
 
-pub returns-in-Sum-clause-room : goal.returns-in-Sum-clause-room
-returns-in-Sum-clause-room c = λ gs s t.
-    subst (λ (j : Joint). IfErr c.add_terms.result (LacksJointRoom j c.args.a c.args.b c.args.pool.now gs)) (sym c.in-Sum.is) (c.add_terms.ensures.room gs s t)
-
-pub returns-in-Sum-clause-ok : goal.returns-in-Sum-clause-ok
-returns-in-Sum-clause-ok c = subst (λ (j : Joint). IfOk c.add_terms.result (λ h. Gives (without_root c.args.b (without_root c.args.a (forest c.args.pool.now))) (forest c.add_terms.new.pool) h (IsNumberOver (both j (value (tree_of c.args.a c.args.pool.now)) (value (tree_of c.args.b c.args.pool.now)))))) (sym c.in-Sum.is) c.add_terms.ensures.ok
-
-pub returns-in-Sum-clause-overflow : goal.returns-in-Sum-clause-overflow
-returns-in-Sum-clause-overflow c = subst (λ (j : Joint). IfErr c.add_terms.result (OfOverflow (JointOverflows j (value (tree_of c.args.a c.args.pool.now)) (value (tree_of c.args.b c.args.pool.now))))) (sym c.in-Sum.is) c.add_terms.ensures.overflow
-
-pub returns-in-Sum-clause-first_neutral : goal.returns-in-Sum-clause-first_neutral
-returns-in-Sum-clause-first_neutral c = λ h. absurd (cc (c.is_neutral.ensures, c.if-is_neutral.false, h))
-
-pub returns-in-Sum-clause-second_neutral : goal.returns-in-Sum-clause-second_neutral
-returns-in-Sum-clause-second_neutral c = λ k h. absurd (cc (c.is_neutral-else-is_neutral.ensures, c.if-is_neutral-2.false, h))
+pub returns-in-Sum : goal.returns-in-Sum
+returns-in-Sum c = record {
+  ok = subst (λ (j : Joint). IfOk c.add_terms.result (λ h. Gives (without_root c.args.b (without_root c.args.a (forest c.args.pool.now))) (forest c.add_terms.new.pool) h (IsNumberOver (both j (value (tree_of c.args.a c.args.pool.now)) (value (tree_of c.args.b c.args.pool.now)))))) (sym c.in-Sum.is) c.add_terms.ensures.ok;
+  overflow = subst (λ (j : Joint). IfErr c.add_terms.result (OfOverflow (JointOverflows j (value (tree_of c.args.a c.args.pool.now)) (value (tree_of c.args.b c.args.pool.now))))) (sym c.in-Sum.is) c.add_terms.ensures.overflow;
+  room = λ gs s t. subst (λ (j : Joint). IfErr c.add_terms.result (LacksJointRoom j c.args.a c.args.b c.args.pool.now gs)) (sym c.in-Sum.is) (c.add_terms.ensures.room gs s t);
+  first_neutral = λ h. absurd (cc (c.is_neutral.ensures, c.if-is_neutral.false, h));
+  second_neutral = λ k h. absurd (cc (c.is_neutral-else-is_neutral.ensures, c.if-is_neutral-2.false, h));
+  safe = c.add_terms.ensures.safe;
+}
 
 pub returns-in-Product-clause-first_neutral : goal.returns-in-Product-clause-first_neutral
 returns-in-Product-clause-first_neutral c = λ h. absurd (cc (c.is_neutral.ensures, c.if-is_neutral.false, h))

@@ -8,8 +8,7 @@ two : (n : ℕ) → 1 ≤ n → n ≤ 2 → n ≢ 1 → n ≡ 2
 two n l h k = grind arith
 
 both : (c : After-nth_term-second) → value (tree_of c.args.a.now c.args.pool.now) ≡ term_of c.nth_term-first.result ∷ term_of c.nth_term-second.result ∷ []
-both c =
-    both_terms _ _ _ (sym c.requires.classes ∙ two c.args.terms c.requires.some c.requires.few c.if-terms-eq1.false) c.nth_term-first.ensures c.nth_term-second.ensures
+both c = both_terms _ _ _ (sym c.requires.classes ∙ two c.args.terms c.requires.some c.requires.few c.if-terms-eq1.false) c.nth_term-first.ensures c.nth_term-second.ensures
 
 pub inverse_of_sum-requires : goal.inverse_of_sum-requires
 inverse_of_sum-requires c = apart_terms _ _ _ c.requires.number (both (goal.at.inverse_of_sum-requires c).After-nth_term-second)
@@ -22,15 +21,7 @@ IsMisfit v r = misfit_of r ≡ first_misfit (inverting_calculations v)
 only : (c : After-inverse) → value (tree_of c.args.a.now c.args.pool.now) ≡ term_of c.nth_term-first.result ∷ []
 only c = only_term _ _ (sym c.requires.classes ∙ c.if-terms-eq1.true) c.nth_term-first.ensures
 
-pub returns-then-terms-eq1-clause-ok : goal.returns-then-terms-eq1-clause-ok
-returns-then-terms-eq1-clause-ok c = one_inverse _ _ c.in_ok-one.one (only (goal.at.returns-then-terms-eq1-clause-ok c).After-inverse) c.in_ok-one.ensures.inverts c.in_ok-one.ensures.value
-
 -- ---- of two
-
-pub returns-clause-ok : goal.returns-clause-ok
-returns-clause-ok c =
-    two_inverse _ _ _ c.in_ok-inverse.inverse.0 c.in_ok-inverse.inverse.1 c.requires.number (both (goal.at.returns-clause-ok c).After-nth_term-second) c.in_ok-inverse.ensures.inverts
-    c.in_ok-inverse.ensures.first c.in_ok-inverse.ensures.second
 
 pub nth_term-first-requires-clause-within : goal.nth_term-first-requires-clause-within
 nth_term-first-requires-clause-within c = omega (arith, c.requires.classes, c.requires.some)
@@ -39,38 +30,36 @@ pub nth_term-second-requires-clause-within : goal.nth_term-second-requires-claus
 nth_term-second-requires-clause-within c = omega (arith, c.requires.classes, two c.args.terms c.requires.some c.requires.few c.if-terms-eq1.false)
 
 pub returns-in_err-one : goal.returns-in_err-one
-returns-in_err-one c =
-    let r = c.from_residual.result in let e = c.in_err-one.field-0.0 in let said = c.from_residual.ensures in
-    record {
-      ok = none_given r _ said.0;
-      overflow = passed_result r e (IsMisfit (value (tree_of c.args.a.now c.args.pool.now))) said.0 said.1
-          (c.in_err-one.ensures.overflow ∙ ap (λ v. first_misfit (inverting_calculations v)) (sym (only (goal.at.returns-in_err-one c).After-inverse)));
-      rational = λ q e. absurd (cc (c.in_err-one.ensures.rational (rational_radicand (tree_of c.args.a.now c.args.pool.now) q _ e (only (goal.at.returns-in_err-one c).After-inverse))));
-      caused = search rules;
-    }
+returns-in_err-one c = let r = c.from_residual.result in let e = c.in_err-one.field-0.0 in let said = c.from_residual.ensures in record {
+  ok = none_given r _ said.0;
+  overflow = passed_result r e (IsMisfit (value (tree_of c.args.a.now c.args.pool.now))) said.0 said.1
+      (c.in_err-one.ensures.overflow ∙ ap (λ v. first_misfit (inverting_calculations v)) (sym (only (goal.at.returns-in_err-one c).After-inverse)));
+  rational = λ q e. absurd (cc (c.in_err-one.ensures.rational (rational_radicand (tree_of c.args.a.now c.args.pool.now) q _ e (only (goal.at.returns-in_err-one c).After-inverse))));
+  caused = search rules;
+}
 
-pub returns-then-terms-eq1-clause-overflow : goal.returns-then-terms-eq1-clause-overflow
-returns-then-terms-eq1-clause-overflow c =
-    c.in_ok-one.ensures.overflow ∙ ap (λ v. first_misfit (inverting_calculations v)) (sym (only (goal.at.returns-then-terms-eq1-clause-overflow c).After-inverse))
-
-pub returns-then-terms-eq1-clause-rational : goal.returns-then-terms-eq1-clause-rational
-returns-then-terms-eq1-clause-rational c = λ q e. refl
+pub returns-then-terms-eq1 : goal.returns-then-terms-eq1
+returns-then-terms-eq1 c = record {
+  ok = one_inverse _ _ c.in_ok-one.one (only (goal.at.returns-then-terms-eq1 c).After-inverse) c.in_ok-one.ensures.inverts c.in_ok-one.ensures.value;
+  overflow = c.in_ok-one.ensures.overflow ∙ ap (λ v. first_misfit (inverting_calculations v)) (sym (only (goal.at.returns-then-terms-eq1 c).After-inverse));
+  rational = λ q e. refl;
+  caused = tt;
+}
 
 pub returns-in_err-inverse : goal.returns-in_err-inverse
-returns-in_err-inverse c =
-    let r = c.from_residual-in_err-inverse.result in let e = c.in_err-inverse.field-0.0 in let said = c.from_residual-in_err-inverse.ensures in
-    record {
-      ok = none_given r _ said.0;
-      overflow = passed_result r e (IsMisfit (value (tree_of c.args.a.now c.args.pool.now))) said.0
-          said.1
-          (c.in_err-inverse.ensures.overflow ∙ ap (λ v. first_misfit (inverting_calculations v)) (sym (both (goal.at.returns-in_err-inverse c).After-nth_term-second)));
-      rational = λ q e. absurd (rational_classes (tree_of c.args.a.now c.args.pool.now) q e (sym c.requires.classes ∙ two c.args.terms c.requires.some c.requires.few c.if-terms-eq1.false));
-      caused = passed_on r e Overflows said.0 said.1 c.in_err-inverse.ensures.caused;
-    }
+returns-in_err-inverse c = let r = c.from_residual-in_err-inverse.result in let e = c.in_err-inverse.field-0.0 in let said = c.from_residual-in_err-inverse.ensures in record {
+  ok = none_given r _ said.0;
+  overflow = passed_result r e (IsMisfit (value (tree_of c.args.a.now c.args.pool.now))) said.0 said.1
+      (c.in_err-inverse.ensures.overflow ∙ ap (λ v. first_misfit (inverting_calculations v)) (sym (both (goal.at.returns-in_err-inverse c).After-nth_term-second)));
+  rational = λ q e. absurd (rational_classes (tree_of c.args.a.now c.args.pool.now) q e (sym c.requires.classes ∙ two c.args.terms c.requires.some c.requires.few c.if-terms-eq1.false));
+  caused = passed_on r e Overflows said.0 said.1 c.in_err-inverse.ensures.caused;
+}
 
-pub returns-clause-overflow : goal.returns-clause-overflow
-returns-clause-overflow c =
-    c.in_ok-inverse.ensures.overflow ∙ ap (λ v. first_misfit (inverting_calculations v)) (sym (both (goal.at.returns-clause-overflow c).After-nth_term-second))
-
-pub returns-clause-rational : goal.returns-clause-rational
-returns-clause-rational c = λ q e. refl
+pub returns : goal.returns
+returns c = record {
+  ok = two_inverse _ _ _ c.in_ok-inverse.inverse.0 c.in_ok-inverse.inverse.1 c.requires.number (both (goal.at.returns c).After-nth_term-second) c.in_ok-inverse.ensures.inverts
+      c.in_ok-inverse.ensures.first c.in_ok-inverse.ensures.second;
+  overflow = c.in_ok-inverse.ensures.overflow ∙ ap (λ v. first_misfit (inverting_calculations v)) (sym (both (goal.at.returns c).After-nth_term-second));
+  rational = λ q e. refl;
+  caused = tt;
+}

@@ -12,8 +12,7 @@ second c = given_is c.in_ok-second.ensures.ok c.in_ok-second.ensures.tree
 
 pub node_over_two-requires : goal.node_over_two-requires
 node_over_two-requires c =
-    let p = c.in_ok-first.ensures.ok in
-    let q = c.in_ok-second.ensures.ok in
+    let p = c.in_ok-first.ensures.ok in let q = c.in_ok-second.ensures.ok in
     record { stands = c.place_term-2.ensures.stands; takes = refl; first = first_handed p q; second = given_handed q; apart = pair_apart _ _ p q }
 
 -- ---- the first node that lacks bytes
@@ -23,10 +22,7 @@ Short free a b full = building free (sum_of_terms (term_of a) (term_of b)) ≡ E
 
 pub returns-in_err-first : goal.returns-in_err-first
 returns-in_err-first c =
-    let r = c.from_residual.result in
-    let e = c.in_err-first.field-0.0 in
-    let said = c.from_residual.ensures in
-    let lack = c.in_err-first.ensures in
+    let r = c.from_residual.result in let e = c.in_err-first.field-0.0 in let said = c.from_residual.ensures in let lack = c.in_err-first.ensures in
     record {
       ok = none_given r _ said.0;
       first_lack = passed_on r e (Short (free_of c.args.pool.now) c.args.a c.args.b) said.0 said.1
@@ -36,11 +32,8 @@ returns-in_err-first c =
 
 pub returns-in_err-second : goal.returns-in_err-second
 returns-in_err-second c =
-    let r = c.from_residual-in_err-second.result in
-    let e = c.in_err-second.field-0.0 in
-    let said = c.from_residual-in_err-second.ensures in
-    let lack = c.in_err-second.ensures in
-    record {
+    let r = c.from_residual-in_err-second.result in let e = c.in_err-second.field-0.0 in let said = c.from_residual-in_err-second.ensures in
+    let lack = c.in_err-second.ensures in record {
       ok = none_given r _ said.0;
       first_lack = passed_on r e (Short (free_of c.args.pool.now) c.args.a c.args.b) said.0 said.1
           (second_lacks c.requires.stands c.place_term.ensures.stands c.in_ok-first.ensures.kept (first (goal.at.returns-in_err-second c).In_ok-first)
@@ -49,14 +42,11 @@ returns-in_err-second c =
     }
 
 pub returns : goal.returns
-returns c =
-    record {
-      ok = let p = first (goal.at.returns c).In_ok-first in
-          let q = second (goal.at.returns c).In_ok-second in
-          if_given _ _ _ _ _ c.node_over_two.result c.node_over_two.ensures.ok (pair_rest p q) (λ t e. e ∙ ap add (pair_trees _ _ p q));
-      first_lack = let at = goal.at.returns c in
-          refusal_as c.node_over_two.result c.node_over_two.ensures.full
-          (λ full f. parent_lacks c.requires.stands c.place_term.ensures.stands c.in_ok-first.ensures.kept (first at.In_ok-first)
-          c.place_term-2.ensures.stands c.in_ok-second.ensures.kept (second at.In_ok-second) f);
-      safe = then_placing (kept_after c.in_ok-first.ensures.kept c.in_ok-second.ensures.kept) (pair_front c.in_ok-first.ensures.ok c.in_ok-second.ensures.ok c.place_term.ensures.front c.place_term-2.ensures.front c.node_over_two.ensures.front) (one_placed _ c.node_over_two.result c.node_over_two.ensures.kept c.node_over_two.ensures.full c.node_over_two.ensures.front c.node_over_two.ensures.stands);
-    }
+returns c = record {
+  ok = let p = first (goal.at.returns c).In_ok-first in let q = second (goal.at.returns c).In_ok-second in
+      if_given _ _ _ _ _ c.node_over_two.result c.node_over_two.ensures.ok (pair_rest p q) (λ t e. e ∙ ap add (pair_trees _ _ p q));
+  first_lack = let at = goal.at.returns c in
+      refusal_as c.node_over_two.result c.node_over_two.ensures.full (λ full f. parent_lacks c.requires.stands c.place_term.ensures.stands c.in_ok-first.ensures.kept (first at.In_ok-first)
+      c.place_term-2.ensures.stands c.in_ok-second.ensures.kept (second at.In_ok-second) f);
+  safe = then_placing (kept_after c.in_ok-first.ensures.kept c.in_ok-second.ensures.kept) (pair_front c.in_ok-first.ensures.ok c.in_ok-second.ensures.ok c.place_term.ensures.front c.place_term-2.ensures.front c.node_over_two.ensures.front) (one_placed _ c.node_over_two.result c.node_over_two.ensures.kept c.node_over_two.ensures.full c.node_over_two.ensures.front c.node_over_two.ensures.stands);
+}

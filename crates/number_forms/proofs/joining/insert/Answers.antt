@@ -10,23 +10,21 @@ insert_child-requires g c =
     let within = subst (λ (t : Tree). c.args.at ≤ count (children_of t)) (sym (other_plain c.args.sum.now p (given_root c.requires.sum))) c.requires.place.within in
     (search rules, (c.place_term.ensures.stands, (gives_rest p (λ t h. tt), (sum, (lists_behind c.requires.sum p c.requires.lists, within)))))
 
-pub returns-clause-ok : goal.returns-clause-ok
-returns-clause-ok g c =
-    let p = c.in_ok-child.ensures.ok in
-    let same = other_plain c.args.sum.now p (given_root c.requires.sum) in
-    gives_as c.insert_child.ensures.sum (ap (without_root c.args.sum.now) (given_rest p))
-    (λ u h. inserted_in c.args.at _ (term_of c.args.term) (given_told c.requires.sum) same (given_told p) c.args.term.positive c.requires.apart c.requires.place h)
-
 pub returns-in_err-child : goal.returns-in_err-child
-returns-in_err-child g c =
-    let r = c.from_residual.result in let e = c.in_err-child.field-0.0 in let said = c.from_residual.ensures in
-    record {
-      ok = none_kept r _ said.0;
-      lists = none_kept r _ said.0;
-      room = let lacking : 96 ≤ free_of c.args.pool.now → ⊥ = λ enough. absurd (cc (c.in_err-child.ensures.room enough)) in
-          passed_on r e (λ (full : Full). free_of c.args.pool.now < 96) said.0 said.1 (omega (arith, lacking));
-      safe = lacked r e said.0 said.1 (front_after front_same c.place_term.ensures.front) c.in_err-child.ensures.full c.in_err-child.ensures.caused c.place_term.ensures.stands;
-    }
+returns-in_err-child g c = let r = c.from_residual.result in let e = c.in_err-child.field-0.0 in let said = c.from_residual.ensures in record {
+  ok = none_kept r _ said.0;
+  lists = none_kept r _ said.0;
+  room = let lacking : 96 ≤ free_of c.args.pool.now → ⊥ = λ enough. absurd (cc (c.in_err-child.ensures.room enough)) in
+      passed_on r e (λ (full : Full). free_of c.args.pool.now < 96) said.0 said.1 (omega (arith, lacking));
+  safe = lacked r e said.0 said.1 (front_after front_same c.place_term.ensures.front) c.in_err-child.ensures.full c.in_err-child.ensures.caused c.place_term.ensures.stands;
+}
 
-pub returns-clause-safe : goal.returns-clause-safe
-returns-clause-safe g c = placed (front_after_two behind_first (behind_new c.in_ok-child.ensures.ok.ends front_same) (front_after front_same c.place_term.ensures.front) c.insert_child.ensures.front) (kept_after c.in_ok-child.ensures.kept c.insert_child.ensures.kept) c.insert_child.ensures.stands
+pub returns : goal.returns
+returns g c = record {
+  ok = let p = c.in_ok-child.ensures.ok in let same = other_plain c.args.sum.now p (given_root c.requires.sum) in
+      gives_as c.insert_child.ensures.sum (ap (without_root c.args.sum.now) (given_rest p))
+      (λ u h. inserted_in c.args.at _ (term_of c.args.term) (given_told c.requires.sum) same (given_told p) c.args.term.positive c.requires.apart c.requires.place h);
+  lists = c.insert_child.ensures.lists;
+  room = tt;
+  safe = placed (front_after_two behind_first (behind_new c.in_ok-child.ensures.ok.ends front_same) (front_after front_same c.place_term.ensures.front) c.insert_child.ensures.front) (kept_after c.in_ok-child.ensures.kept c.insert_child.ensures.kept) c.insert_child.ensures.stands;
+}

@@ -15,45 +15,44 @@ remove_child-requires g c = (search rules, (c.requires.stands, (gives_as c.requi
 
 pub replace-requires : goal.replace-requires
 replace-requires g c =
-    let sum : Tree = tree_of c.args.sum.now c.args.pool.now in
-    let same = seen c.id.ensures c.requires.stands (given_handed c.requires.sum) in
+    let sum : Tree = tree_of c.args.sum.now c.args.pool.now in let same = seen c.id.ensures c.requires.stands (given_handed c.requires.sum) in
     let m = matched (term_of c.args.term) _ sum _ _ same c.in-Term.is c.in_ok-at.ensures.ok in
     let apart = apart_rest c.in-Term.at sum (add (removed c.in-Term.at (children_of sum))) (term_of c.args.term) (term_of c.in-Term.joined) (given_told c.requires.sum) m.0 (record { not_zero = c.in-Term.joined.not_zero; positive = c.in-Term.joined.positive }) m.1.0 m.1.1 refl in
     (search rules, (c.requires.stands, (c.requires.sum, (c.requires.lists, (m.0, apart)))))
 
-pub returns-in_ok-replace-in-Term-clause-ok : goal.returns-in_ok-replace-in-Term-clause-ok
-returns-in_ok-replace-in-Term-clause-ok g c =
-    let sum : Tree = tree_of c.args.sum.now c.args.pool.now in
-    let same = seen c.id.ensures c.requires.stands (given_handed c.requires.sum) in
-    let m = matched (term_of c.args.term) _ sum _ _ same c.in-Term.is c.in_ok-at.ensures.ok in
-    gives_as c.in_ok-replace-in-Term.ensures.ok refl (λ x w. made_one c.in-Term.at sum (add (removed c.in-Term.at (children_of sum))) x (term_of c.args.term) (term_of c.in-Term.joined)
-    (given_told c.requires.sum) m.0 m.1.1 m.2 refl w)
-
-pub returns-in-Zero-clause-ok : goal.returns-in-Zero-clause-ok
-returns-in-Zero-clause-ok g c =
-    let sum : Tree = tree_of c.args.sum.now c.args.pool.now in
-    let same = seen c.id.ensures c.requires.stands (given_handed c.requires.sum) in
-    let m = matched (term_of c.args.term) _ sum _ _ same c.in-Zero.is c.in_ok-at.ensures.ok in
-    gives_as c.remove_child.ensures.sum refl (λ t e. cancelled c.in-Zero.at sum t (term_of c.args.term) (given_told c.requires.sum) m.0 m.1.1 e)
-
 pub returns-in_err-at : goal.returns-in_err-at
-returns-in_err-at g c =
-    let r = c.from_residual.result in let e = fault.Overflow c.in_err-at.field-0.0 in let said = c.from_residual.ensures in
-    record {
-      ok = none_kept r _ said.0;
-      lists = none_kept r _ said.0;
-      overflow = let same = seen c.id.ensures c.requires.stands (given_handed c.requires.sum) in
-          passed_on r e (OfOverflow (JoinOverflows (tree_of c.args.sum.now c.args.pool.now) (term_of c.args.term))) said.0 said.1
-          (subst (λ (t : Tree). JoinOverflows t (term_of c.args.term) c.in_err-at.field-0.0) same c.in_err-at.ensures.overflow);
-      room = passed_on r e (OfFull (λ (full : Full). free_of c.args.pool.now < 96)) said.0 said.1 tt;
-      safe = overflowed r c.in_err-at.field-0.0 said.0 said.1 c.in_err-at.ensures.caused front_same (kept_same c.args.pool.now) c.requires.stands;
-    }
+returns-in_err-at g c = let r = c.from_residual.result in let e = fault.Overflow c.in_err-at.field-0.0 in let said = c.from_residual.ensures in record {
+  ok = none_kept r _ said.0;
+  lists = none_kept r _ said.0;
+  overflow = let same = seen c.id.ensures c.requires.stands (given_handed c.requires.sum) in
+      passed_on r e (OfOverflow (JoinOverflows (tree_of c.args.sum.now c.args.pool.now) (term_of c.args.term))) said.0 said.1
+      (subst (λ (t : Tree). JoinOverflows t (term_of c.args.term) c.in_err-at.field-0.0) same c.in_err-at.ensures.overflow);
+  room = passed_on r e (OfFull (λ (full : Full). free_of c.args.pool.now < 96)) said.0 said.1 tt;
+  safe = overflowed r c.in_err-at.field-0.0 said.0 said.1 c.in_err-at.ensures.caused front_same (kept_same c.args.pool.now) c.requires.stands;
+}
 
-pub returns-in_ok-replace-in-Term-clause-safe : goal.returns-in_ok-replace-in-Term-clause-safe
-returns-in_ok-replace-in-Term-clause-safe g c = answer_of c.in_ok-replace-in-Term.ensures.safe
+pub returns-in_ok-replace-in-Term : goal.returns-in_ok-replace-in-Term
+returns-in_ok-replace-in-Term g c = record {
+  ok = let sum : Tree = tree_of c.args.sum.now c.args.pool.now in let same = seen c.id.ensures c.requires.stands (given_handed c.requires.sum) in
+      let m = matched (term_of c.args.term) _ sum _ _ same c.in-Term.is c.in_ok-at.ensures.ok in
+      gives_as c.in_ok-replace-in-Term.ensures.ok refl (λ x w. made_one c.in-Term.at sum (add (removed c.in-Term.at (children_of sum))) x (term_of c.args.term) (term_of c.in-Term.joined)
+      (given_told c.requires.sum) m.0 m.1.1 m.2 refl w);
+  lists = c.in_ok-replace-in-Term.ensures.lists;
+  overflow = tt;
+  room = tt;
+  safe = answer_of c.in_ok-replace-in-Term.ensures.safe;
+}
 
-pub returns-in-Zero-clause-safe : goal.returns-in-Zero-clause-safe
-returns-in-Zero-clause-safe g c = answered c.remove_child.ensures.front c.remove_child.ensures.kept c.remove_child.ensures.stands
+pub returns-in-Zero : goal.returns-in-Zero
+returns-in-Zero g c = record {
+  ok = let sum : Tree = tree_of c.args.sum.now c.args.pool.now in let same = seen c.id.ensures c.requires.stands (given_handed c.requires.sum) in
+      let m = matched (term_of c.args.term) _ sum _ _ same c.in-Zero.is c.in_ok-at.ensures.ok in
+      gives_as c.remove_child.ensures.sum refl (λ t e. cancelled c.in-Zero.at sum t (term_of c.args.term) (given_told c.requires.sum) m.0 m.1.1 e);
+  lists = c.remove_child.ensures.lists;
+  overflow = tt;
+  room = tt;
+  safe = answered c.remove_child.ensures.front c.remove_child.ensures.kept c.remove_child.ensures.stands;
+}
 
 pub returns-in_ok-insert-in-Apart-clause-safe : goal.returns-in_ok-insert-in-Apart-clause-safe
 returns-in_ok-insert-in-Apart-clause-safe g c = answer_of c.in_ok-insert-in-Apart.ensures.safe

@@ -22,8 +22,7 @@ term_at-other-requires-clause-expression c = (next (goal.at.term_at-other-requir
 
 pub term_at-other-requires-clause-term : goal.term_at-other-requires-clause-term
 term_at-other-requires-clause-term c =
-    let n = next (goal.at.term_at-other-requires-clause-term c).In-Some in
-    term_of_sum (plain (tree_at c.args.sum (forest c.args.pool.now))) _ c.loop-child.at c.requires.sum n.within n.is
+    let n = next (goal.at.term_at-other-requires-clause-term c).In-Some in term_of_sum (plain (tree_at c.args.sum (forest c.args.pool.now))) _ c.loop-child.at c.requires.sum n.within n.is
 
 pub overflow_add-at : goal.overflow_add-at
 overflow_add-at c =
@@ -32,10 +31,7 @@ overflow_add-at c =
 
 pub loop-child-preserved : goal.loop-child-preserved
 loop-child-preserved c =
-    let i = c.loop-child.invariant in
-    let n = next (goal.at.loop-child-preserved c).In-Some in
-    let ts = children_of (plain (tree_at c.args.sum (forest c.args.pool.now))) in
-    record {
+    let i = c.loop-child.invariant in let n = next (goal.at.loop-child-preserved c).In-Some in let ts = children_of (plain (tree_at c.args.sum (forest c.args.pool.now))) in record {
       left = left_more c.loop-child.yielded _ c.in-Some.child _ i.left c.in-Some.ensures.steps;
       place = omega (arith, i.place, length_push c.loop-child.yielded c.in-Some.child);
       apart = below_more (λ (k : ℕ). are_alike (term_of c.args.term).radicand (term_of_tree (nth k ts)).radicand ≡ false) c.loop-child.at i.apart
@@ -57,20 +53,16 @@ returns-in-Term-clause-ok c =
 
 pub returns-clause-ok : goal.returns-clause-ok
 returns-clause-ok c =
-    let i = c.loop-child.invariant in
-    let ts = children_of (plain (tree_at c.args.sum (forest c.args.pool.now))) in
+    let i = c.loop-child.invariant in let ts = children_of (plain (tree_at c.args.sum (forest c.args.pool.now))) in
     let all : c.loop-child.at ≡ count ts = none_left 0 c.loop-child.at c.args.sum c.loop-child.yielded _ c.args.pool.now c.requires.expression (omega arith)
     (omega (arith, i.place)) i.left c.in-None.ensures.steps.0 in
     (apart_each _ ts (λ k l. i.apart k (omega (arith, all, l))), c.requires.place)
 
 pub returns-in_err-join : goal.returns-in_err-join
-returns-in_err-join c =
-    let r = c.from_residual.result in let e = c.in_err-join.field-0.0 in let said = c.from_residual.ensures in
-    record {
-      ok = none_given r _ said.0;
-      overflow = let t = plain (tree_at c.args.sum (forest c.args.pool.now)) in
-          let n = next (goal.at.returns-in_err-join c).In-Some in
-          passed_on r e (JoinOverflows t (term_of c.args.term)) said.0 said.1
-          (join_overflow t c.loop-child.at _ _ _ n.within (c.term_at-other.ensures ∙ ap term_of_tree n.is) c.in_err-join.ensures.overflow);
-      caused = search rules;
-    }
+returns-in_err-join c = let r = c.from_residual.result in let e = c.in_err-join.field-0.0 in let said = c.from_residual.ensures in record {
+  ok = none_given r _ said.0;
+  overflow = let t = plain (tree_at c.args.sum (forest c.args.pool.now)) in let n = next (goal.at.returns-in_err-join c).In-Some in
+      passed_on r e (JoinOverflows t (term_of c.args.term)) said.0 said.1
+      (join_overflow t c.loop-child.at _ _ _ n.within (c.term_at-other.ensures ∙ ap term_of_tree n.is) c.in_err-join.ensures.overflow);
+  caused = search rules;
+}

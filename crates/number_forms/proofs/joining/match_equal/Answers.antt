@@ -34,14 +34,10 @@ returns-in-Apart-clause-ok g c = λ l e. other_radicand (term_of c.args.term).ra
     (read_apart c.in_ok-joined.joined (term_of c.term_at-other.result) (term_of c.args.term) _ _ c.in-Apart.is c.in_ok-joined.ensures.joins c.term_at-other.ensures c.child.ensures.plain) e
 
 pub returns-in_err-joined : goal.returns-in_err-joined
-returns-in_err-joined g c =
-    let r = c.from_residual.result in let e = c.in_err-joined.field-0.0 in let said = c.from_residual.ensures in
-    record {
-      ok = none_given r _ said.0;
-      overflow = let t = plain (tree_at c.args.sum (forest c.args.pool.now)) in
-          let m = many g (goal.at.returns-in_err-joined g c).After-children in
-          passed_on r e (JoinOverflows t (term_of c.args.term)) said.0 said.1
-          (join_overflow t c.args.at _ _ _ (omega (arith, m, c.requires.place.within, c.if-at-children.false))
-          (c.term_at-other.ensures ∙ ap term_of_tree c.child.ensures.plain) c.in_err-joined.ensures.overflow);
-      caused = search rules;
-    }
+returns-in_err-joined g c = let r = c.from_residual.result in let e = c.in_err-joined.field-0.0 in let said = c.from_residual.ensures in record {
+  ok = none_given r _ said.0;
+  overflow = let t = plain (tree_at c.args.sum (forest c.args.pool.now)) in let m = many g (goal.at.returns-in_err-joined g c).After-children in
+      passed_on r e (JoinOverflows t (term_of c.args.term)) said.0 said.1 (join_overflow t c.args.at _ _ _ (omega (arith, m, c.requires.place.within, c.if-at-children.false))
+      (c.term_at-other.ensures ∙ ap term_of_tree c.child.ensures.plain) c.in_err-joined.ensures.overflow);
+  caused = search rules;
+}

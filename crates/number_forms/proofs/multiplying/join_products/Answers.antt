@@ -7,11 +7,12 @@ use Rattle.number_forms.proofs.{multiplying.join_products.Given.{Over}, Refusals
 use Rattle.tree_handles.specs.declared.fault.NumberFault.TheVariants as fault
 use Rattle.number_forms.proofs.multiplying.join_products.Goals as goal
 
-pub term_count-at-end-requires-clause-expression : goal.term_count-at-end-requires-clause-expression
-term_count-at-end-requires-clause-expression g c = other_expression c.args.number c.args.pool.now c.requires.stands c.requires.sum c.requires.handed
-
-pub term_count-at-end-requires-clause-number : goal.term_count-at-end-requires-clause-number
-term_count-at-end-requires-clause-number g c = ap is_number (plain_root c.args.number c.requires.stands (given_other c.requires.sum c.requires.handed).root) ∙ c.requires.number
+pub term_count-at-end-requires : goal.term_count-at-end-requires
+term_count-at-end-requires g c = record {
+  stands = c.requires.stands;
+  expression = other_expression c.args.number c.args.pool.now c.requires.stands c.requires.sum c.requires.handed;
+  number = ap is_number (plain_root c.args.number c.requires.stands (given_other c.requires.sum c.requires.handed).root) ∙ c.requires.number;
+}
 
 pub loop-at-init : goal.loop-at-init
 loop-at-init g c = record { joined = joined_none c.args.sum.now (map (term_times (term_of c.args.term)) (terms_from c.args.from (value (tree_of c.args.number c.args.pool.now)))) c.args.pool.now c.requires.stands c.requires.sum; begun = omega arith; lists = c.requires.lists }
@@ -27,9 +28,7 @@ join_term-requires g c = (search rules, (c.loop-at.invariant.joined.stands, (giv
 
 pub loop-at-preserved : goal.loop-at-preserved
 loop-at-preserved g c =
-    let number : Tree = tree_of c.args.number c.args.pool.now in
-    let x = term_of c.args.term in
-    let y = term_of c.listed_term-other.result in
+    let number : Tree = tree_of c.args.number c.args.pool.now in let x = term_of c.args.term in let y = term_of c.listed_term-other.result in
     let same = other_read c.args.number c.loop-at.pool c.loop-at.invariant.joined.stands c.loop-at.invariant.joined.gives c.requires.handed
     ∙ sym (other_plain c.args.number c.requires.sum c.requires.handed.root) in
     let here : slice_get (value number) c.loop-at.at ≡ Some y = ap (λ (t : Tree). slice_get (value t) c.loop-at.at) (sym same) ∙ c.listed_term-other.ensures in
@@ -53,55 +52,44 @@ here g c begun =
     get_from c.args.from c.loop-at.at v begun ∙ ap (λ (t : Tree). slice_get (value t) c.loop-at.at) (sym same) ∙ c.listed_term-other.ensures
 
 pub returns : goal.returns
-returns g c =
-    record {
-      ok = let all = ap classes (plain_root c.args.number c.requires.stands (given_other c.requires.sum c.requires.handed).root) in
-          let end : length (value (tree_of c.args.number c.args.pool.now)) ≤ c.loop-at.at = omega (arith, all, c.term_count-at-end.ensures, c.loop-at-test.false) in
-          joined_all c.loop-at.invariant.joined (ap (map (term_times (term_of c.args.term))) (from_all (value (tree_of c.args.number c.args.pool.now)) c.loop-at.at end));
-      lists = c.loop-at.invariant.lists;
-      overflow = tt;
-      room = λ a b d f. tt;
-      safe = let j = c.loop-at.invariant.joined in answered j.front j.kept j.stands;
-    }
+returns g c = record {
+  ok = let all = ap classes (plain_root c.args.number c.requires.stands (given_other c.requires.sum c.requires.handed).root) in
+      let end : length (value (tree_of c.args.number c.args.pool.now)) ≤ c.loop-at.at = omega (arith, all, c.term_count-at-end.ensures, c.loop-at-test.false) in
+      joined_all c.loop-at.invariant.joined (ap (map (term_times (term_of c.args.term))) (from_all (value (tree_of c.args.number c.args.pool.now)) c.loop-at.at end));
+  lists = c.loop-at.invariant.lists;
+  overflow = tt;
+  room = λ a b d f. tt;
+  safe = let j = c.loop-at.invariant.joined in answered j.front j.kept j.stands;
+}
 
 pub returns-in_err-join_term : goal.returns-in_err-join_term
-returns-in_err-join_term g c =
-    let r = c.from_residual-in_err-join_term.result in let e = c.in_err-join_term.field-0.0 in let said = c.from_residual-in_err-join_term.ensures in
-    record {
-      ok = none_kept r _ said.0;
-      lists = none_kept r _ said.0;
-      overflow = let v = value (tree_of c.args.number c.args.pool.now) in
-          let told = given_told c.loop-at.invariant.joined.gives in
-          let left : terms_from (c.loop-at.at - c.args.from) (terms_from c.args.from v) ≡ terms_from c.loop-at.at v = from_from c.args.from c.loop-at.at v c.loop-at.invariant.begun in
-          passed_on r e
-          (OfOverflow (RowOverflows (value (tree_of c.args.sum.now c.args.pool.now)) (term_of c.args.term) (terms_from c.args.from v))) said.0 said.1
-          (overflow_as c.in_err-join_term.field-0.0 c.in_err-join_term.ensures.overflow (λ o j. record {
-            at = c.loop-at.at - c.args.from;
-            other = term_of c.listed_term-other.result;
-            here = here g (goal.at.returns-in_err-join_term g c).After-listed_term-other c.loop-at.invariant.begun;
-            cause = inr (product_join_overflows (sym left) (term_of c.in_ok-product.product) (tree_of c.args.sum.now c.loop-at.pool) c.in_ok-product.ensures.extracted told j);
-          }));
-      room = λ gs s x t.
-          let v = value (tree_of c.args.number c.args.pool.now) in
-          let row = spans_row gs (term_of c.args.term) (terms_from c.args.from v) x (spans_from gs v c.args.from t) in
-          let left = spans_row gs (term_of c.args.term) (terms_from c.loop-at.at v) x (spans_from gs v c.loop-at.at t) in
-          passed_on r e
-          (LacksRoom joining_need (free_of c.args.pool.now + size (tree_of c.args.sum.now c.args.pool.now)) gs) said.0 said.1
-          (full_as c.in_err-join_term.field-0.0 c.in_err-join_term.ensures.room (λ full few. term_lacks gs c.loop-at.invariant.joined c.requires.stands (given_handed c.requires.sum) (spans_append gs _ _ s row) left few));
-      safe = let j = c.loop-at.invariant.joined in after_one j.kept behind_first j.front (passed r e said.0 said.1 c.in_err-join_term.ensures.safe);
-    }
+returns-in_err-join_term g c = let r = c.from_residual-in_err-join_term.result in let e = c.in_err-join_term.field-0.0 in let said = c.from_residual-in_err-join_term.ensures in record {
+  ok = none_kept r _ said.0;
+  lists = none_kept r _ said.0;
+  overflow = let v = value (tree_of c.args.number c.args.pool.now) in let told = given_told c.loop-at.invariant.joined.gives in
+      let left : terms_from (c.loop-at.at - c.args.from) (terms_from c.args.from v) ≡ terms_from c.loop-at.at v = from_from c.args.from c.loop-at.at v c.loop-at.invariant.begun in
+      passed_on r e (OfOverflow (RowOverflows (value (tree_of c.args.sum.now c.args.pool.now)) (term_of c.args.term) (terms_from c.args.from v))) said.0 said.1
+      (overflow_as c.in_err-join_term.field-0.0 c.in_err-join_term.ensures.overflow (λ o j. record {
+        at = c.loop-at.at - c.args.from;
+        other = term_of c.listed_term-other.result;
+        here = here g (goal.at.returns-in_err-join_term g c).After-listed_term-other c.loop-at.invariant.begun;
+        cause = inr (product_join_overflows (sym left) (term_of c.in_ok-product.product) (tree_of c.args.sum.now c.loop-at.pool) c.in_ok-product.ensures.extracted told j);
+      }));
+  room = λ gs s x t. let v = value (tree_of c.args.number c.args.pool.now) in
+      let row = spans_row gs (term_of c.args.term) (terms_from c.args.from v) x (spans_from gs v c.args.from t) in
+      let left = spans_row gs (term_of c.args.term) (terms_from c.loop-at.at v) x (spans_from gs v c.loop-at.at t) in
+      passed_on r e (LacksRoom joining_need (free_of c.args.pool.now + size (tree_of c.args.sum.now c.args.pool.now)) gs) said.0 said.1
+      (full_as c.in_err-join_term.field-0.0 c.in_err-join_term.ensures.room (λ full few. term_lacks gs c.loop-at.invariant.joined c.requires.stands (given_handed c.requires.sum) (spans_append gs _ _ s row) left few));
+  safe = let j = c.loop-at.invariant.joined in after_one j.kept behind_first j.front (passed r e said.0 said.1 c.in_err-join_term.ensures.safe);
+}
 
 pub returns-in_err-product : goal.returns-in_err-product
-returns-in_err-product g c =
-    let r = c.from_residual.result in let e = fault.Overflow c.in_err-product.field-0.0 in let said = c.from_residual.ensures in
-    record {
-      ok = none_kept r _ said.0;
-      lists = none_kept r _ said.0;
-      overflow = passed_on r e
-          (OfOverflow (RowOverflows (value (tree_of c.args.sum.now c.args.pool.now)) (term_of c.args.term) (terms_from c.args.from (value (tree_of c.args.number c.args.pool.now))))) said.0 said.1
-          (record { at = c.loop-at.at - c.args.from; other = term_of c.listed_term-other.result; here = here g (goal.at.returns-in_err-product g c).After-listed_term-other c.loop-at.invariant.begun; cause = inl c.in_err-product.ensures.overflow });
-      room = λ gs s x t.
-          passed_on r e
-          (LacksRoom joining_need (free_of c.args.pool.now + size (tree_of c.args.sum.now c.args.pool.now)) gs) said.0 said.1 tt;
-      safe = let j = c.loop-at.invariant.joined in overflowed r c.in_err-product.field-0.0 said.0 said.1 c.in_err-product.ensures.caused j.front j.kept j.stands;
-    }
+returns-in_err-product g c = let r = c.from_residual.result in let e = fault.Overflow c.in_err-product.field-0.0 in let said = c.from_residual.ensures in record {
+  ok = none_kept r _ said.0;
+  lists = none_kept r _ said.0;
+  overflow = passed_on r e
+      (OfOverflow (RowOverflows (value (tree_of c.args.sum.now c.args.pool.now)) (term_of c.args.term) (terms_from c.args.from (value (tree_of c.args.number c.args.pool.now))))) said.0 said.1
+      (record { at = c.loop-at.at - c.args.from; other = term_of c.listed_term-other.result; here = here g (goal.at.returns-in_err-product g c).After-listed_term-other c.loop-at.invariant.begun; cause = inl c.in_err-product.ensures.overflow });
+  room = λ gs s x t. passed_on r e (LacksRoom joining_need (free_of c.args.pool.now + size (tree_of c.args.sum.now c.args.pool.now)) gs) said.0 said.1 tt;
+  safe = let j = c.loop-at.invariant.joined in overflowed r c.in_err-product.field-0.0 said.0 said.1 c.in_err-product.ensures.caused j.front j.kept j.stands;
+}

@@ -11,8 +11,7 @@ pub loop-term-preserved : goal.loop-term-preserved
 loop-term-preserved c =
     let i = c.loop-term.invariant in
     let more = trees_more c.args.terms.now c.loop-term.term-index c.term-item.result c.loop-term-test.true c.term-item.is in
-    let placed = given_is c.in_ok-_term.ensures.ok c.in_ok-_term.ensures.tree in
-    record {
+    let placed = given_is c.in_ok-_term.ensures.ok c.in_ok-_term.ensures.tree in record {
       placed = omega (arith, i.placed);
       adds = subst (λ (ts : Trees). Adds ts (forest c.args.pool.now) (forest c.place_term.new.pool)) more (adds_more i.adds placed);
       front = front_after i.front c.place_term.ensures.front;
@@ -29,19 +28,15 @@ returns-clause-ok c =
     (take_all c.loop-term.term-index c.args.terms.now (omega (arith, c.loop-term-test.false))) c.loop-term.invariant.adds
 
 pub returns-in_err-_term : goal.returns-in_err-_term
-returns-in_err-_term c =
-    let r = c.from_residual.result in let e = c.in_err-_term.field-0.0 in let said = c.from_residual.ensures in
-    record {
-      count = none_given r _ said.0;
-      ok = none_kept r _ said.0;
-      room = let i = c.loop-term.invariant in
-          let n = c.loop-term.term-index in
-          let free = adds_free c.requires.stands i.stands i.kept i.adds in
-          let few : free_of c.loop-term.pool < 96 = grind (arith, c.in_err-_term.ensures.room) in
-          passed_on r e (λ full. free_of c.args.pool.now < 96 * length c.args.terms.now) said.0 said.1
-          (omega (arith, free, few, terms_size (take n c.args.terms.now), length-take-le n c.args.terms.now (omega (arith, c.loop-term-test.true)), c.loop-term-test.true));
-      safe = after_placing c.loop-term.invariant.kept c.loop-term.invariant.front (lacked r e said.0 said.1 c.place_term.ensures.front c.in_err-_term.ensures.full c.in_err-_term.ensures.caused c.place_term.ensures.stands);
-    }
+returns-in_err-_term c = let r = c.from_residual.result in let e = c.in_err-_term.field-0.0 in let said = c.from_residual.ensures in record {
+  count = none_given r _ said.0;
+  ok = none_kept r _ said.0;
+  room = let i = c.loop-term.invariant in let n = c.loop-term.term-index in let free = adds_free c.requires.stands i.stands i.kept i.adds in
+      let few : free_of c.loop-term.pool < 96 = grind (arith, c.in_err-_term.ensures.room) in
+      passed_on r e (λ full. free_of c.args.pool.now < 96 * length c.args.terms.now) said.0 said.1
+      (omega (arith, free, few, terms_size (take n c.args.terms.now), length-take-le n c.args.terms.now (omega (arith, c.loop-term-test.true)), c.loop-term-test.true));
+  safe = after_placing c.loop-term.invariant.kept c.loop-term.invariant.front (lacked r e said.0 said.1 c.place_term.ensures.front c.in_err-_term.ensures.full c.in_err-_term.ensures.caused c.place_term.ensures.stands);
+}
 
 pub returns-clause-safe : goal.returns-clause-safe
 returns-clause-safe c = placed c.loop-term.invariant.front c.loop-term.invariant.kept c.loop-term.invariant.stands

@@ -5,8 +5,7 @@ use Rattle.number_forms.proofs.placing.place_multiple.Goals as goal
 
 pub node_over_two-requires : goal.node_over_two-requires
 node_over_two-requires c =
-    let rational = c.in_ok-rational.ensures.given in
-    let root = c.in_ok-root.ensures.ok in
+    let rational = c.in_ok-rational.ensures.given in let root = c.in_ok-root.ensures.ok in
     record { stands = c.place_root.ensures.safe.stands; takes = refl; first = first_handed rational root; second = given_handed root; apart = pair_apart _ _ rational root }
 
 -- ---- the first node that lacks bytes
@@ -16,11 +15,8 @@ Short free q r full = building free (mult (more (num (value_of q)) (more (root (
 
 pub returns-in_err-rational : goal.returns-in_err-rational
 returns-in_err-rational c =
-    let r = c.from_residual.result in
-    let e = c.in_err-rational.field-0.0 in
-    let said = c.from_residual.ensures in
-    let lack = c.in_err-rational.ensures.full in
-    record {
+    let r = c.from_residual.result in let e = c.in_err-rational.field-0.0 in let said = c.from_residual.ensures in
+    let lack = c.in_err-rational.ensures.full in record {
       ok = none_given r _ said.0;
       first_lack = passed_on r e (Short (free_of c.args.pool.now) c.args.coefficient c.args.radicand) said.0 said.1
           (first_lacks _ (num (value_of c.args.coefficient)) (root (num (whole_fraction (pos c.args.radicand)))) (8 ∷ []) (lacking [] lack));
@@ -29,11 +25,8 @@ returns-in_err-rational c =
 
 pub returns-in_err-root : goal.returns-in_err-root
 returns-in_err-root c =
-    let r = c.from_residual-in_err-root.result in
-    let e = c.in_err-root.field-0.0 in
-    let said = c.from_residual-in_err-root.ensures in
-    let lack = c.in_err-root.ensures in
-    record {
+    let r = c.from_residual-in_err-root.result in let e = c.in_err-root.field-0.0 in let said = c.from_residual-in_err-root.ensures in
+    let lack = c.in_err-root.ensures in record {
       ok = none_given r _ said.0;
       first_lack = passed_on r e (Short (free_of c.args.pool.now) c.args.coefficient c.args.radicand) said.0 said.1
           (second_lacks c.requires.stands c.number.ensures.stands c.in_ok-rational.ensures.kept c.in_ok-rational.ensures.given
@@ -42,13 +35,11 @@ returns-in_err-root c =
     }
 
 pub returns : goal.returns
-returns c =
-    record {
-      ok = let rational = c.in_ok-rational.ensures.given in
-          let root = c.in_ok-root.ensures.ok in
-          if_given _ _ _ _ _ c.node_over_two.result c.node_over_two.ensures.ok (pair_rest rational root) (λ t e. e ∙ ap mult (pair_trees _ _ rational root));
-      first_lack = refusal_as c.node_over_two.result c.node_over_two.ensures.full
-          (λ full f. parent_lacks c.requires.stands c.number.ensures.stands c.in_ok-rational.ensures.kept c.in_ok-rational.ensures.given
-          c.place_root.ensures.safe.stands c.in_ok-root.ensures.safe.kept c.in_ok-root.ensures.ok f);
-      safe = then_placing (kept_after c.in_ok-rational.ensures.kept c.in_ok-root.ensures.safe.kept) (pair_front c.in_ok-rational.ensures.given c.in_ok-root.ensures.ok c.number.ensures.front c.place_root.ensures.safe.front c.node_over_two.ensures.front) (one_placed _ c.node_over_two.result c.node_over_two.ensures.kept c.node_over_two.ensures.full c.node_over_two.ensures.front c.node_over_two.ensures.stands);
-    }
+returns c = record {
+  ok = let rational = c.in_ok-rational.ensures.given in let root = c.in_ok-root.ensures.ok in
+      if_given _ _ _ _ _ c.node_over_two.result c.node_over_two.ensures.ok (pair_rest rational root) (λ t e. e ∙ ap mult (pair_trees _ _ rational root));
+  first_lack = refusal_as c.node_over_two.result c.node_over_two.ensures.full
+      (λ full f. parent_lacks c.requires.stands c.number.ensures.stands c.in_ok-rational.ensures.kept c.in_ok-rational.ensures.given
+      c.place_root.ensures.safe.stands c.in_ok-root.ensures.safe.kept c.in_ok-root.ensures.ok f);
+  safe = then_placing (kept_after c.in_ok-rational.ensures.kept c.in_ok-root.ensures.safe.kept) (pair_front c.in_ok-rational.ensures.given c.in_ok-root.ensures.ok c.number.ensures.front c.place_root.ensures.safe.front c.node_over_two.ensures.front) (one_placed _ c.node_over_two.result c.node_over_two.ensures.kept c.node_over_two.ensures.full c.node_over_two.ensures.front c.node_over_two.ensures.stands);
+}

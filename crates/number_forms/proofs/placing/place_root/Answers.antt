@@ -22,21 +22,18 @@ Short free r full = building free (root (num (whole_fraction (pos r)))) ≡ Err 
 -- ---- what is refused
 
 pub returns-in_err-rational : goal.returns-in_err-rational
-returns-in_err-rational c =
-    let r = c.from_residual.result in let e = c.in_err-rational.field-0.0 in let said = c.from_residual.ensures in
-    record {
-      ok = none_given r _ said.0;
-      first_lack = passed_on r e (Short (free_of c.args.pool.now) c.args.radicand) said.0 said.1
-          (ap (λ (q : Fraction). taking (free_of c.args.pool.now) (bytes q ∷ 8 ∷ [])) (sym c.whole.ensures) ∙ lacking (8 ∷ []) c.in_err-rational.ensures.full);
-      safe = refused_placing r e said.0 said.1 c.in_err-rational.ensures.full c.number.ensures.stands;
-    }
+returns-in_err-rational c = let r = c.from_residual.result in let e = c.in_err-rational.field-0.0 in let said = c.from_residual.ensures in record {
+  ok = none_given r _ said.0;
+  first_lack = passed_on r e (Short (free_of c.args.pool.now) c.args.radicand) said.0 said.1
+      (ap (λ (q : Fraction). taking (free_of c.args.pool.now) (bytes q ∷ 8 ∷ [])) (sym c.whole.ensures) ∙ lacking (8 ∷ []) c.in_err-rational.ensures.full);
+  safe = refused_placing r e said.0 said.1 c.in_err-rational.ensures.full c.number.ensures.stands;
+}
 
 pub returns : goal.returns
-returns c =
-    record {
-      ok = let rational = c.in_ok-rational.ensures.given in
-          if_given _ _ _ _ _ c.node_over.result c.node_over.ensures.ok (given_rest rational) (λ t e. e ∙ ap root (given_told rational ∙ ap num c.whole.ensures));
-      first_lack = refusal_as c.node_over.result c.node_over.ensures.full
-          (λ full r. taken _ _ (bytes (whole_fraction (pos c.args.radicand))) (8 ∷ []) (mid (goal.at.returns c).In_ok-rational) ∙ lacking [] r);
-      safe = then_placing c.in_ok-rational.ensures.kept (front_after_one (behind_new c.in_ok-rational.ensures.given.ends front_same) c.number.ensures.front c.node_over.ensures.front) (one_placed _ c.node_over.result c.node_over.ensures.kept c.node_over.ensures.full c.node_over.ensures.front c.node_over.ensures.stands);
-    }
+returns c = record {
+  ok = let rational = c.in_ok-rational.ensures.given in
+      if_given _ _ _ _ _ c.node_over.result c.node_over.ensures.ok (given_rest rational) (λ t e. e ∙ ap root (given_told rational ∙ ap num c.whole.ensures));
+  first_lack = refusal_as c.node_over.result c.node_over.ensures.full
+      (λ full r. taken _ _ (bytes (whole_fraction (pos c.args.radicand))) (8 ∷ []) (mid (goal.at.returns c).In_ok-rational) ∙ lacking [] r);
+  safe = then_placing c.in_ok-rational.ensures.kept (front_after_one (behind_new c.in_ok-rational.ensures.given.ends front_same) c.number.ensures.front c.node_over.ensures.front) (one_placed _ c.node_over.result c.node_over.ensures.kept c.node_over.ensures.full c.node_over.ensures.front c.node_over.ensures.stands);
+}

@@ -40,13 +40,11 @@ returns-then-radicand-eq1-clause-exactly c =
     (ap num c.coefficient-coefficient.ensures.value ∙ sym (rational_term (term_of c.args.term) (sym c.radicand.ensures.value ∙ c.if-radicand-eq1.true))) c.number.ensures.exactly
 
 pub returns-then-is_one-clause-exactly : goal.returns-then-is_one-clause-exactly
-returns-then-is_one-clause-exactly c = subst (λ (t : Tree). IsOk c.place_root.result ↔ (size t ≤ free_of c.args.pool.now))
-    (rooted (goal.at.returns-then-is_one-clause-exactly c).After-radicand-then-is_one)
+returns-then-is_one-clause-exactly c = subst (λ (t : Tree). IsOk c.place_root.result ↔ (size t ≤ free_of c.args.pool.now)) (rooted (goal.at.returns-then-is_one-clause-exactly c).After-radicand-then-is_one)
     (exact _ c.place_root.result c.requires.stands c.place_root.ensures.safe.stands c.place_root.ensures.safe.kept c.place_root.ensures.ok c.place_root.ensures.first_lack)
 
 pub returns-else-is_one-clause-exactly : goal.returns-else-is_one-clause-exactly
-returns-else-is_one-clause-exactly c = subst (λ (t : Tree). IsOk c.place_multiple.result ↔ (size t ≤ free_of c.args.pool.now))
-    (multiplied (goal.at.returns-else-is_one-clause-exactly c).After-radicand-else-is_one)
+returns-else-is_one-clause-exactly c = subst (λ (t : Tree). IsOk c.place_multiple.result ↔ (size t ≤ free_of c.args.pool.now)) (multiplied (goal.at.returns-else-is_one-clause-exactly c).After-radicand-else-is_one)
     (exact _ c.place_multiple.result c.requires.stands c.place_multiple.ensures.safe.stands c.place_multiple.ensures.safe.kept c.place_multiple.ensures.ok c.place_multiple.ensures.first_lack)
 
 pub returns-then-is_one-clause-first_lack : goal.returns-then-is_one-clause-first_lack

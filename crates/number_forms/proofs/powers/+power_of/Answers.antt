@@ -19,8 +19,7 @@ same k c =
 
 pub completed-requires : goal.completed-requires
 completed-requires _ c =
-    let half = c.in_ok-half.ensures.ok in
-    let it = same _ (goal.at.completed-requires _ c).In_ok-square in
+    let half = c.in_ok-half.ensures.ok in let it = same _ (goal.at.completed-requires _ c).In_ok-square in
     let square = gives_rest c.in_ok-square.ensures.ok (λ t h. subst (λ (x : Tree). IsPowerOver (value x) (2 * (c.args.n / 2)) t) (sym it) (squared_power _ _ t (c.args.n / 2) (given_told half) h)) in
     record {
       stands = c.in_ok-square.ensures.safe.stands;
@@ -31,45 +30,36 @@ completed-requires _ c =
     }
 
 pub returns-in_err-half : goal.returns-in_err-half
-returns-in_err-half _ c =
-    let r = c.from_residual.result in let e = c.in_err-half.field-0.0 in let said = c.from_residual.ensures in
-    record {
-      ok = none_given r _ said.0;
-      overflow = passed_on r e (OfOverflow (PowerOverflows (value (tree_of c.args.a.now c.args.pool.now)) c.args.n)) said.0 said.1
-          (overflow_as c.in_err-half.field-0.0 c.in_err-half.ensures.overflow (λ o p. power_overflows_more _ _ _ o (half_below c.args.n) p));
-      room = λ gs s.
-          passed_on r e (LacksRoom raising_need (free_of c.args.pool.now) gs) said.0 said.1 (c.in_err-half.ensures.room gs s);
-      safe = passed r e said.0 said.1 c.in_err-half.ensures.safe;
-    }
+returns-in_err-half _ c = let r = c.from_residual.result in let e = c.in_err-half.field-0.0 in let said = c.from_residual.ensures in record {
+  ok = none_given r _ said.0;
+  overflow = passed_on r e (OfOverflow (PowerOverflows (value (tree_of c.args.a.now c.args.pool.now)) c.args.n)) said.0 said.1
+      (overflow_as c.in_err-half.field-0.0 c.in_err-half.ensures.overflow (λ o p. power_overflows_more _ _ _ o (half_below c.args.n) p));
+  room = λ gs s. passed_on r e (LacksRoom raising_need (free_of c.args.pool.now) gs) said.0 said.1 (c.in_err-half.ensures.room gs s);
+  safe = passed r e said.0 said.1 c.in_err-half.ensures.safe;
+}
 
 pub returns-in_err-square : goal.returns-in_err-square
-returns-in_err-square _ c =
-    let r = c.from_residual-in_err-square.result in let e = c.in_err-square.field-0.0 in let said = c.from_residual-in_err-square.ensures in
-    record {
-      ok = none_given r _ said.0;
-      overflow = passed_on r e (OfOverflow (PowerOverflows (value (tree_of c.args.a.now c.args.pool.now)) c.args.n)) said.0 said.1
-          (overflow_as c.in_err-square.field-0.0 c.in_err-square.ensures.overflow (λ o p. square_overflows _ (tree_of c.in_ok-half.half c.power_of.new.pool) c.args.n o (half_twice c.args.n c.requires.twice) (given_told c.in_ok-half.ensures.ok) p));
-      room = λ gs s.
-          let half = c.in_ok-half.ensures.ok in
-          let h : Tree = tree_of c.in_ok-half.half c.power_of.new.pool in
-          let spanned = power_spans gs (tree_of c.args.a.now c.args.pool.now) h (c.args.n / 2) c.requires.number (of_power (given_told half)) s in
-          let free = given_free c.requires.stands c.in_ok-half.ensures.safe.stands c.in_ok-half.ensures.safe.kept half in
-          passed_on r e (LacksRoom raising_need (free_of c.args.pool.now) gs) said.0 said.1
-          (full_as c.in_err-square.field-0.0 (c.in_err-square.ensures.room gs spanned) (λ full few. step_lacks gs _ _ h (given_told half).number spanned free few));
-      safe = after_one c.in_ok-half.ensures.safe.kept (behind_new c.in_ok-half.ensures.ok.ends front_same) c.power_of.ensures.safe.front (passed r e said.0 said.1 c.in_err-square.ensures.safe);
-    }
+returns-in_err-square _ c = let r = c.from_residual-in_err-square.result in let e = c.in_err-square.field-0.0 in let said = c.from_residual-in_err-square.ensures in record {
+  ok = none_given r _ said.0;
+  overflow = passed_on r e (OfOverflow (PowerOverflows (value (tree_of c.args.a.now c.args.pool.now)) c.args.n)) said.0 said.1
+      (overflow_as c.in_err-square.field-0.0 c.in_err-square.ensures.overflow (λ o p. square_overflows _ (tree_of c.in_ok-half.half c.power_of.new.pool) c.args.n o (half_twice c.args.n c.requires.twice) (given_told c.in_ok-half.ensures.ok) p));
+  room = λ gs s. let half = c.in_ok-half.ensures.ok in
+      let h : Tree = tree_of c.in_ok-half.half c.power_of.new.pool in
+      let spanned = power_spans gs (tree_of c.args.a.now c.args.pool.now) h (c.args.n / 2) c.requires.number (of_power (given_told half)) s in
+      let free = given_free c.requires.stands c.in_ok-half.ensures.safe.stands c.in_ok-half.ensures.safe.kept half in
+      passed_on r e (LacksRoom raising_need (free_of c.args.pool.now) gs) said.0 said.1
+      (full_as c.in_err-square.field-0.0 (c.in_err-square.ensures.room gs spanned) (λ full few. step_lacks gs _ _ h (given_told half).number spanned free few));
+  safe = after_one c.in_ok-half.ensures.safe.kept (behind_new c.in_ok-half.ensures.ok.ends front_same) c.power_of.ensures.safe.front (passed r e said.0 said.1 c.in_err-square.ensures.safe);
+}
 
 pub returns : goal.returns
-returns _ c =
-    record {
-      ok = if_given _ _ _ _ _ c.completed.result c.completed.ensures.ok (given_rest c.in_ok-square.ensures.ok ∙ given_rest c.in_ok-half.ensures.ok)
-          (λ t h. subst (λ (x : Tree). IsPowerOver (value x) c.args.n t) (same _ (goal.at.returns _ c).In_ok-square) h);
-      overflow = refused_as c.completed.result c.completed.ensures.overflow
-          (λ o p. subst (λ (x : Tree). PowerOverflows (value x) c.args.n o) (same _ (goal.at.returns _ c).In_ok-square) p);
-      room = λ gs s.
-          let square = gives_as c.in_ok-square.ensures.ok (given_rest c.in_ok-half.ensures.ok) (λ t k. k) in
-          let free = given_free c.requires.stands c.in_ok-square.ensures.safe.stands (kept_after c.in_ok-half.ensures.safe.kept c.in_ok-square.ensures.safe.kept) square in
-          refusal_as c.completed.result (c.completed.ensures.room gs (subst (SpansTree gs) (sym (same _ (goal.at.returns _ c).In_ok-square)) s))
-          (λ e p. full_as e p (λ full few. subst (λ (n : ℕ). n < raising_need * 2 ^ length gs) (sym free) few));
-      safe = then_safe (kept_after c.in_ok-half.ensures.safe.kept c.in_ok-square.ensures.safe.kept) (let half = c.in_ok-half.ensures.ok in front_after_one (behind_new c.in_ok-square.ensures.ok.ends (front_at front_same (given_rest half))) (front_after_one (behind_new half.ends front_same) c.power_of.ensures.safe.front c.squared.ensures.safe.front) c.completed.ensures.safe.front) c.completed.ensures.safe;
-    }
+returns _ c = record {
+  ok = if_given _ _ _ _ _ c.completed.result c.completed.ensures.ok (given_rest c.in_ok-square.ensures.ok ∙ given_rest c.in_ok-half.ensures.ok)
+      (λ t h. subst (λ (x : Tree). IsPowerOver (value x) c.args.n t) (same _ (goal.at.returns _ c).In_ok-square) h);
+  overflow = refused_as c.completed.result c.completed.ensures.overflow (λ o p. subst (λ (x : Tree). PowerOverflows (value x) c.args.n o) (same _ (goal.at.returns _ c).In_ok-square) p);
+  room = λ gs s. let square = gives_as c.in_ok-square.ensures.ok (given_rest c.in_ok-half.ensures.ok) (λ t k. k) in
+      let free = given_free c.requires.stands c.in_ok-square.ensures.safe.stands (kept_after c.in_ok-half.ensures.safe.kept c.in_ok-square.ensures.safe.kept) square in
+      refusal_as c.completed.result (c.completed.ensures.room gs (subst (SpansTree gs) (sym (same _ (goal.at.returns _ c).In_ok-square)) s))
+      (λ e p. full_as e p (λ full few. subst (λ (n : ℕ). n < raising_need * 2 ^ length gs) (sym free) few));
+  safe = then_safe (kept_after c.in_ok-half.ensures.safe.kept c.in_ok-square.ensures.safe.kept) (let half = c.in_ok-half.ensures.ok in front_after_one (behind_new c.in_ok-square.ensures.ok.ends (front_at front_same (given_rest half))) (front_after_one (behind_new half.ends front_same) c.power_of.ensures.safe.front c.squared.ensures.safe.front) c.completed.ensures.safe.front) c.completed.ensures.safe;
+}

@@ -11,8 +11,7 @@ pub returns-then-is_rational-clause-room : goal.returns-then-is_rational-clause-
 returns-then-is_rational-clause-room c = λ gs s. c.power_rational.ensures.room gs
 
 pub returns-then-is_rational-clause-spanned : goal.returns-then-is_rational-clause-spanned
-returns-then-is_rational-clause-spanned c = λ gs s.
-    answer_spans gs c.power_rational.result _ c.power_rational.new.pool c.power_rational.ensures.ok (λ u h. power_spans gs _ u _ c.requires.number (of_power h) s)
+returns-then-is_rational-clause-spanned c = λ gs s. answer_spans gs c.power_rational.result _ c.power_rational.new.pool c.power_rational.ensures.ok (λ u h. power_spans gs _ u _ c.requires.number (of_power h) s)
 
 pub returns-then-n-eq1-clause-spanned : goal.returns-then-n-eq1-clause-spanned
 returns-then-n-eq1-clause-spanned c = λ gs s. subst (λ (f : Forest). SpansTree gs (plain f)) (sym (last_tree c.move_last.ensures.last)) s
@@ -28,8 +27,7 @@ release-requires-clause-releasable c = inl (given_other c.in_ok-power.ensures.ok
 
 pub returns-in_ok-power-clause-ok : goal.returns-in_ok-power-clause-ok
 returns-in_ok-power-clause-ok c =
-    let power = c.in_ok-power.ensures.ok in
-    let fits : FitsSigned w128 c.args.n = search rules in
+    let power = c.in_ok-power.ensures.ok in let fits : FitsSigned w128 c.args.n = search rules in
     let many : c.unsigned_abs.result ≡ nat_abs c.args.n = c.unsigned_abs.ensures.value ∙ ap nat_abs (to_z-of_z w128 c.args.n fits) in
     gives_as (gives_without c.args.a power c.requires.handed.root (c.release.ensures.owned (owned (given_other power c.requires.handed)))) refl
     (λ t h. subst (λ (n : ℕ). IsNumberOf (surd_power (value (tree_of c.args.a c.args.pool.now)) n) t) many (of_power h))
@@ -66,47 +64,39 @@ returns-then-n-eq1-clause-measured c =
 
 pub returns-in_ok-power-clause-measured : goal.returns-in_ok-power-clause-measured
 returns-in_ok-power-clause-measured c =
-    let a : Tree = tree_of c.args.a c.args.pool.now in
-    let power = c.in_ok-power.ensures.ok in
-    let fits : FitsSigned w128 c.args.n = search rules in
+    let a : Tree = tree_of c.args.a c.args.pool.now in let power = c.in_ok-power.ensures.ok in let fits : FitsSigned w128 c.args.n = search rules in
     let many : c.unsigned_abs.result ≡ nat_abs c.args.n = c.unsigned_abs.ensures.value ∙ ap nat_abs (to_z-of_z w128 c.args.n fits) in
     let told = given_told (gives_without c.args.a power c.requires.handed.root (c.release.ensures.owned (owned (given_other power c.requires.handed)))) in
     power_no_larger (at_least_one c.args.n c.requires.positive) (subst (λ (n : ℕ). IsPowerOver (value a) n (tree_of c.in_ok-power.power c.release.new.pool)) many told)
 
 pub returns-then-is_rational-clause-bits : goal.returns-then-is_rational-clause-bits
 returns-then-is_rational-clause-bits c = λ h l k few.
-    let fits : FitsSigned w128 c.args.n = search rules in
-    let rational = sym c.is_rational.ensures ∙ c.if-is_rational.true in
+    let fits : FitsSigned w128 c.args.n = search rules in let rational = sym c.is_rational.ensures ∙ c.if-is_rational.true in
     power_not_refused (tree_of c.args.a c.args.pool.now) (to_z w128 (of_z w128 c.args.n)) c.power_rational.new.pool c.power_rational.result rational c.power_rational.ensures.rational h l k
     (subst (λ (z : ℤ). nat_abs z * (2 * h + 4 * l) ≤ 124) (sym (to_z-of_z w128 c.args.n fits)) few)
 
 pub returns-in_err-power : goal.returns-in_err-power
-returns-in_err-power c =
-    let r = c.from_residual.result in let e = c.in_err-power.field-0.0 in let said = c.from_residual.ensures in
-    record {
-      ok = none_given r _ said.0;
-      rational = λ q e. absurd (cc (c.is_rational.ensures ∙ ap is_num e, c.if-is_rational.false));
-      front = front_after front_same c.power_of.ensures.safe.front;
-      kept = none_kept r _ said.0;
-      faults = passed_on r e (Faults c.args.pool.now c.power_of.new.pool) said.0 said.1 (c.in_err-power.ensures.safe.faults);
-      overflow = λ h.
-          let fits : FitsSigned w128 c.args.n = search rules in
-          let many = c.unsigned_abs.ensures.value ∙ ap nat_abs (to_z-of_z w128 c.args.n fits) in
-          passed_on r e (OfOverflow (PowerOverflows (value (tree_of c.args.a c.args.pool.now)) (nat_abs c.args.n))) said.0 said.1
-          (subst (λ (m : ℕ). OfOverflow (PowerOverflows (value (tree_of c.args.a c.args.pool.now)) m) c.in_err-power.field-0.0) many c.in_err-power.ensures.overflow);
-      measured = none_given r _ said.0;
-      bits = λ h l k few.
-          let fits : FitsSigned w128 c.args.n = search rules in
-          let many : c.unsigned_abs.result ≡ nat_abs c.args.n = c.unsigned_abs.ensures.value ∙ ap nat_abs (to_z-of_z w128 c.args.n fits) in
-          passed_on r e (OfOverflow (λ o. ⊥)) said.0 said.1
-          (overflow_as c.in_err-power.field-0.0 c.in_err-power.ensures.overflow (λ o p. absurd (power_within (value (tree_of c.args.a c.args.pool.now)) c.unsigned_abs.result h l o k (subst (λ (n : ℕ). n * (2 * h + 4 * l) ≤ 124) (sym many) few) p)));
-      caused = passed_on r e (IsCaused c.power_of.new.pool) said.0 said.1 (c.in_err-power.ensures.safe.caused);
-      room = λ gs s.
-          passed_on r e (LacksRoom power_need (free_of c.args.pool.now + size (tree_of c.args.a c.args.pool.now)) gs) said.0 said.1
-          (full_as c.in_err-power.field-0.0 (c.in_err-power.ensures.room gs s) (λ full few. power_lacks gs _ _ c.requires.number s few));
-      spanned = λ gs s. none_given r _ said.0;
-      stands = search rules;
-    }
+returns-in_err-power c = let r = c.from_residual.result in let e = c.in_err-power.field-0.0 in let said = c.from_residual.ensures in record {
+  ok = none_given r _ said.0;
+  rational = λ q e. absurd (cc (c.is_rational.ensures ∙ ap is_num e, c.if-is_rational.false));
+  front = front_after front_same c.power_of.ensures.safe.front;
+  kept = none_kept r _ said.0;
+  faults = passed_on r e (Faults c.args.pool.now c.power_of.new.pool) said.0 said.1 (c.in_err-power.ensures.safe.faults);
+  overflow = λ h. let fits : FitsSigned w128 c.args.n = search rules in
+      let many = c.unsigned_abs.ensures.value ∙ ap nat_abs (to_z-of_z w128 c.args.n fits) in
+      passed_on r e (OfOverflow (PowerOverflows (value (tree_of c.args.a c.args.pool.now)) (nat_abs c.args.n))) said.0 said.1
+      (subst (λ (m : ℕ). OfOverflow (PowerOverflows (value (tree_of c.args.a c.args.pool.now)) m) c.in_err-power.field-0.0) many c.in_err-power.ensures.overflow);
+  measured = none_given r _ said.0;
+  bits = λ h l k few. let fits : FitsSigned w128 c.args.n = search rules in
+      let many : c.unsigned_abs.result ≡ nat_abs c.args.n = c.unsigned_abs.ensures.value ∙ ap nat_abs (to_z-of_z w128 c.args.n fits) in
+      passed_on r e (OfOverflow (λ o. ⊥)) said.0 said.1
+      (overflow_as c.in_err-power.field-0.0 c.in_err-power.ensures.overflow (λ o p. absurd (power_within (value (tree_of c.args.a c.args.pool.now)) c.unsigned_abs.result h l o k (subst (λ (n : ℕ). n * (2 * h + 4 * l) ≤ 124) (sym many) few) p)));
+  caused = passed_on r e (IsCaused c.power_of.new.pool) said.0 said.1 (c.in_err-power.ensures.safe.caused);
+  room = λ gs s. passed_on r e (LacksRoom power_need (free_of c.args.pool.now + size (tree_of c.args.a c.args.pool.now)) gs) said.0 said.1
+      (full_as c.in_err-power.field-0.0 (c.in_err-power.ensures.room gs s) (λ full few. power_lacks gs _ _ c.requires.number s few));
+  spanned = λ gs s. none_given r _ said.0;
+  stands = search rules;
+}
 
 pub returns-then-is_rational-clause-overflow : goal.returns-then-is_rational-clause-overflow
 returns-then-is_rational-clause-overflow c = λ h. absurd (cc (c.is_rational.ensures, c.if-is_rational.true, h))

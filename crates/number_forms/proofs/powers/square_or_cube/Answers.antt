@@ -18,9 +18,7 @@ same c = other_plain c.args.a.now c.in_ok-square.ensures.ok c.requires.handed.ro
 
 pub completed-requires : goal.completed-requires
 completed-requires c =
-    let at = goal.at.completed-requires c in
-    let a : Tree = tree_of c.args.a.now c.args.pool.now in
-    let square = gives_rest c.in_ok-square.ensures.ok
+    let at = goal.at.completed-requires c in let a : Tree = tree_of c.args.a.now c.args.pool.now in let square = gives_rest c.in_ok-square.ensures.ok
     (λ t h. subst (λ (x : Tree). IsPowerOver (value x) (2 * (c.args.n / 2)) t) (sym (same at.In_ok-square)) (squared_power (value a) a t (c.args.n / 2) (half at.After-square_of) h)) in
     record {
       stands = c.in_ok-square.ensures.safe.stands;
@@ -33,54 +31,44 @@ completed-requires c =
 -- ---- as values
 
 pub returns-then-has_room : goal.returns-then-has_room
-returns-then-has_room c =
-    record {
-      ok = let power = c.raise_values.ensures (search rules) in
-          gives_as c.in_ok-place_terms.ensures.ok refl (λ t e. subst (IsPowerOver (value (tree_of c.args.a.now c.args.pool.now)) c.args.n)
-          (sym (e ∙ ap number_tree c.as_slice-then-has_room.ensures.value)) power);
-      overflow = tt;
-      room = λ a b. tt;
-      safe = answer_of c.in_ok-place_terms.ensures.safe;
-    }
+returns-then-has_room c = record {
+  ok = let power = c.raise_values.ensures (search rules) in
+      gives_as c.in_ok-place_terms.ensures.ok refl (λ t e. subst (IsPowerOver (value (tree_of c.args.a.now c.args.pool.now)) c.args.n)
+      (sym (e ∙ ap number_tree c.as_slice-then-has_room.ensures.value)) power);
+  overflow = tt;
+  room = λ a b. tt;
+  safe = answer_of c.in_ok-place_terms.ensures.safe;
+}
 
 pub returns-in_err-place_terms : goal.returns-in_err-place_terms
-returns-in_err-place_terms c =
-    let r = c.from_residual.result in let e = fault.Full c.in_err-place_terms.field-0.0 in let said = c.from_residual.ensures in
-    record {
-      ok = none_given r _ said.0;
-      overflow = passed_on r e (OfOverflow (PowerOverflows (value (tree_of c.args.a.now c.args.pool.now)) c.args.n)) said.0 said.1 (tt);
-      room = λ gs s.
-          let enough : 40 + 96 * length c.as_slice.result.now ≤ free_of c.args.pool.now = c.has_room.ensures.0 (search rules) in
-          let same : c.as_slice.result.now ≡ c.as_slice-then-has_room.result.now = c.as_slice.ensures.value ∙ sym c.as_slice-then-has_room.ensures.value in
-          passed_on r e (LacksRoom raising_need (free_of c.args.pool.now) gs) said.0 said.1
-          (absurd (omega (arith, enough, ap (λ (ts : List Term). length ts) same, c.in_err-place_terms.ensures.room)));
-      safe = passed_full r c.in_err-place_terms.field-0.0 said.0 said.1 c.in_err-place_terms.ensures.safe;
-    }
+returns-in_err-place_terms c = let r = c.from_residual.result in let e = fault.Full c.in_err-place_terms.field-0.0 in let said = c.from_residual.ensures in record {
+  ok = none_given r _ said.0;
+  overflow = passed_on r e (OfOverflow (PowerOverflows (value (tree_of c.args.a.now c.args.pool.now)) c.args.n)) said.0 said.1 (tt);
+  room = λ gs s. let enough : 40 + 96 * length c.as_slice.result.now ≤ free_of c.args.pool.now = c.has_room.ensures.0 (search rules) in
+      let same : c.as_slice.result.now ≡ c.as_slice-then-has_room.result.now = c.as_slice.ensures.value ∙ sym c.as_slice-then-has_room.ensures.value in
+      passed_on r e (LacksRoom raising_need (free_of c.args.pool.now) gs) said.0 said.1
+      (absurd (omega (arith, enough, ap (λ (ts : List Term). length ts) same, c.in_err-place_terms.ensures.room)));
+  safe = passed_full r c.in_err-place_terms.field-0.0 said.0 said.1 c.in_err-place_terms.ensures.safe;
+}
 
 pub returns-in_err-square : goal.returns-in_err-square
-returns-in_err-square c =
-    let r = c.from_residual-in_err-square.result in let e = c.in_err-square.field-0.0 in let said = c.from_residual-in_err-square.ensures in
-    record {
-      ok = none_given r _ said.0;
-      overflow = passed_on r e (OfOverflow (PowerOverflows (value (tree_of c.args.a.now c.args.pool.now)) c.args.n)) said.0 said.1
-          (overflow_as c.in_err-square.field-0.0 c.in_err-square.ensures.overflow
-          (λ o p. square_overflows _ (tree_of c.args.a.now c.args.pool.now) c.args.n o (half_twice c.args.n c.requires.twice) (half (goal.at.returns-in_err-square c).After-square_of) p));
-      room = λ gs s.
-          passed_on r e (LacksRoom raising_need (free_of c.args.pool.now) gs) said.0 said.1
-          (full_as c.in_err-square.field-0.0 (c.in_err-square.ensures.room gs s) (λ full few. omega (arith, few)));
-      safe = passed r e said.0 said.1 c.in_err-square.ensures.safe;
-    }
+returns-in_err-square c = let r = c.from_residual-in_err-square.result in let e = c.in_err-square.field-0.0 in let said = c.from_residual-in_err-square.ensures in record {
+  ok = none_given r _ said.0;
+  overflow = passed_on r e (OfOverflow (PowerOverflows (value (tree_of c.args.a.now c.args.pool.now)) c.args.n)) said.0 said.1
+      (overflow_as c.in_err-square.field-0.0 c.in_err-square.ensures.overflow
+      (λ o p. square_overflows _ (tree_of c.args.a.now c.args.pool.now) c.args.n o (half_twice c.args.n c.requires.twice) (half (goal.at.returns-in_err-square c).After-square_of) p));
+  room = λ gs s.
+      passed_on r e (LacksRoom raising_need (free_of c.args.pool.now) gs) said.0 said.1 (full_as c.in_err-square.field-0.0 (c.in_err-square.ensures.room gs s) (λ full few. omega (arith, few)));
+  safe = passed r e said.0 said.1 c.in_err-square.ensures.safe;
+}
 
 pub returns : goal.returns
-returns c =
-    record {
-      ok = if_given _ _ _ _ _ c.completed.result c.completed.ensures.ok (given_rest c.in_ok-square.ensures.ok)
-          (λ t h. subst (λ (x : Tree). IsPowerOver (value x) c.args.n t) (same (goal.at.returns c).In_ok-square) h);
-      overflow = refused_as c.completed.result c.completed.ensures.overflow
-          (λ o p. subst (λ (x : Tree). PowerOverflows (value x) c.args.n o) (same (goal.at.returns c).In_ok-square) p);
-      room = λ gs s.
-          let free = given_free c.requires.stands c.in_ok-square.ensures.safe.stands c.in_ok-square.ensures.safe.kept c.in_ok-square.ensures.ok in
-          refusal_as c.completed.result (c.completed.ensures.room gs (subst (SpansTree gs) (sym (same (goal.at.returns c).In_ok-square)) s))
-          (λ e p. full_as e p (λ full few. subst (λ (n : ℕ). n < raising_need * 2 ^ length gs) (sym free) few));
-      safe = then_safe c.in_ok-square.ensures.safe.kept (front_after_one (behind_new c.in_ok-square.ensures.ok.ends front_same) c.square_of.ensures.safe.front c.completed.ensures.safe.front) c.completed.ensures.safe;
-    }
+returns c = record {
+  ok = if_given _ _ _ _ _ c.completed.result c.completed.ensures.ok (given_rest c.in_ok-square.ensures.ok)
+      (λ t h. subst (λ (x : Tree). IsPowerOver (value x) c.args.n t) (same (goal.at.returns c).In_ok-square) h);
+  overflow = refused_as c.completed.result c.completed.ensures.overflow (λ o p. subst (λ (x : Tree). PowerOverflows (value x) c.args.n o) (same (goal.at.returns c).In_ok-square) p);
+  room = λ gs s. let free = given_free c.requires.stands c.in_ok-square.ensures.safe.stands c.in_ok-square.ensures.safe.kept c.in_ok-square.ensures.ok in
+      refusal_as c.completed.result (c.completed.ensures.room gs (subst (SpansTree gs) (sym (same (goal.at.returns c).In_ok-square)) s))
+      (λ e p. full_as e p (λ full few. subst (λ (n : ℕ). n < raising_need * 2 ^ length gs) (sym free) few));
+  safe = then_safe c.in_ok-square.ensures.safe.kept (front_after_one (behind_new c.in_ok-square.ensures.ok.ends front_same) c.square_of.ensures.safe.front c.completed.ensures.safe.front) c.completed.ensures.safe;
+}

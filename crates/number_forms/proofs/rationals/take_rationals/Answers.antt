@@ -18,5 +18,4 @@ returns-clause-room c =
     omega (arith, c.take_rational-q.ensures.room, ap (λ (f : Forest). size (plain (root_tree c.args.b f))) c.take_rational-p.ensures.gone, ap (λ (f : Forest). size (plain f)) (tree-without c.args.a c.args.b (forest c.args.pool.now) c.requires.apart))
 
 pub returns-clause-front : goal.returns-clause-front
-returns-clause-front c =
-    front_at (front_without (behind_later behind_first) (front_at (front_without behind_first front_same) c.take_rational-p.ensures.gone)) c.take_rational-q.ensures.gone
+returns-clause-front c = front_at (front_without (behind_later behind_first) (front_at (front_without behind_first front_same) c.take_rational-p.ensures.gone)) c.take_rational-q.ensures.gone

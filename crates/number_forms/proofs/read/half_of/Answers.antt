@@ -9,14 +9,11 @@ two_of e = cc
 
 pub returns-then-den-eq2-clause-value : goal.returns-then-den-eq2-clause-value
 returns-then-den-eq2-clause-value c =
-    let den_fits : FitsSigned w128 c.den.result = search rules in
-    let num_fits : FitsSigned w128 c.num.result = search rules in
+    let den_fits : FitsSigned w128 c.den.result = search rules in let num_fits : FitsSigned w128 c.num.result = search rules in
     let p = ratio_parts c.args.q in (
       eq-eqb _ 2 (p.den ∙ two_of (sym c.den.ensures.value ∙ two_bits c.den.result den_fits c.if-den-eq2.true)),
       p.num ∙ sym c.num.ensures.value ∙ sym (to_z-of_z w128 c.num.result num_fits),
     )
 
 pub returns-else-den-eq2-clause-value : goal.returns-else-den-eq2-clause-value
-returns-else-den-eq2-clause-value c =
-    let p = ratio_parts c.args.q in
-    unequal _ 2 (λ k. c.if-den-eq2.false (ap (of_z w128) (c.den.ensures.value ∙ ap pos (sym p.den ∙ k))))
+returns-else-den-eq2-clause-value c = let p = ratio_parts c.args.q in unequal _ 2 (λ k. c.if-den-eq2.false (ap (of_z w128) (c.den.ensures.value ∙ ap pos (sym p.den ∙ k))))

@@ -19,8 +19,7 @@ child_id-requires-clause-within c = omega (arith, reduced_two _ (reduced c), man
 
 pub returns-in-Add : goal.returns-in-Add
 returns-in-Add c =
-    let f = forest c.args.pool.now in
-    let t = plain (tree_at c.args.id f) in
+    let f = forest c.args.pool.now in let t = plain (tree_at c.args.id f) in
     let s : t ≡ add (children_of t) = add_by_kind _ (sym (c.kind.ensures.plain c.requires.expression) ∙ c.in-Add.is) in
     let r : is_reduced (add (children_of t)) ≡ true = subst (λ (u : Tree). is_reduced u ≡ true) s c.requires.reduced in
     let m : c.children-last.result ≡ count (children_of t) = c.children-last.ensures.plain c.requires.expression in

@@ -14,19 +14,15 @@ is_term-requires-clause-expression c = (next (goal.at.is_term-requires-clause-ex
 
 pub returns-then-not-is_term : goal.returns-then-not-is_term
 returns-then-not-is_term c =
-    let ts = children_of (plain (tree_at c.args.id (forest c.args.pool.now))) in
-    let n = next (goal.at.returns-then-not-is_term c).In-Some in
+    let ts = children_of (plain (tree_at c.args.id (forest c.args.pool.now))) in let n = next (goal.at.returns-then-not-is_term c).In-Some in
     sym (no_term ts (length c.loop-child.yielded) n.within (ap is_term (sym n.is) ∙ sym c.is_term.ensures ∙ c.if-not-is_term.true)) ∙ c.loop-child.invariant.terms
 
 pub loop-child-preserved : goal.loop-child-preserved
-loop-child-preserved c =
-    let ts = children_of (plain (tree_at c.args.id (forest c.args.pool.now))) in
-    let n = next (goal.at.loop-child-preserved c).In-Some in
-    record {
-      left = left_more c.loop-child.yielded _ c.in-Some.child _ c.loop-child.invariant.left c.in-Some.ensures.steps;
-      terms = ap (λ (k : ℕ). are_terms (trees_from k ts)) (length_push c.loop-child.yielded c.in-Some.child)
-          ∙ sym (terms_next ts (length c.loop-child.yielded) n.within (ap is_term (sym n.is) ∙ sym c.is_term.ensures ∙ c.if-not-is_term.false)) ∙ c.loop-child.invariant.terms;
-    }
+loop-child-preserved c = let ts = children_of (plain (tree_at c.args.id (forest c.args.pool.now))) in let n = next (goal.at.loop-child-preserved c).In-Some in record {
+  left = left_more c.loop-child.yielded _ c.in-Some.child _ c.loop-child.invariant.left c.in-Some.ensures.steps;
+  terms = ap (λ (k : ℕ). are_terms (trees_from k ts)) (length_push c.loop-child.yielded c.in-Some.child)
+      ∙ sym (terms_next ts (length c.loop-child.yielded) n.within (ap is_term (sym n.is) ∙ sym c.is_term.ensures ∙ c.if-not-is_term.false)) ∙ c.loop-child.invariant.terms;
+}
 
 pub returns : goal.returns
 returns c =

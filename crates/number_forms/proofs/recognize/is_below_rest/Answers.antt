@@ -11,37 +11,29 @@ pub child_ids-child-items-requires-clause-within : goal.child_ids-child-items-re
 child_ids-child-items-requires-clause-within c = omega (arith, c.requires.within, children_number c.args.id (forest c.args.pool.now) c.requires.expression)
 
 pub loop-child-init : goal.loop-child-init
-loop-child-init c =
-    let ts = children_of (plain (tree_at c.args.id (forest c.args.pool.now))) in
-    let start : c.args.from + length {A = ℕ} [] ≡ c.args.from = omega arith in
-    record {
-      left = record { ids = sym c.child_ids-child-items.ensures ∙ sym c.into_iter-child-iterator.ensures.into_iter_gives };
-      below = ap (λ (k : ℕ). is_below_all (term_of c.args.term) (terms_of (trees_from k ts))) start;
-    }
+loop-child-init c = let ts = children_of (plain (tree_at c.args.id (forest c.args.pool.now))) in let start : c.args.from + length {A = ℕ} [] ≡ c.args.from = omega arith in record {
+  left = record { ids = sym c.child_ids-child-items.ensures ∙ sym c.into_iter-child-iterator.ensures.into_iter_gives };
+  below = ap (λ (k : ℕ). is_below_all (term_of c.args.term) (terms_of (trees_from k ts))) start;
+}
 
 pub term_at-requires-clause-expression : goal.term_at-requires-clause-expression
 term_at-requires-clause-expression c = (next (goal.at.term_at-requires-clause-expression c).In-Some).expression
 
 pub term_at-requires-clause-term : goal.term_at-requires-clause-term
 term_at-requires-clause-term c =
-    let n = next (goal.at.term_at-requires-clause-term c).In-Some in
-    ap is_term n.is ∙ nth_term (children_of (plain (tree_at c.args.id (forest c.args.pool.now)))) _ c.requires.terms n.within
+    let n = next (goal.at.term_at-requires-clause-term c).In-Some in ap is_term n.is ∙ nth_term (children_of (plain (tree_at c.args.id (forest c.args.pool.now)))) _ c.requires.terms n.within
 
 pub returns-then-not-is_below : goal.returns-then-not-is_below
 returns-then-not-is_below c =
-    let ts = children_of (plain (tree_at c.args.id (forest c.args.pool.now))) in
-    let n = next (goal.at.returns-then-not-is_below c).In-Some in
-    let t = term_of c.args.term in
-    let other = c.term_at.ensures ∙ ap term_of_tree n.is in
+    let ts = children_of (plain (tree_at c.args.id (forest c.args.pool.now))) in let n = next (goal.at.returns-then-not-is_below c).In-Some in
+    let t = term_of c.args.term in let other = c.term_at.ensures ∙ ap term_of_tree n.is in
     let same = sym (ap (λ (u : Term). nat_lt t.radicand u.radicand && not (are_alike t.radicand u.radicand)) other) ∙ sym c.is_below.ensures in
     sym (not_below t ts _ n.within (same ∙ c.if-not-is_below.true)) ∙ c.loop-child.invariant.below
 
 pub loop-child-preserved : goal.loop-child-preserved
 loop-child-preserved c =
-    let ts = children_of (plain (tree_at c.args.id (forest c.args.pool.now))) in
-    let n = next (goal.at.loop-child-preserved c).In-Some in
-    let t = term_of c.args.term in
-    let other = c.term_at.ensures ∙ ap term_of_tree n.is in
+    let ts = children_of (plain (tree_at c.args.id (forest c.args.pool.now))) in let n = next (goal.at.loop-child-preserved c).In-Some in
+    let t = term_of c.args.term in let other = c.term_at.ensures ∙ ap term_of_tree n.is in
     let same = sym (ap (λ (u : Term). nat_lt t.radicand u.radicand && not (are_alike t.radicand u.radicand)) other) ∙ sym c.is_below.ensures in
     let more : c.args.from + length (c.loop-child.yielded ++ (c.in-Some.child ∷ [])) ≡ c.args.from + length c.loop-child.yielded + 1 =
     omega (arith, length_push c.loop-child.yielded c.in-Some.child) in

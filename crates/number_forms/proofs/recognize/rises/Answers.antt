@@ -5,14 +5,12 @@ use Rattle.number_forms.proofs.recognize.rises.Goals as goal
 pub child_term-term-requires-clause-within : goal.child_term-term-requires-clause-within
 child_term-term-requires-clause-within c =
     let ts = children_of (plain (tree_at c.args.id (forest c.args.pool.now))) in
-    let many : c.children-at-end.result ≡ count ts = c.children-at-end.ensures.plain c.requires.expression in
-    omega (arith, many, c.loop-at-test.true)
+    let many : c.children-at-end.result ≡ count ts = c.children-at-end.ensures.plain c.requires.expression in omega (arith, many, c.loop-at-test.true)
 
 pub is_below_rest-requires-clause-within : goal.is_below_rest-requires-clause-within
 is_below_rest-requires-clause-within c =
     let ts = children_of (plain (tree_at c.args.id (forest c.args.pool.now))) in
-    let many : c.children-at-end.result ≡ count ts = c.children-at-end.ensures.plain c.requires.expression in
-    omega (arith, many, c.loop-at-test.true)
+    let many : c.children-at-end.result ≡ count ts = c.children-at-end.ensures.plain c.requires.expression in omega (arith, many, c.loop-at-test.true)
 
 pub loop-at-preserved : goal.loop-at-preserved
 loop-at-preserved c =

@@ -20,8 +20,7 @@ returns-in-Root c =
 
 pub returns-then-children-eq2 : goal.returns-then-children-eq2
 returns-then-children-eq2 c =
-    let at = (goal.at.returns-then-children-eq2 c).After-next_kind in
-    c.is_multiple_next.ensures ∙ ap is_multiple_next (left-are at)
+    let at = (goal.at.returns-then-children-eq2 c).After-next_kind in c.is_multiple_next.ensures ∙ ap is_multiple_next (left-are at)
     ∙ product_has_shape (tree_at c.args.id (forest c.args.pool.now)) c.requires.expression.whole (sym (kind-is at) ∙ c.in-Mult.is)
     (sym (c.children.ensures.plain c.requires.expression) ∙ c.if-children-eq2.true)
 

@@ -16,11 +16,12 @@ here g c =
     ∙ sym (other_plain c.args.number c.requires.sum c.requires.handed.root) in
     ap (λ (t : Tree). slice_get (value t) c.loop-at.at) (sym read) ∙ c.listed_term-term.ensures
 
-pub term_count-at-end-requires-clause-expression : goal.term_count-at-end-requires-clause-expression
-term_count-at-end-requires-clause-expression g c = other_expression c.args.number c.args.pool.now c.requires.stands c.requires.sum c.requires.handed
-
-pub term_count-at-end-requires-clause-number : goal.term_count-at-end-requires-clause-number
-term_count-at-end-requires-clause-number g c = ap is_number (plain_root c.args.number c.requires.stands (given_other c.requires.sum c.requires.handed).root) ∙ c.requires.number
+pub term_count-at-end-requires : goal.term_count-at-end-requires
+term_count-at-end-requires g c = record {
+  stands = c.requires.stands;
+  expression = other_expression c.args.number c.args.pool.now c.requires.stands c.requires.sum c.requires.handed;
+  number = ap is_number (plain_root c.args.number c.requires.stands (given_other c.requires.sum c.requires.handed).root) ∙ c.requires.number;
+}
 
 pub loop-at-init : goal.loop-at-init
 loop-at-init g c = record { joined = joined_none c.args.sum.now (square_terms (value (tree_of c.args.number c.args.pool.now))) c.args.pool.now c.requires.stands c.requires.sum; lists = c.requires.lists }
@@ -34,16 +35,13 @@ listed_term-term-requires g c =
 
 pub join_square_row-requires : goal.join_square_row-requires
 join_square_row-requires g c =
-    let joined = c.loop-at.invariant.joined in
-    let at = (goal.at.join_square_row-requires g c).After-listed_term-term in
+    let joined = c.loop-at.invariant.joined in let at = (goal.at.join_square_row-requires g c).After-listed_term-term in
     (search rules, (joined.stands, (gives_rest joined.gives (λ t h. h.sum), (c.loop-at.invariant.lists, (handed_at c.requires.handed (given_rest joined.gives), (ap is_number (same g at) ∙ c.requires.number, lists_kept c.args.number c.args.pool.now c.loop-at.pool c.requires.stands joined.stands c.requires.sum joined.gives c.requires.handed c.requires.terms))))))
 
 pub loop-at-preserved : goal.loop-at-preserved
 loop-at-preserved g c =
-    let at = (goal.at.loop-at-preserved g c).After-listed_term-term in
-    let v = value (tree_of c.args.number c.args.pool.now) in
-    let x = term_of c.listed_term-term.result in
-    let later : c.loop-at.at + 1 ≡ _ = add-one c.loop-at.at in
+    let at = (goal.at.loop-at-preserved g c).After-listed_term-term in let v = value (tree_of c.args.number c.args.pool.now) in
+    let x = term_of c.listed_term-term.result in let later : c.loop-at.at + 1 ≡ _ = add-one c.loop-at.at in
     let row = subst (λ (t : Tree). Gives (without_root c.args.sum.now (forest c.loop-at.pool)) (forest c.join_square_row.new.pool) c.args.sum.now
     (IsSumOf (value (tree_of c.args.sum.now c.loop-at.pool) ++ square_row x (terms_from (c.loop-at.at + 1) (value t))))) (same g at) c.in_ok-join_square_row.ensures.ok in
     let next : square_terms (terms_from c.loop-at.at v) ≡ square_row x (terms_from (c.loop-at.at + 1) v) ++ square_terms (terms_from (c.loop-at.at + 1) v) =
@@ -54,51 +52,42 @@ loop-at-preserved g c =
     }
 
 pub returns : goal.returns
-returns g c =
-    record {
-      ok = let v = value (tree_of c.args.number c.args.pool.now) in
-          let all = ap classes (plain_root c.args.number c.requires.stands (given_other c.requires.sum c.requires.handed).root) in
-          let end : length v ≤ c.loop-at.at = omega (arith, all, c.term_count-at-end.ensures, c.loop-at-test.false) in
-          joined_all c.loop-at.invariant.joined (ap square_terms (from_all v c.loop-at.at end));
-      lists = c.loop-at.invariant.lists;
-      overflow = λ a. tt;
-      room = λ a b d. tt;
-      safe = let j = c.loop-at.invariant.joined in answered j.front j.kept j.stands;
-    }
+returns g c = record {
+  ok = let v = value (tree_of c.args.number c.args.pool.now) in
+      let all = ap classes (plain_root c.args.number c.requires.stands (given_other c.requires.sum c.requires.handed).root) in
+      let end : length v ≤ c.loop-at.at = omega (arith, all, c.term_count-at-end.ensures, c.loop-at-test.false) in
+      joined_all c.loop-at.invariant.joined (ap square_terms (from_all v c.loop-at.at end));
+  lists = c.loop-at.invariant.lists;
+  overflow = λ a. tt;
+  room = λ a b d. tt;
+  safe = let j = c.loop-at.invariant.joined in answered j.front j.kept j.stands;
+}
 
 pub returns-in_err-join_square_row : goal.returns-in_err-join_square_row
-returns-in_err-join_square_row g c =
-    let r = c.from_residual.result in let e = c.in_err-join_square_row.field-0.0 in let said = c.from_residual.ensures in
-    record {
-      ok = none_kept r _ said.0;
-      lists = none_kept r _ said.0;
-      overflow = λ empty.
-          let at = (goal.at.returns-in_err-join_square_row g c).After-listed_term-term in
-          let v = value (tree_of c.args.number c.args.pool.now) in
-          let partial : Tree = tree_of c.args.sum.now c.loop-at.pool in
-          let left = square_terms (terms_from c.loop-at.at v) in
-          let x = term_of c.listed_term-term.result in
-          let told = given_told c.loop-at.invariant.joined.gives in
-          passed_on r e (OfOverflow (SquareOverflows v)) said.0 said.1
-          (overflow_as c.in_err-join_square_row.field-0.0 c.in_err-join_square_row.ensures.overflow (λ o r. record {
-            at = c.loop-at.at;
-            factor = x;
-            here = here g at;
-            partial = partial;
-            sum = told.sum;
-            worth = subst (λ (u : Surd). Same (value partial ++ left) (u ++ square_terms v)) empty told.worth;
-            parts = subst (λ (u : Surd). SharesDenominators (u ++ square_terms v) (value partial ++ left)) empty told.parts;
-            row = subst (λ (n : ℕ). SquareRowOverflows partial x (terms_from n v) o) (add-one c.loop-at.at)
-                (subst (λ (t : Tree). SquareRowOverflows partial x (terms_from (c.loop-at.at + 1) (value t)) o) (same g at) r);
-          }));
-      room = λ gs s t.
-          let at = (goal.at.returns-in_err-join_square_row g c).After-listed_term-term in
-          let v = value (tree_of c.args.number c.args.pool.now) in
-          let joined = c.loop-at.invariant.joined in
-          let left = spans_square gs (terms_from c.loop-at.at v) (spans_from gs v c.loop-at.at t) in
-          let partial = partial_spanned gs _ _ (tree_of c.args.sum.now c.loop-at.pool) (given_told joined.gives) (spans_append gs _ _ s (spans_square gs v t)) left in
-          passed_on r e (LacksRoom joining_need (free_of c.args.pool.now + size (tree_of c.args.sum.now c.args.pool.now)) gs) said.0 said.1
-          (full_as c.in_err-join_square_row.field-0.0 (c.in_err-join_square_row.ensures.room gs partial (spans_nth gs v c.loop-at.at _ (here g at) t) (subst (λ (x : Tree). Spans gs (value x)) (sym (same g at)) t))
-          (λ full few. row_lacks gs joined c.requires.stands (given_handed c.requires.sum) few));
-      safe = let j = c.loop-at.invariant.joined in after_one j.kept behind_first j.front (passed r e said.0 said.1 c.in_err-join_square_row.ensures.safe);
-    }
+returns-in_err-join_square_row g c = let r = c.from_residual.result in let e = c.in_err-join_square_row.field-0.0 in let said = c.from_residual.ensures in record {
+  ok = none_kept r _ said.0;
+  lists = none_kept r _ said.0;
+  overflow = λ empty. let at = (goal.at.returns-in_err-join_square_row g c).After-listed_term-term in
+      let v = value (tree_of c.args.number c.args.pool.now) in let partial : Tree = tree_of c.args.sum.now c.loop-at.pool in
+      let left = square_terms (terms_from c.loop-at.at v) in let x = term_of c.listed_term-term.result in
+      let told = given_told c.loop-at.invariant.joined.gives in
+      passed_on r e (OfOverflow (SquareOverflows v)) said.0 said.1 (overflow_as c.in_err-join_square_row.field-0.0 c.in_err-join_square_row.ensures.overflow (λ o r. record {
+        at = c.loop-at.at;
+        factor = x;
+        here = here g at;
+        partial = partial;
+        sum = told.sum;
+        worth = subst (λ (u : Surd). Same (value partial ++ left) (u ++ square_terms v)) empty told.worth;
+        parts = subst (λ (u : Surd). SharesDenominators (u ++ square_terms v) (value partial ++ left)) empty told.parts;
+        row = subst (λ (n : ℕ). SquareRowOverflows partial x (terms_from n v) o) (add-one c.loop-at.at)
+            (subst (λ (t : Tree). SquareRowOverflows partial x (terms_from (c.loop-at.at + 1) (value t)) o) (same g at) r);
+      }));
+  room = λ gs s t. let at = (goal.at.returns-in_err-join_square_row g c).After-listed_term-term in
+      let v = value (tree_of c.args.number c.args.pool.now) in let joined = c.loop-at.invariant.joined in
+      let left = spans_square gs (terms_from c.loop-at.at v) (spans_from gs v c.loop-at.at t) in
+      let partial = partial_spanned gs _ _ (tree_of c.args.sum.now c.loop-at.pool) (given_told joined.gives) (spans_append gs _ _ s (spans_square gs v t)) left in
+      passed_on r e (LacksRoom joining_need (free_of c.args.pool.now + size (tree_of c.args.sum.now c.args.pool.now)) gs) said.0 said.1
+      (full_as c.in_err-join_square_row.field-0.0 (c.in_err-join_square_row.ensures.room gs partial (spans_nth gs v c.loop-at.at _ (here g at) t) (subst (λ (x : Tree). Spans gs (value x)) (sym (same g at)) t))
+      (λ full few. row_lacks gs joined c.requires.stands (given_handed c.requires.sum) few));
+  safe = let j = c.loop-at.invariant.joined in after_one j.kept behind_first j.front (passed r e said.0 said.1 c.in_err-join_square_row.ensures.safe);
+}

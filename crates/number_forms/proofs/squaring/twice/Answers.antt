@@ -7,16 +7,13 @@ pub new-requires-clause-not_zero : goal.new-requires-clause-not_zero
 new-requires-clause-not_zero c = sum_not_zero c.in_ok-coefficient.ensures.sum c.coefficient.ensures.value c.coefficient-2.ensures.value c.coefficient.ensures.not_zero
 
 pub returns-in_err-coefficient : goal.returns-in_err-coefficient
-returns-in_err-coefficient c =
-    let r = c.from_residual.result in let e = c.in_err-coefficient.field-0.0 in let said = c.from_residual.ensures in
-    record {
-      sum = none_given r _ said.0;
-      refused = let refused = c.in_err-coefficient.ensures.refused.0 refl in
-          let first = subst (λ (q : Fraction). DoesNotFit Op.Add q (value_of c.coefficient-2.result)) c.coefficient.ensures.value refused in
-          (λ _. subst (DoesNotFit Op.Add (term_of c.args.term).coefficient) c.coefficient-2.ensures.value first, λ _. said.0);
-      caused = passed_on r e Overflows said.0 said.1
-          (subst Overflows (sym c.in_err-coefficient.ensures.named) (c.in_err-coefficient.ensures.refused.0 refl));
-    }
+returns-in_err-coefficient c = let r = c.from_residual.result in let e = c.in_err-coefficient.field-0.0 in let said = c.from_residual.ensures in record {
+  sum = none_given r _ said.0;
+  refused = let refused = c.in_err-coefficient.ensures.refused.0 refl in
+      let first = subst (λ (q : Fraction). DoesNotFit Op.Add q (value_of c.coefficient-2.result)) c.coefficient.ensures.value refused in
+      (λ _. subst (DoesNotFit Op.Add (term_of c.args.term).coefficient) c.coefficient-2.ensures.value first, λ _. said.0);
+  caused = passed_on r e Overflows said.0 said.1 (subst Overflows (sym c.in_err-coefficient.ensures.named) (c.in_err-coefficient.ensures.refused.0 refl));
+}
 
 pub returns-clause-sum : goal.returns-clause-sum
 returns-clause-sum c =

@@ -8,9 +8,7 @@ child-requires g c = (search rules, (c.requires.stands, (c.requires.expression, 
 
 pub term_at-requires-clause-term : goal.term_at-requires-clause-term
 term_at-requires-clause-term g c =
-    let f = forest c.args.pool.now in
-    let t = plain (tree_at c.args.id f) in
-    let k = sym (c.kind.ensures.plain c.requires.expression) ∙ c.in-Add.is in
+    let f = forest c.args.pool.now in let t = plain (tree_at c.args.id f) in let k = sym (c.kind.ensures.plain c.requires.expression) ∙ c.in-Add.is in
     let many : classes t ≡ count (children_of t) = sum_classes _ k in
     let sum : is_number (add (children_of t)) ≡ true = subst (λ (u : Tree). is_number u ≡ true) (add_by_kind t k) c.requires.number in
     let within : c.args.at < count (children_of t) = omega (arith, c.requires.within, many) in
@@ -22,9 +20,7 @@ term_at-requires-in_default g c =
 
 pub returns-in-Add : goal.returns-in-Add
 returns-in-Add g c =
-    let f = forest c.args.pool.now in
-    let t = plain (tree_at c.args.id f) in
-    let k = sym (c.kind.ensures.plain c.requires.expression) ∙ c.in-Add.is in
+    let f = forest c.args.pool.now in let t = plain (tree_at c.args.id f) in let k = sym (c.kind.ensures.plain c.requires.expression) ∙ c.in-Add.is in
     let many : classes t ≡ count (children_of t) = sum_classes _ k in
     let within : c.args.at < count (children_of t) = omega (arith, c.requires.within, many) in
     ap (λ (u : Tree). slice_get (value u) c.args.at) (add_by_kind t k) ∙ nth_of_terms (children_of t) c.args.at within

@@ -7,5 +7,4 @@ insert-requires c =
     (lit< tt, (omega (arith, c.requires.place.within, count_trees c.args.list.now.items), omega (arith, c.is_full.ensures.fits, n)))
 
 pub returns-clause-ok : goal.returns-clause-ok
-returns-clause-ok c = λ _.
-    subst (AreTermsOf _) (sym c.insert.ensures.items) (inserted_terms c.args.list.now.items c.args.at c.args.term c.requires.listed c.requires.small c.requires.place c.requires.other)
+returns-clause-ok c = λ _. subst (AreTermsOf _) (sym c.insert.ensures.items) (inserted_terms c.args.list.now.items c.args.at c.args.term c.requires.listed c.requires.small c.requires.place c.requires.other)

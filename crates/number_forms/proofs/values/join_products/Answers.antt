@@ -4,9 +4,7 @@ use Rattle.number_forms.proofs.values.join_products.Goals as goal
 
 pub loop-at-preserved : goal.loop-at-preserved
 loop-at-preserved c =
-    let v = value (tree_of c.args.a.now c.args.pool.now) in
-    let x = term_of c.args.factor in
-    let y = term_of c.nth_term.result in
+    let v = value (tree_of c.args.a.now c.args.pool.now) in let x = term_of c.args.factor in let y = term_of c.nth_term.result in
     with_step (term_times x y) (products_next x v c.loop-at.at y c.nth_term.ensures ∙ ap (λ (n : ℕ). term_times x y ∷ map (term_times x) (terms_from n v)) (sym (add-one c.loop-at.at)))
     (c.join_product.ensures (search rules)) c.loop-at.invariant
 

@@ -19,8 +19,7 @@ module _ (c : After-join) where
 
 pub returns-in-Ok-Term : goal.returns-in-Ok-Term
 returns-in-Ok-Term c = λ _.
-    let k = (goal.at.returns-in-Ok-Term c).After-join in
-    let one = c.in-Ok-Term.joined in
+    let k = (goal.at.returns-in-Ok-Term c).After-join in let one = c.in-Ok-Term.joined in
     let joins = subst (λ (j : Joined). Joins j (term_of (x k)) (term_of c.args.term)) c.in-Ok-Term.field-0-is c.in-Ok-Term.ensures.joins in
     let sum = subst (λ (j : Joined). IfTerm j (λ t. IsSum t (term_of (x k)) (term_of c.args.term))) c.in-Ok-Term.field-0-is c.in-Ok-Term.ensures.sum in
     subst (AreTermsOf _) (sym (refill_set (xs k) _ c.args.at _ one c.as_mut_slice.ensures.value refl))

@@ -4,10 +4,8 @@ use Rattle.number_forms.proofs.values.multiply_values.Goals as goal
 
 pub loop-at-preserved : goal.loop-at-preserved
 loop-at-preserved c =
-    let v = value (tree_of c.args.a.now c.args.pool.now) in
-    let w = value (tree_of c.args.b.now c.args.pool.now) in
-    let x = term_of c.nth_term.result in
-    let row = map (term_times x) w in
+    let v = value (tree_of c.args.a.now c.args.pool.now) in let w = value (tree_of c.args.b.now c.args.pool.now) in
+    let x = term_of c.nth_term.result in let row = map (term_times x) w in
     with_part row (rows_next v w c.loop-at.at x c.nth_term.ensures ∙ ap (λ (n : ℕ). row ++ surd_times (terms_from n v) w) (sym (add-one c.loop-at.at)))
     (c.join_products.ensures (search rules)) c.loop-at.invariant
 
