@@ -12,7 +12,6 @@ pub mod PlacedFactors
 pub mod ListedTerms
 pub mod Joins
 pub mod Within
-pub mod Safety
 pub mod JoinLoops
 pub mod Expansions
 pub mod ChildExpansions

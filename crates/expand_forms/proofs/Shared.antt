@@ -20,7 +20,7 @@ pub use Rattle.child_lists.proofs.{LastSums.{last_with, lists_behind, only_child
 pub use Rattle.child_lists.specs.Lists.{Lists}
 pub use Rattle.coefficients.proofs.Steps.{many_factors, one_value}
 pub use Rattle.expand_forms.specs.{Listed.{AreAhead, AreRead}, Merging.{AddsTrees, AreFactors, BeginsWith, GoesOn, IsFirst, IsNext}, Parts.{Part, each_once, has_factors, has_parts, multiplied, part}}
-pub use Rattle.expand_forms.specs.Safety.{IsSafe, IsSafePlacing}
+pub use Rattle.number_forms.specs.Safety.{IsSafe, IsSafePlacing}
 pub use Rattle.expand_forms.specs.{Parts.{part_factor, parts_of, repeated, total}, PowersOfSums.{AreReady, AreReadyFrom, IsLeft, IsOverReady, IsReady, IsReadyFrom, has_power_of_sum, is_power_of_sum}}
 pub use Rattle.expand_forms.specs.{Reading.{AreComing, BeginsOtherwise, IsSummandTree, IsTaken}, Rows.{row, with_coefficient}, Sums.{IsPlace, with_term}, Terms.{IsMonomialKey, IsRead}}
 pub use Rattle.expand_forms.specs.{Walks.{IsNoOverflow, AreExpandedFrom, IsExpandedFrom, IsOver, IsPolynomial, MayLack, MayOverflow}, declared.merging.Next.{Next}, ByValues.{CanName}}

@@ -4,7 +4,6 @@ pub mod Reading
 pub mod Rows
 pub mod Merging
 pub mod Walks
-pub mod Safety
 pub mod PowersOfSums
 pub mod Listed
 pub mod ByValues

@@ -21,7 +21,7 @@ ghost use Rattle.tree_handles.specs.Expressions.{IsExpression, plain};
 ghost use Rattle.tree_handles.specs.Handed.{Gives};
 ghost use Rattle.tree_handles.specs.Inside.{tree_at};
 ghost use Rattle.tree_handles.specs.Standing.{Stands, forest};
-ghost use Rattle.expand_forms.specs.Safety.{IsSafe, IsSafePlacing};
+ghost use Rattle.number_forms.specs.Safety.{IsSafe, IsSafePlacing};
 
 use crate::factors::{Factor, Factors};
 use calc_terms::Kind;

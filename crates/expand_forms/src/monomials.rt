@@ -16,7 +16,7 @@ ghost use Rattle.tree_handles.specs.Handed.{Gives, tree_of};
 ghost use Rattle.tree_handles.specs.Inside.{tree_at};
 ghost use Rattle.tree_handles.specs.Roots.{without_root};
 ghost use Rattle.tree_handles.specs.Standing.{Stands, forest};
-ghost use Rattle.expand_forms.specs.Safety.{IsSafe, IsSafePlacing};
+ghost use Rattle.number_forms.specs.Safety.{IsSafe, IsSafePlacing};
 
 use crate::factors::Factors;
 use crate::merging::place_factors;

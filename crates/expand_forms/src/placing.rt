@@ -12,7 +12,7 @@ ghost use Rattle.polynomials.specs.Packed.{monomial_of};
 ghost use Rattle.polynomials.specs.Terms.{polynomial_of};
 ghost use Rattle.tree_handles.specs.Handed.{Gives};
 ghost use Rattle.tree_handles.specs.Standing.{Stands, forest};
-ghost use Rattle.expand_forms.specs.Safety.{IsSafePlacing};
+ghost use Rattle.number_forms.specs.Safety.{IsSafePlacing};
 
 use crate::factors::{Factor, FactorList};
 use crate::packed_order::{exponents_of, know_monomials, sort_terms};

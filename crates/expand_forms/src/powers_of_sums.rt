@@ -16,7 +16,7 @@ ghost use Rattle.tree_handles.specs.Holes.{ChangesTree, set_child};
 ghost use Rattle.tree_handles.specs.Inside.{tree_at};
 ghost use Rattle.tree_handles.specs.Roots.{root_tree, without_root};
 ghost use Rattle.tree_handles.specs.Standing.{Stands, forest};
-ghost use Rattle.expand_forms.specs.Safety.{IsSafe};
+ghost use Rattle.number_forms.specs.Safety.{IsSafe};
 
 use crate::node::expand_node;
 use crate::parts::exponent_of;

@@ -11,7 +11,7 @@ ghost use Rattle.expansions.specs.Terms.{led_by};
 ghost use Rattle.node_pool.specs.State.{free_of};
 ghost use Rattle.tree_handles.specs.Handed.{Gives};
 ghost use Rattle.tree_handles.specs.Standing.{Stands, forest};
-ghost use Rattle.expand_forms.specs.Safety.{IsSafePlacing};
+ghost use Rattle.number_forms.specs.Safety.{IsSafePlacing};
 
 use crate::factors::Factor;
 use crate::merging::place_factor;

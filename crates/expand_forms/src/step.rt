@@ -13,7 +13,7 @@ ghost use Rattle.tree_handles.specs.Faults.{OfOverflow};
 ghost use Rattle.tree_handles.specs.Handed.{Ends, Gives, IsHanded, tree_of};
 ghost use Rattle.tree_handles.specs.Roots.{root_tree, without_root};
 ghost use Rattle.tree_handles.specs.Standing.{Stands, forest};
-ghost use Rattle.expand_forms.specs.Safety.{IsSafe};
+ghost use Rattle.number_forms.specs.Safety.{IsSafe};
 
 use crate::by_values::expand_values;
 use crate::node::{expand_by_trees, place_listed};

@@ -6,27 +6,17 @@ use Rattle.expand_forms.proofs.{Shared.{factors_most, monomial_times_monomial, c
 use Rattle.expand_forms.proofs.{Joins.{sum_read, term_read}, TermReadings.{beside, product_monomial}, adding.join_product.Given.{Over}, adding.join_product.Goals.{After-child-other, After-id-2}}
 use Rattle.expand_forms.proofs.adding.join_product.Goals.{In-Err, In-Ok, In_ok-product, In_ok-term-in-Err}
 use Rattle.tree_handles.specs.declared.fault.NumberFault.TheVariants as fault
-use Rattle.expand_forms.proofs.Safety.{after_one, answered, beside_all, fits_full, no_answer, overflowed, passed, passed_full, room_overflow, then_safe}
+use Rattle.number_forms.proofs.Safety.{after_one, answered, beside_all, fits_full, no_answer, overflowed, passed, passed_full, room_overflow, then_safe}
 use Rattle.expand_forms.proofs.adding.join_product.Goals as goal
 
 pub place_merged-requires : goal.place_merged-requires
-place_merged-requires g c =
-    let (m, n, hm, hn) = c.requires.monomials in
-    let x = beside c.requires.sum c.requires.first in
-    let y = beside c.requires.sum c.requires.second in
-    record {
-      stands = c.requires.stands;
-      factors = c.of-left.ensures;
-      first = x.expression;
-      second = y.expression;
-      monomials = (
-        m,
-        n,
-        subst (HasMonomial m) (sym x.same) hm,
-        subst
-            (HasMonomial n) (sym y.same) hn,
-      );
-    }
+place_merged-requires g c = let (m, n, hm, hn) = c.requires.monomials in let x = beside c.requires.sum c.requires.first in let y = beside c.requires.sum c.requires.second in record {
+  stands = c.requires.stands;
+  factors = c.of-left.ensures;
+  first = x.expression;
+  second = y.expression;
+  monomials = (m, n, subst (HasMonomial m) (sym x.same) hm, subst (HasMonomial n) (sym y.same) hn);
+}
 
 -- ---- the product, behind the sum
 
@@ -56,15 +46,13 @@ place_in : (g : Over) (c : In-Err g) (q : Fraction) (m n : Monomial) → HasMono
     → IsPlace c.in-Err.at (term_tree (summand q (monomial_times m n))) (children_of (tree_of c.args.sum.now c.args.pool.now))
 place_in g c q m n hm hn =
     let h = monomial_times_monomial m n hm.monomial hn.monomial in
-    subst (λ (t : Tree). IsPlace c.in-Err.at (term_tree (summand q (monomial_times m n))) (children_of t))
-    (sum_read c.args.pool.now c.place_merged.new.pool c.requires.sum
+    subst (λ (t : Tree). IsPlace c.in-Err.at (term_tree (summand q (monomial_times m n))) (children_of t)) (sum_read c.args.pool.now c.place_merged.new.pool c.requires.sum
     (placed_behind c.requires.sum c.requires.first c.requires.second c.in_ok-product.ensures.ok m n hm hn) c.in_ok-product.ensures.safe.stands c.id.ensures)
     (c.in-Err.ensures.place (monomial_times m n) (term_tree (summand q (monomial_times m n))) (sought g c.before.before m n hm hn) (has_monomial q h))
 
 pub completed-requires-clause-product : goal.completed-requires-clause-product
 completed-requires-clause-product g c =
-    let (m, n, hm, hn) = c.requires.monomials in
-    gives_rest (placed_behind c.requires.sum c.requires.first c.requires.second c.in_ok-product.ensures.ok m n hm hn) (λ t e. ap is_mult e)
+    let (m, n, hm, hn) = c.requires.monomials in gives_rest (placed_behind c.requires.sum c.requires.first c.requires.second c.in_ok-product.ensures.ok m n hm hn) (λ t e. ap is_mult e)
 
 completed : (g : Over) (c : In_ok-term-in-Err g) (m n : Monomial) → HasMonomial m (plain (tree_at c.args.s (without_root c.args.sum.now (forest c.args.pool.now))))
     → HasMonomial n (plain (tree_at c.args.t (without_root c.args.sum.now (forest c.args.pool.now))))
@@ -82,26 +70,24 @@ insert_child-requires g c =
     (search rules, (c.in_ok-term-in-Err.ensures.safe.stands, (gives_rest r (λ t h. tt), (sum_still c.requires.sum (given_rest r), (lists_behind c.requires.sum r c.requires.lists, omega (arith, place.within, same))))))
 
 pub returns-in_ok-term-in-Err : goal.returns-in_ok-term-in-Err
-returns-in_ok-term-in-Err g c =
-    record {
-      ok = λ m n hm hn.
-          let p = placed_behind c.requires.sum c.requires.first c.requires.second c.in_ok-product.ensures.ok m n hm hn in
-          let r = completed g (goal.at.returns-in_ok-term-in-Err g c).In_ok-term-in-Err m n hm hn in
-          let q = value_of c.args.coefficient in
-          put_in (summand q (monomial_times m n)) c.in-Err.at c.requires.sum r (no_zero q (not_from_false _ c.requires.nonzero)) (monomial_times_monomial m n hm.monomial hn.monomial)
-          (place_in g (goal.at.returns-in_ok-term-in-Err g c).In-Err q m n hm hn) c.insert_child.ensures.sum;
-      lists = c.insert_child.ensures.lists;
-      fits = λ a b d e f h i j. tt;
-      room = λ a b d e. tt;
-      safe = let (m, n, hm, hn) = c.requires.monomials in
-          let p = placed_behind c.requires.sum c.requires.first c.requires.second c.in_ok-product.ensures.ok m n hm hn in
-          let r = completed g (goal.at.returns-in_ok-term-in-Err g c).In_ok-term-in-Err m n hm hn in
-          let s = c.in_ok-product.ensures.safe in
-          let t = c.in_ok-term-in-Err.ensures.safe in
-          answered
-          (front_after_two behind_first (behind_new r.ends front_same) (front_after_one (behind_new p.ends front_same) (front_after front_same s.front) t.front) c.insert_child.ensures.front)
-          (kept_after (kept_after s.kept t.kept) c.insert_child.ensures.kept) c.insert_child.ensures.stands;
-    }
+returns-in_ok-term-in-Err g c = record {
+  ok = λ m n hm hn.
+      let p = placed_behind c.requires.sum c.requires.first c.requires.second c.in_ok-product.ensures.ok m n hm hn in
+      let r = completed g (goal.at.returns-in_ok-term-in-Err g c).In_ok-term-in-Err m n hm hn in
+      let q = value_of c.args.coefficient in
+      put_in (summand q (monomial_times m n)) c.in-Err.at c.requires.sum r (no_zero q (not_from_false _ c.requires.nonzero)) (monomial_times_monomial m n hm.monomial hn.monomial)
+      (place_in g (goal.at.returns-in_ok-term-in-Err g c).In-Err q m n hm hn) c.insert_child.ensures.sum;
+  lists = c.insert_child.ensures.lists;
+  fits = λ a b d e f h i j. tt;
+  room = λ a b d e. tt;
+  safe = let (m, n, hm, hn) = c.requires.monomials in
+      let p = placed_behind c.requires.sum c.requires.first c.requires.second c.in_ok-product.ensures.ok m n hm hn in
+      let r = completed g (goal.at.returns-in_ok-term-in-Err g c).In_ok-term-in-Err m n hm hn in
+      let s = c.in_ok-product.ensures.safe in
+      let t = c.in_ok-term-in-Err.ensures.safe in
+      answered (front_after_two behind_first (behind_new r.ends front_same) (front_after_one (behind_new p.ends front_same) (front_after front_same s.front) t.front) c.insert_child.ensures.front)
+      (kept_after (kept_after s.kept t.kept) c.insert_child.ensures.kept) c.insert_child.ensures.stands;
+}
 
 -- ---- a term that is there
 
@@ -110,15 +96,12 @@ found : (g : Over) (c : In-Ok g) (q : Fraction) (m n : Monomial) → HasMonomial
     → IsFoundAt c.in-Ok.at (term_tree (summand q (monomial_times m n))) (children_of (tree_of c.args.sum.now c.args.pool.now))
 found g c q m n hm hn =
     let h = monomial_times_monomial m n hm.monomial hn.monomial in
-    subst (λ (t : Tree). IsFoundAt c.in-Ok.at (term_tree (summand q (monomial_times m n))) (children_of t))
-    (sum_read c.args.pool.now c.place_merged.new.pool c.requires.sum
+    subst (λ (t : Tree). IsFoundAt c.in-Ok.at (term_tree (summand q (monomial_times m n))) (children_of t)) (sum_read c.args.pool.now c.place_merged.new.pool c.requires.sum
     (placed_behind c.requires.sum c.requires.first c.requires.second c.in_ok-product.ensures.ok m n hm hn) c.in_ok-product.ensures.safe.stands c.id.ensures)
     (c.in-Ok.ensures.found (monomial_times m n) (term_tree (summand q (monomial_times m n))) (sought g c.before.before m n hm hn) (has_monomial q h))
 
 within : (g : Over) (c : In-Ok g) → c.in-Ok.at < count (children_of (tree_of c.args.sum.now c.args.pool.now))
-within g c =
-    let (m, n, hm, hn) = c.requires.monomials in
-    (found g c one_fraction m n hm hn).0
+within g c = let (m, n, hm, hn) = c.requires.monomials in (found g c one_fraction m n hm hn).0
 
 pub child-other-requires : goal.child-other-requires
 child-other-requires g c =
@@ -134,8 +117,7 @@ child-other-requires g c =
 other : (g : Over) (c : After-child-other g) → plain (tree_at c.child-other.result (forest c.place_merged.new.pool)) ≡ nth c.in-Ok.at (children_of (tree_of c.args.sum.now c.args.pool.now))
 other g c =
     let (m, n, hm, hn) = c.requires.monomials in
-    c.child-other.ensures.plain
-    ∙ ap (λ (t : Tree). nth c.in-Ok.at (children_of t)) (sum_read c.args.pool.now c.place_merged.new.pool c.requires.sum
+    c.child-other.ensures.plain ∙ ap (λ (t : Tree). nth c.in-Ok.at (children_of t)) (sum_read c.args.pool.now c.place_merged.new.pool c.requires.sum
     (placed_behind c.requires.sum c.requires.first c.requires.second c.in_ok-product.ensures.ok m n hm hn) c.in_ok-product.ensures.safe.stands c.id-in-Ok.ensures)
 
 pub replace-requires : goal.replace-requires
@@ -154,25 +136,24 @@ replaced g c k =
     (front_after front_same c.in_ok-product.ensures.safe.front) k
 
 pub returns-in_ok-replace-in-Ok : goal.returns-in_ok-replace-in-Ok
-returns-in_ok-replace-in-Ok g c =
-    record {
-      ok = λ m n hm hn.
-          let p = placed_behind c.requires.sum c.requires.first c.requires.second c.in_ok-product.ensures.ok m n hm hn in
-          let st = c.in_ok-product.ensures.safe.stands in
-          let now = c.place_merged.new.pool in
-          let q = value_of c.args.coefficient in
-          let ts = children_of (tree_of c.args.sum.now c.args.pool.now) in
-          let same = (found g (goal.at.returns-in_ok-replace-in-Ok g c).In-Ok q m n hm hn).1 in
-          let total : value_of c.in_ok-total-in-Ok.total ≡ plus (coefficient_in (nth c.in-Ok.at ts)) q =
-          c.in_ok-total-in-Ok.ensures.sum ∙ ap (λ r. plus r q) (c.coefficient.ensures ∙ ap coefficient_in (other g (goal.at.returns-in_ok-replace-in-Ok g c).After-child-other)) in
-          set_in (summand q (monomial_times m n)) c.in-Ok.at (value_of c.in_ok-total-in-Ok.total) c.requires.sum p
-          (within g (goal.at.returns-in_ok-replace-in-Ok g c).In-Ok) same total (c.in_ok-replace-in-Ok.ensures.ok (monomial_times m n) (given_told p));
-      lists = c.in_ok-replace-in-Ok.ensures.lists;
-      fits = λ a b d e f h i j. tt;
-      room = λ a b d e. tt;
-      safe = let s = c.in_ok-replace-in-Ok.ensures.safe in
-          answered (replaced g (goal.at.returns-in_ok-replace-in-Ok g c).In_ok-product s.front) (kept_after c.in_ok-product.ensures.safe.kept s.kept) s.stands;
-    }
+returns-in_ok-replace-in-Ok g c = record {
+  ok = λ m n hm hn.
+      let p = placed_behind c.requires.sum c.requires.first c.requires.second c.in_ok-product.ensures.ok m n hm hn in
+      let st = c.in_ok-product.ensures.safe.stands in
+      let now = c.place_merged.new.pool in
+      let q = value_of c.args.coefficient in
+      let ts = children_of (tree_of c.args.sum.now c.args.pool.now) in
+      let same = (found g (goal.at.returns-in_ok-replace-in-Ok g c).In-Ok q m n hm hn).1 in
+      let total : value_of c.in_ok-total-in-Ok.total ≡ plus (coefficient_in (nth c.in-Ok.at ts)) q =
+      c.in_ok-total-in-Ok.ensures.sum ∙ ap (λ r. plus r q) (c.coefficient.ensures ∙ ap coefficient_in (other g (goal.at.returns-in_ok-replace-in-Ok g c).After-child-other)) in
+      set_in (summand q (monomial_times m n)) c.in-Ok.at (value_of c.in_ok-total-in-Ok.total) c.requires.sum p
+      (within g (goal.at.returns-in_ok-replace-in-Ok g c).In-Ok) same total (c.in_ok-replace-in-Ok.ensures.ok (monomial_times m n) (given_told p));
+  lists = c.in_ok-replace-in-Ok.ensures.lists;
+  fits = λ a b d e f h i j. tt;
+  room = λ a b d e. tt;
+  safe = let s = c.in_ok-replace-in-Ok.ensures.safe in
+      answered (replaced g (goal.at.returns-in_ok-replace-in-Ok g c).In_ok-product s.front) (kept_after c.in_ok-product.ensures.safe.kept s.kept) s.stands;
+}
 
 -- ---- few bytes
 
@@ -184,68 +165,59 @@ few g c m n hm hn l =
     omega (arith, given_free c.requires.stands c.in_ok-product.ensures.safe.stands c.in_ok-product.ensures.safe.kept p, ap size (given_told p), factors_most (monomial_times m n), l)
 
 pub returns-in_err-term-in-Err : goal.returns-in_err-term-in-Err
-returns-in_err-term-in-Err g c =
-    record {
-      ok = λ a b d e. no_answer c.from_residual-in_err-term-in-Err.result _ c.from_residual-in_err-term-in-Err.ensures.0;
-      lists = no_answer c.from_residual-in_err-term-in-Err.result _ c.from_residual-in_err-term-in-Err.ensures.0;
-      fits = λ a b d e f h i j. fits_full c.from_residual-in_err-term-in-Err.result c.in_err-term-in-Err.field-0.0 _ c.from_residual-in_err-term-in-Err.ensures.0 c.from_residual-in_err-term-in-Err.ensures.1;
-      room = λ m n hm hn.
-          passed_on c.from_residual-in_err-term-in-Err.result (fault.Full c.in_err-term-in-Err.field-0.0)
-          (OfFull (λ full. free_of c.args.pool.now < term_bytes (length (monomial_times m n)))) c.from_residual-in_err-term-in-Err.ensures.0 c.from_residual-in_err-term-in-Err.ensures.1
-          (few g (goal.at.returns-in_err-term-in-Err g c).In_ok-product m n hm hn c.in_err-term-in-Err.ensures.room);
-      safe = let (m, n, hm, hn) = c.requires.monomials in
-          let s = c.in_ok-product.ensures.safe in
-          after_one s.kept (behind_new (placed_behind c.requires.sum c.requires.first c.requires.second c.in_ok-product.ensures.ok m n hm hn).ends front_same) (front_after front_same s.front)
-          (passed_full c.from_residual-in_err-term-in-Err.result c.in_err-term-in-Err.field-0.0 c.from_residual-in_err-term-in-Err.ensures.0 c.from_residual-in_err-term-in-Err.ensures.1 c.in_err-term-in-Err.ensures.safe);
-    }
+returns-in_err-term-in-Err g c = let r = c.from_residual-in_err-term-in-Err.result in let said = c.from_residual-in_err-term-in-Err.ensures in record {
+  ok = λ a b d e. no_answer r _ said.0;
+  lists = no_answer r _ said.0;
+  fits = λ a b d e f h i j. fits_full r c.in_err-term-in-Err.field-0.0 _ said.0 said.1;
+  room = λ m n hm hn.
+      passed_on r (fault.Full c.in_err-term-in-Err.field-0.0) (OfFull (λ full. free_of c.args.pool.now < term_bytes (length (monomial_times m n)))) said.0 said.1
+      (few g (goal.at.returns-in_err-term-in-Err g c).In_ok-product m n hm hn c.in_err-term-in-Err.ensures.room);
+  safe = let (m, n, hm, hn) = c.requires.monomials in
+      let s = c.in_ok-product.ensures.safe in
+      after_one s.kept (behind_new (placed_behind c.requires.sum c.requires.first c.requires.second c.in_ok-product.ensures.ok m n hm hn).ends front_same) (front_after front_same s.front)
+      (passed_full r c.in_err-term-in-Err.field-0.0 said.0 said.1 c.in_err-term-in-Err.ensures.safe);
+}
 
 pub returns-in_err-replace-in-Ok : goal.returns-in_err-replace-in-Ok
-returns-in_err-replace-in-Ok g c =
-    record {
-      ok = λ a b d e. no_answer c.from_residual-in_err-replace-in-Ok.result _ c.from_residual-in_err-replace-in-Ok.ensures.0;
-      lists = no_answer c.from_residual-in_err-replace-in-Ok.result _ c.from_residual-in_err-replace-in-Ok.ensures.0;
-      fits = λ a b d e f h i j. fits_full c.from_residual-in_err-replace-in-Ok.result c.in_err-replace-in-Ok.field-0.0 _ c.from_residual-in_err-replace-in-Ok.ensures.0 c.from_residual-in_err-replace-in-Ok.ensures.1;
-      room = λ m n hm hn.
-          passed_on c.from_residual-in_err-replace-in-Ok.result (fault.Full c.in_err-replace-in-Ok.field-0.0)
-          (OfFull (λ full. free_of c.args.pool.now < term_bytes (length (monomial_times m n)))) c.from_residual-in_err-replace-in-Ok.ensures.0 c.from_residual-in_err-replace-in-Ok.ensures.1
-          (few g (goal.at.returns-in_err-replace-in-Ok g c).In_ok-product m n hm hn c.in_err-replace-in-Ok.ensures.room);
-      safe = let s = c.in_err-replace-in-Ok.ensures.safe in
-          then_safe c.in_ok-product.ensures.safe.kept (replaced g (goal.at.returns-in_err-replace-in-Ok g c).In_ok-product s.front)
-          (passed_full c.from_residual-in_err-replace-in-Ok.result c.in_err-replace-in-Ok.field-0.0 c.from_residual-in_err-replace-in-Ok.ensures.0 c.from_residual-in_err-replace-in-Ok.ensures.1 s);
-    }
+returns-in_err-replace-in-Ok g c = let r = c.from_residual-in_err-replace-in-Ok.result in let said = c.from_residual-in_err-replace-in-Ok.ensures in record {
+  ok = λ a b d e. no_answer r _ said.0;
+  lists = no_answer r _ said.0;
+  fits = λ a b d e f h i j. fits_full r c.in_err-replace-in-Ok.field-0.0 _ said.0 said.1;
+  room = λ m n hm hn.
+      passed_on r (fault.Full c.in_err-replace-in-Ok.field-0.0) (OfFull (λ full. free_of c.args.pool.now < term_bytes (length (monomial_times m n)))) said.0 said.1
+      (few g (goal.at.returns-in_err-replace-in-Ok g c).In_ok-product m n hm hn c.in_err-replace-in-Ok.ensures.room);
+  safe = let s = c.in_err-replace-in-Ok.ensures.safe in
+      then_safe c.in_ok-product.ensures.safe.kept (replaced g (goal.at.returns-in_err-replace-in-Ok g c).In_ok-product s.front) (passed_full r c.in_err-replace-in-Ok.field-0.0 said.0 said.1 s);
+}
 
 -- ---- what fits
 
 pub returns-in_err-product : goal.returns-in_err-product
-returns-in_err-product g c =
-    record {
-      ok = λ a b d e. no_answer c.from_residual.result _ c.from_residual.ensures.0;
-      lists = no_answer c.from_residual.result _ c.from_residual.ensures.0;
-      fits = λ m n h l hm hn held k.
-          passed_on c.from_residual.result c.in_err-product.field-0.0 IsNoOverflow c.from_residual.ensures.0 c.from_residual.ensures.1
-          (c.in_err-product.ensures.fits m n h (subst (HasMonomial m) (sym (beside c.requires.sum c.requires.first).same) hm)
-          (subst (HasMonomial n) (sym (beside c.requires.sum c.requires.second).same) hn) held.exponents.0 (omega (arith, k)));
-      room = λ m n hm hn.
-          passed_on c.from_residual.result c.in_err-product.field-0.0
-          (OfFull (λ full. free_of c.args.pool.now < term_bytes (length (monomial_times m n)))) c.from_residual.ensures.0 c.from_residual.ensures.1
-          (c.in_err-product.ensures.room m n (subst (HasMonomial m) (sym (beside c.requires.sum c.requires.first).same) hm) (subst (HasMonomial n) (sym (beside c.requires.sum c.requires.second).same) hn));
-      safe = beside_all (passed c.from_residual.result c.in_err-product.field-0.0 c.from_residual.ensures.0 c.from_residual.ensures.1 c.in_err-product.ensures.safe);
-    }
+returns-in_err-product g c = let r = c.from_residual.result in let said = c.from_residual.ensures in record {
+  ok = λ a b d e. no_answer r _ said.0;
+  lists = no_answer r _ said.0;
+  fits = λ m n h l hm hn held k.
+      passed_on r c.in_err-product.field-0.0 IsNoOverflow said.0 said.1 (c.in_err-product.ensures.fits m n h (subst (HasMonomial m) (sym (beside c.requires.sum c.requires.first).same) hm)
+      (subst (HasMonomial n) (sym (beside c.requires.sum c.requires.second).same) hn) held.exponents.0 (omega (arith, k)));
+  room = λ m n hm hn.
+      passed_on r c.in_err-product.field-0.0 (OfFull (λ full. free_of c.args.pool.now < term_bytes (length (monomial_times m n)))) said.0 said.1
+      (c.in_err-product.ensures.room m n (subst (HasMonomial m) (sym (beside c.requires.sum c.requires.first).same) hm) (subst (HasMonomial n) (sym (beside c.requires.sum c.requires.second).same) hn));
+  safe = beside_all (passed r c.in_err-product.field-0.0 said.0 said.1 c.in_err-product.ensures.safe);
+}
 
 pub returns-in_err-total-in-Ok : goal.returns-in_err-total-in-Ok
-returns-in_err-total-in-Ok g c =
-    record {
-      ok = λ a b d e. no_answer c.from_residual-in_err-total-in-Ok.result _ c.from_residual-in_err-total-in-Ok.ensures.0;
-      lists = no_answer c.from_residual-in_err-total-in-Ok.result _ c.from_residual-in_err-total-in-Ok.ensures.0;
-      fits = λ m n h l hm hn held k.
-          contradiction (total_fits (given_told c.requires.sum) (summand (value_of c.args.coefficient) (monomial_times m n)) c.in-Ok.at
-          (within g (goal.at.returns-in_err-total-in-Ok g c).In-Ok) held k (value_of c.coefficient.result)
-          (c.coefficient.ensures ∙ ap coefficient_in (other g (goal.at.returns-in_err-total-in-Ok g c).After-child-other))) (c.in_err-total-in-Ok.ensures.refused.0 refl);
-      room = λ a b d e. room_overflow c.from_residual-in_err-total-in-Ok.result c.in_err-total-in-Ok.field-0.0 _ c.from_residual-in_err-total-in-Ok.ensures.0 c.from_residual-in_err-total-in-Ok.ensures.1;
-      safe = let s = c.in_ok-product.ensures.safe in
-          overflowed c.from_residual-in_err-total-in-Ok.result c.in_err-total-in-Ok.field-0.0 c.from_residual-in_err-total-in-Ok.ensures.0 c.from_residual-in_err-total-in-Ok.ensures.1
-          (subst Overflows (sym c.in_err-total-in-Ok.ensures.named) (c.in_err-total-in-Ok.ensures.refused.0 refl)) (front_after front_same s.front) s.kept s.stands;
-    }
+returns-in_err-total-in-Ok g c = let r = c.from_residual-in_err-total-in-Ok.result in let said = c.from_residual-in_err-total-in-Ok.ensures in record {
+  ok = λ a b d e. no_answer r _ said.0;
+  lists = no_answer r _ said.0;
+  fits = λ m n h l hm hn held k.
+      contradiction (total_fits (given_told c.requires.sum) (summand (value_of c.args.coefficient) (monomial_times m n)) c.in-Ok.at
+      (within g (goal.at.returns-in_err-total-in-Ok g c).In-Ok) held k (value_of c.coefficient.result)
+      (c.coefficient.ensures ∙ ap coefficient_in (other g (goal.at.returns-in_err-total-in-Ok g c).After-child-other))) (c.in_err-total-in-Ok.ensures.refused.0 refl);
+  room = λ a b d e. room_overflow r c.in_err-total-in-Ok.field-0.0 _ said.0 said.1;
+  safe = let s = c.in_ok-product.ensures.safe in
+      overflowed r c.in_err-total-in-Ok.field-0.0 said.0 said.1
+      (subst Overflows (sym c.in_err-total-in-Ok.ensures.named) (c.in_err-total-in-Ok.ensures.refused.0 refl)) (front_after front_same s.front) s.kept s.stands;
+}
 
 pub of-left-requires-clause-expression : goal.of-left-requires-clause-expression
 of-left-requires-clause-expression g c = (beside c.requires.sum c.requires.first).expression

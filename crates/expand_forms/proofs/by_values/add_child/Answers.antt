@@ -9,6 +9,5 @@ returns-clause-list c = λ v l e.
     let old = subst (λ (ts : List Term). IsListOf ns ts v) (sym c.list_child.ensures.answer) l in
     let child = c.list_child.ensures.list c.if-not-list_child.false in
     let sum = passed c.add_scaled.result c.add_scaled.ensures.terms (sym c.is_err.ensures.value ∙ c.if-is_err.false) in
-    rw c.swap.ensures.x_after
-    (list_sum (value_of c.args.factor) (subst (λ (ts : List Term). IsListOf ns ts v) (sym c.deref.ensures.value) old)
+    rw c.swap.ensures.x_after (list_sum (value_of c.args.factor) (subst (λ (ts : List Term). IsListOf ns ts v) (sym c.deref.ensures.value) old)
     (subst (λ (ts : List Term). IsListOf ns ts w) (sym c.deref-2.ensures.value) child) sum)

@@ -14,8 +14,7 @@ pub exponent_of-exponent-requires : goal.exponent_of-exponent-requires
 exponent_of-exponent-requires c =
     let t = plain (tree_at c.args.id (forest c.args.pool.now)) in
     let child = c.child_id.ensures.plain c.requires.expression in
-    let exponent : is_exponent (nth 1 (children_of t)) ≡ true = ap has_polynomial_root (sym (power_node t c.requires.power)) ∙ c.requires.polynomial in
-    record {
+    let exponent : is_exponent (nth 1 (children_of t)) ≡ true = ap has_polynomial_root (sym (power_node t c.requires.power)) ∙ c.requires.polynomial in record {
       stands = c.requires.stands;
       expression = c.child_id.ensures.expression c.requires.expression;
       expanded = subst IsExpanded (sym child) (exponent_expanded (ready_nth 1 (children_of t) c.requires.children (omega (arith, two_children t c.requires.power))) exponent);
@@ -23,15 +22,12 @@ exponent_of-exponent-requires c =
     }
 
 pub list_child-requires : goal.list_child-requires
-list_child-requires c =
-    let t = plain (tree_at c.args.id (forest c.args.pool.now)) in
-    let child = c.child_id-2.ensures.plain c.requires.expression in
-    record {
-      stands = c.requires.stands;
-      expression = c.child_id-2.ensures.expression c.requires.expression;
-      ready = subst IsReady (sym child) (ready_nth 0 (children_of t) c.requires.children (omega (arith, two_children t c.requires.power)));
-      names = can_name_child 0 c.requires.names child;
-    }
+list_child-requires c = let t = plain (tree_at c.args.id (forest c.args.pool.now)) in let child = c.child_id-2.ensures.plain c.requires.expression in record {
+  stands = c.requires.stands;
+  expression = c.child_id-2.ensures.expression c.requires.expression;
+  ready = subst IsReady (sym child) (ready_nth 0 (children_of t) c.requires.children (omega (arith, two_children t c.requires.power)));
+  names = can_name_child 0 c.requires.names child;
+}
 
 pub returns-clause-list : goal.returns-clause-list
 returns-clause-list c = λ e.

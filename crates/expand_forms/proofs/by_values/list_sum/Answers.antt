@@ -12,8 +12,7 @@ pub loop-at-preserved : goal.loop-at-preserved
 loop-at-preserved c =
     let i = c.loop-at.invariant in
     let ps = parts_of (plain (tree_at c.args.id (forest c.args.pool.now))) in
-    let added = c.add_child.ensures.list (total (take c.loop-at.at ps)) (rw i.names i.list) c.if-not-add_child.false in
-    record {
+    let added = c.add_child.ensures.list (total (take c.loop-at.at ps)) (rw i.names i.list) c.if-not-add_child.false in record {
       names = c.add_child.ensures.names ∙ i.names;
       list = list_as (same_is (total_more c.loop-at.at ps (value_of c.part_at-part.result.factor) (plain (tree_at c.part_at-part.result.tree (forest c.args.pool.now))) c.part_at-part.ensures.part)) (rw i.names at added);
     }

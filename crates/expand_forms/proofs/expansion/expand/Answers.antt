@@ -6,7 +6,7 @@ use Rattle.expand_forms.proofs.{AnswerFaults.{no_interruption, refusal, told_ful
 use Rattle.reduce_port.specs.Faults.{IfOverflow}
 use Rattle.reduce_walk.proofs.Port.{overflow_as}
 use Rattle.reduce_port.specs.declared.fault.ReduceFault.TheVariants as fault
-use Rattle.expand_forms.proofs.Safety.{no_answer}
+use Rattle.number_forms.proofs.Safety.{no_answer}
 use Rattle.expand_forms.proofs.expansion.expand.Goals as goal
 
 pub raise_answer-requires : goal.raise_answer-requires
@@ -81,24 +81,20 @@ returns-in_err-raise_answer-in-Ok g c =
     }
 
 pub returns-in-Err : goal.returns-in-Err
-returns-in-Err g c =
-    let t = tree_of c.args.tree c.args.pool.now in
-    let unfit = c.in-Err.ensures.overflow_at_its_node in
-    let r = refusal c.in-Err.fault in
-    record {
-      ok = tt;
-      one_check_a_node = tt;
-      no_new_name = tt;
-      within_room = tt;
-      interrupted = c.in-Err.ensures.interrupted;
-      by_the_one_whose_trips_rose = c.in-Err.ensures.by_the_one_whose_trips_rose;
-      overflow = c.in-Err.ensures.overflow;
-      overflow_beyond_bits = overflow_as r unfit (λ o u. beyond_bits t u.unfit);
-      overflow_after_checks = overflow_as r unfit (λ o u. unfit_after_checks u);
-      full = c.in-Err.ensures.full;
-      full_beyond_room = c.in-Err.ensures.full_where_it_may_lack;
-      full_after_checks = c.in-Err.ensures.full_after_checks;
-      refusals = c.in-Err.ensures.refusals;
-      front = c.in-Err.ensures.front;
-      stands = c.in-Err.ensures.stands;
-    }
+returns-in-Err g c = let t = tree_of c.args.tree c.args.pool.now in let unfit = c.in-Err.ensures.overflow_at_its_node in let r = refusal c.in-Err.fault in record {
+  ok = tt;
+  one_check_a_node = tt;
+  no_new_name = tt;
+  within_room = tt;
+  interrupted = c.in-Err.ensures.interrupted;
+  by_the_one_whose_trips_rose = c.in-Err.ensures.by_the_one_whose_trips_rose;
+  overflow = c.in-Err.ensures.overflow;
+  overflow_beyond_bits = overflow_as r unfit (λ o u. beyond_bits t u.unfit);
+  overflow_after_checks = overflow_as r unfit (λ o u. unfit_after_checks u);
+  full = c.in-Err.ensures.full;
+  full_beyond_room = c.in-Err.ensures.full_where_it_may_lack;
+  full_after_checks = c.in-Err.ensures.full_after_checks;
+  refusals = c.in-Err.ensures.refusals;
+  front = c.in-Err.ensures.front;
+  stands = c.in-Err.ensures.stands;
+}

@@ -4,7 +4,7 @@ use Rattle.expand_forms.proofs.{Shared.{given_handed, given_rest, lists_listed, 
 use Rattle.expand_forms.proofs.{JoinLoops.{joined_more, joined_none, next_part, next_term, part_few, part_held, place_read, terms_read}, Joins.{no_summands}, ListedTerms.{lists_beside}}
 use Rattle.expand_forms.proofs.{Rows.{next_coefficient, rows_next}, TermReadings.{beside}, joining.join_products.Given.{Over}, joining.join_products.Goals.{After-coefficient-factor}}
 use Rattle.calc_terms.proofs.FractionFacts.{zero_test as is_nonzero}
-use Rattle.expand_forms.proofs.Safety.{after_one, answered, no_answer, passed}
+use Rattle.number_forms.proofs.Safety.{after_one, answered, no_answer, passed}
 use Rattle.expand_forms.proofs.joining.join_products.Goals as goal
 
 here : (g : Over) (c : After-coefficient-factor g)
@@ -33,14 +33,12 @@ pub term_count-at-end-requires-clause-expression : goal.term_count-at-end-requir
 term_count-at-end-requires-clause-expression g c = (beside c.requires.sum c.requires.first).expression
 
 pub loop-at-init : goal.loop-at-init
-loop-at-init g c =
-    let o = without_root c.args.sum.now (forest c.args.pool.now) in
-    record {
-      lists = c.requires.lists;
-      joined = joined_none c.args.sum.now _ _ c.args.pool.now c.requires.stands c.requires.sum
-          (gathered_append (gathered_products (plain (tree_at c.args.a o)) (plain (tree_at c.args.b o)) c.requires.first_expanded c.requires.second_expanded)
-          (gathered_refl (polynomial_of (tree_of c.args.sum.now c.args.pool.now))));
-    }
+loop-at-init g c = let o = without_root c.args.sum.now (forest c.args.pool.now) in record {
+  lists = c.requires.lists;
+  joined = joined_none c.args.sum.now _ _ c.args.pool.now c.requires.stands c.requires.sum
+      (gathered_append (gathered_products (plain (tree_at c.args.a o)) (plain (tree_at c.args.b o)) c.requires.first_expanded c.requires.second_expanded)
+      (gathered_refl (polynomial_of (tree_of c.args.sum.now c.args.pool.now))));
+}
 
 pub of-firsts-requires : goal.of-firsts-requires
 of-firsts-requires g c = (search rules, (c.requires.stands, (beside c.requires.sum c.requires.first).expression))
@@ -66,35 +64,29 @@ loop-at-preserved g c = record {
 }
 
 pub returns-in_err-join_row : goal.returns-in_err-join_row
-returns-in_err-join_row g c =
-    record {
-      ok = no_answer c.from_residual.result _ c.from_residual.ensures.0;
-      lists = no_answer c.from_residual.result _ c.from_residual.ensures.0;
-      fits = λ h l held k.
-          let at = (goal.at.returns-in_err-join_row g c).After-coefficient-factor in
-          passed_on c.from_residual.result c.in_err-join_row.field-0.0 IsNoOverflow c.from_residual.ensures.0 c.from_residual.ensures.1
-          (c.in_err-join_row.ensures.fits h l (part_held c.loop-at.invariant.joined (next g at) held) k);
-      room = λ ns n few.
-          let at = (goal.at.returns-in_err-join_row g c).After-coefficient-factor in
-          let j = c.loop-at.invariant.joined in
-          passed_on c.from_residual.result c.in_err-join_row.field-0.0
-          (OfFull (λ full. free_of c.args.pool.now + size (tree_of c.args.sum.now c.args.pool.now) < sum_bytes ns n)) c.from_residual.ensures.0 c.from_residual.ensures.1
-          (full_as c.in_err-join_row.field-0.0 (c.in_err-join_row.ensures.room ns n (part_few j (next g at) few))
-          (λ full short. joined_lacks (sum_bytes ns n) j c.requires.stands (given_handed c.requires.sum) short));
-      safe = let j = c.loop-at.invariant.joined in
-          after_one j.kept behind_first j.front (passed c.from_residual.result c.in_err-join_row.field-0.0 c.from_residual.ensures.0 c.from_residual.ensures.1 c.in_err-join_row.ensures.safe);
-    }
+returns-in_err-join_row g c = let r = c.from_residual.result in let e = c.in_err-join_row.field-0.0 in let said = c.from_residual.ensures in record {
+  ok = no_answer r _ said.0;
+  lists = no_answer r _ said.0;
+  fits = λ h l held k.
+      let at = (goal.at.returns-in_err-join_row g c).After-coefficient-factor in
+      passed_on r e IsNoOverflow said.0 said.1 (c.in_err-join_row.ensures.fits h l (part_held c.loop-at.invariant.joined (next g at) held) k);
+  room = λ ns n few.
+      let at = (goal.at.returns-in_err-join_row g c).After-coefficient-factor in
+      let j = c.loop-at.invariant.joined in
+      passed_on r c.in_err-join_row.field-0.0 (OfFull (λ full. free_of c.args.pool.now + size (tree_of c.args.sum.now c.args.pool.now) < sum_bytes ns n)) said.0 said.1
+      (full_as c.in_err-join_row.field-0.0 (c.in_err-join_row.ensures.room ns n (part_few j (next g at) few))
+      (λ full short. joined_lacks (sum_bytes ns n) j c.requires.stands (given_handed c.requires.sum) short));
+  safe = let j = c.loop-at.invariant.joined in after_one j.kept behind_first j.front (passed r e said.0 said.1 c.in_err-join_row.ensures.safe);
+}
 
 pub returns : goal.returns
-returns g c =
-    record {
-      ok = let o = without_root c.args.sum.now (forest c.args.pool.now) in
-          let many = terms_read c.requires.sum c.requires.first c.requires.first_expanded c.term_count-at-end.ensures in
-          joined_all c.loop-at.invariant.joined (ap (λ (v : Polynomial). product v (normal (polynomial_of (plain (tree_at c.args.b o)))))
-          (no_summands c.loop-at.at (normal (polynomial_of (plain (tree_at c.args.a o)))) (omega (arith, many, c.loop-at-test.false))));
-      lists = c.loop-at.invariant.lists;
-      fits = λ a b d e. tt;
-      room = λ a b d. tt;
-      safe = let j = c.loop-at.invariant.joined in
-          answered j.front j.kept j.stands;
-    }
+returns g c = record {
+  ok = let o = without_root c.args.sum.now (forest c.args.pool.now) in
+      let many = terms_read c.requires.sum c.requires.first c.requires.first_expanded c.term_count-at-end.ensures in
+      joined_all c.loop-at.invariant.joined (ap (λ (v : Polynomial). product v (normal (polynomial_of (plain (tree_at c.args.b o)))))
+      (no_summands c.loop-at.at (normal (polynomial_of (plain (tree_at c.args.a o)))) (omega (arith, many, c.loop-at-test.false))));
+  lists = c.loop-at.invariant.lists;
+  fits = λ a b d e. tt;
+  room = λ a b d. tt;
+  safe = let j = c.loop-at.invariant.joined in answered j.front j.kept j.stands;
+}

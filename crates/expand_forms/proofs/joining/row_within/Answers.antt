@@ -4,7 +4,7 @@ use Rattle.expand_forms.proofs.Shared.{without_root, forest, behind_first, given
 use Rattle.expand_forms.proofs.{JoinLoops.{joined_none, IsNextPart, IsNextTerm, joined_all, joined_more, next_term, part_few, part_held, place_read, terms_read}, JoinRooms.{term_lacks}}
 use Rattle.expand_forms.proofs.{ListedTerms.{lists_beside}, Rows.{next_coefficient, product_nonzero, row_end, row_next}, Splits.{first_fits}, TermReadings.{beside, term_monomial}}
 use Rattle.expand_forms.proofs.{joining.row_within.Given.{Over}, joining.row_within.Goals.{After-term_id-other}}
-use Rattle.expand_forms.proofs.Safety.{after_one, answered, no_answer, overflowed, passed, room_overflow}
+use Rattle.number_forms.proofs.Safety.{after_one, answered, no_answer, overflowed, passed, room_overflow}
 use Rattle.expand_forms.proofs.joining.row_within.Goals as goal
 
 here : (g : Over) (c : After-term_id-other g)
@@ -53,43 +53,38 @@ join_product-requires g c =
     (search rules, (j.stands, (gives_rest j.gives (λ t h. h.sum), (c.loop-at.invariant.lists, (nonzero, (term, (x.expression, (c.requires.first_term.summand.monomial, x.term.summand.monomial, first g at, term_monomial x.term))))))))
 
 pub loop-at-preserved : goal.loop-at-preserved
-loop-at-preserved g c =
-    let at = (goal.at.loop-at-preserved g c).After-term_id-other in
-    let x = here g at in
-    record {
-      lists = c.in_ok-join_product.ensures.lists;
-      joined = joined_more c.loop-at.invariant.joined (next g at (value_of c.in_ok-product.product) _ c.coefficient.ensures c.in_ok-product.ensures.product)
-          (c.in_ok-join_product.ensures.ok c.requires.first_term.summand.monomial x.term.summand.monomial (first g at)
-          (term_monomial x.term)) c.join_product.ensures.safe.front c.in_ok-join_product.ensures.safe.kept c.join_product.ensures.safe.stands;
-    }
+loop-at-preserved g c = let at = (goal.at.loop-at-preserved g c).After-term_id-other in let x = here g at in record {
+  lists = c.in_ok-join_product.ensures.lists;
+  joined = joined_more c.loop-at.invariant.joined (next g at (value_of c.in_ok-product.product) _ c.coefficient.ensures c.in_ok-product.ensures.product)
+      (c.in_ok-join_product.ensures.ok c.requires.first_term.summand.monomial x.term.summand.monomial (first g at)
+      (term_monomial x.term)) c.join_product.ensures.safe.front c.in_ok-join_product.ensures.safe.kept c.join_product.ensures.safe.stands;
+}
 
 -- ---- what fits
 
 pub returns-in_err-product : goal.returns-in_err-product
-returns-in_err-product g c =
-    record {
-      ok = no_answer c.from_residual.result _ c.from_residual.ensures.0;
-      lists = no_answer c.from_residual.result _ c.from_residual.ensures.0;
-      fits = λ h l held k.
-          let at = (goal.at.returns-in_err-product g c).After-term_id-other in
-          let q = times (value_of c.args.factor) (value_of c.coefficient.result) in
-          contradiction (first_fits (summand q (monomial_times c.requires.first_term.summand.monomial (here g at).term.summand.monomial))
-          (part_held c.loop-at.invariant.joined (next g at q _ c.coefficient.ensures refl) held) k) (c.in_err-product.ensures.refused.0 refl);
-      room = λ a b d. room_overflow c.from_residual.result c.in_err-product.field-0.0 _ c.from_residual.ensures.0 c.from_residual.ensures.1;
-      safe = let j = c.loop-at.invariant.joined in
-          overflowed c.from_residual.result c.in_err-product.field-0.0 c.from_residual.ensures.0 c.from_residual.ensures.1 (subst Overflows (sym c.in_err-product.ensures.named) (c.in_err-product.ensures.refused.0 refl)) j.front j.kept j.stands;
-    }
+returns-in_err-product g c = let r = c.from_residual.result in let e = c.in_err-product.field-0.0 in let said = c.from_residual.ensures in record {
+  ok = no_answer r _ said.0;
+  lists = no_answer r _ said.0;
+  fits = λ h l held k.
+      let at = (goal.at.returns-in_err-product g c).After-term_id-other in
+      let q = times (value_of c.args.factor) (value_of c.coefficient.result) in
+      contradiction (first_fits (summand q (monomial_times c.requires.first_term.summand.monomial (here g at).term.summand.monomial))
+      (part_held c.loop-at.invariant.joined (next g at q _ c.coefficient.ensures refl) held) k) (c.in_err-product.ensures.refused.0 refl);
+  room = λ a b d. room_overflow r e _ said.0 said.1;
+  safe = let j = c.loop-at.invariant.joined in
+      overflowed r e said.0 said.1 (subst Overflows (sym c.in_err-product.ensures.named) (c.in_err-product.ensures.refused.0 refl)) j.front j.kept j.stands;
+}
 
 pub returns-in_err-join_product : goal.returns-in_err-join_product
 returns-in_err-join_product g c =
-    record {
-      ok = no_answer c.from_residual-in_err-join_product.result _ c.from_residual-in_err-join_product.ensures.0;
-      lists = no_answer c.from_residual-in_err-join_product.result _ c.from_residual-in_err-join_product.ensures.0;
+    let r = c.from_residual-in_err-join_product.result in let e = c.in_err-join_product.field-0.0 in let said = c.from_residual-in_err-join_product.ensures in record {
+      ok = no_answer r _ said.0;
+      lists = no_answer r _ said.0;
       fits = λ h l held k.
           let at = (goal.at.returns-in_err-join_product g c).After-term_id-other in
           let x = here g at in
-          passed_on c.from_residual-in_err-join_product.result c.in_err-join_product.field-0.0 IsNoOverflow c.from_residual-in_err-join_product.ensures.0 c.from_residual-in_err-join_product.ensures.1
-          (c.in_err-join_product.ensures.fits c.requires.first_term.summand.monomial x.term.summand.monomial h l (first g at) (term_monomial x.term)
+          passed_on r e IsNoOverflow said.0 said.1 (c.in_err-join_product.ensures.fits c.requires.first_term.summand.monomial x.term.summand.monomial h l (first g at) (term_monomial x.term)
           (part_held c.loop-at.invariant.joined (next g at (value_of c.in_ok-product.product) _ c.coefficient.ensures c.in_ok-product.ensures.product) held) k);
       room = λ ns n few.
           let at = (goal.at.returns-in_err-join_product g c).After-term_id-other in
@@ -97,24 +92,20 @@ returns-in_err-join_product g c =
           let x = here g at in
           let m : Monomial = c.requires.first_term.summand.monomial in
           let all = part_few j (next g at (value_of c.in_ok-product.product) _ c.coefficient.ensures c.in_ok-product.ensures.product) few in
-          passed_on c.from_residual-in_err-join_product.result c.in_err-join_product.field-0.0
-          (OfFull (λ full. free_of c.args.pool.now + size (tree_of c.args.sum.now c.args.pool.now) < sum_bytes ns n)) c.from_residual-in_err-join_product.ensures.0 c.from_residual-in_err-join_product.ensures.1
+          passed_on r c.in_err-join_product.field-0.0 (OfFull (λ full. free_of c.args.pool.now + size (tree_of c.args.sum.now c.args.pool.now) < sum_bytes ns n)) said.0 said.1
           (full_as c.in_err-join_product.field-0.0 (c.in_err-join_product.ensures.room m x.term.summand.monomial (first g at) (term_monomial x.term))
           (λ full short. term_lacks (summand (value_of c.in_ok-product.product) (monomial_times m x.term.summand.monomial))
           (monomial_times_monomial m x.term.summand.monomial c.requires.first_term.monomial x.term.monomial) j c.requires.stands (given_handed c.requires.sum) all short));
-      safe = let j = c.loop-at.invariant.joined in
-          after_one j.kept behind_first j.front (passed c.from_residual-in_err-join_product.result c.in_err-join_product.field-0.0 c.from_residual-in_err-join_product.ensures.0 c.from_residual-in_err-join_product.ensures.1 c.in_err-join_product.ensures.safe);
+      safe = let j = c.loop-at.invariant.joined in after_one j.kept behind_first j.front (passed r e said.0 said.1 c.in_err-join_product.ensures.safe);
     }
 
 pub returns : goal.returns
-returns g c =
-    record {
-      ok = let o = without_root c.args.sum.now (forest c.args.pool.now) in
-          let many = terms_read c.requires.sum c.requires.second c.requires.second_expanded c.term_count-at-end.ensures in
-          joined_all c.loop-at.invariant.joined (row_end (value_of c.args.factor) (plain (tree_at c.args.term o)) c.loop-at.at (plain (tree_at c.args.b o)) (omega (arith, many, c.loop-at-test.false)));
-      lists = c.loop-at.invariant.lists;
-      fits = λ a b d e. tt;
-      room = λ a b d. tt;
-      safe = let j = c.loop-at.invariant.joined in
-          answered j.front j.kept j.stands;
-    }
+returns g c = record {
+  ok = let o = without_root c.args.sum.now (forest c.args.pool.now) in
+      let many = terms_read c.requires.sum c.requires.second c.requires.second_expanded c.term_count-at-end.ensures in
+      joined_all c.loop-at.invariant.joined (row_end (value_of c.args.factor) (plain (tree_at c.args.term o)) c.loop-at.at (plain (tree_at c.args.b o)) (omega (arith, many, c.loop-at-test.false)));
+  lists = c.loop-at.invariant.lists;
+  fits = λ a b d e. tt;
+  room = λ a b d. tt;
+  safe = let j = c.loop-at.invariant.joined in answered j.front j.kept j.stands;
+}

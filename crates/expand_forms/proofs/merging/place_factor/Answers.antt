@@ -1,5 +1,5 @@
 use Rattle.expand_forms.proofs.{Shared.{◌∙◌, sym, refl, gives_as, if_ok_map}, TermReadings.{factor_one, factor_other}}
-use Rattle.expand_forms.proofs.Safety.{one_placed}
+use Rattle.number_forms.proofs.Safety.{one_placed}
 use Rattle.expand_forms.proofs.merging.place_factor.Goals as goal
 
 pub returns-then-is_one-clause-ok : goal.returns-then-is_one-clause-ok

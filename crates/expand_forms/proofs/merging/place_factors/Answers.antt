@@ -4,29 +4,24 @@ use Rattle.expand_forms.proofs.{Shared.{factors_most}, AddedTrees.{adds_beside, 
 use Rattle.expand_forms.proofs.{Merged.{merged_more, merged_none}, TermReadings.{drop_length, drop_monomial, has_count}, merging.place_factors.Goals.{In-Some, In_ok-_factor}}
 use Rattle.expand_forms.specs.declared.factors.Factor.{Factor as Read}
 use Rattle.tree_handles.specs.declared.fault.NumberFault.TheVariants as fault
-use Rattle.expand_forms.proofs.Safety.{after, answered, fits_full, no_answer, overflowed, passed_full, room_overflow}
+use Rattle.number_forms.proofs.Safety.{after, answered, fits_full, no_answer, overflowed, passed_full, room_overflow}
 use Rattle.expand_forms.proofs.merging.place_factors.Goals as goal
 
 pub loop-next-init : goal.loop-next-init
 loop-next-init c = record {
   first = c.get-first.ensures;
   second = c.get-second.ensures;
-  merged = λ m n hm hn. merged_none m n
-      (forest c.args.pool.now);
+  merged = λ m n hm hn. merged_none m n (forest c.args.pool.now);
   front = front_same;
   kept = kept_same c.args.pool.now;
   stands = c.requires.stands;
 }
 
 pub get-first-requires : goal.get-first-requires
-get-first-requires c =
-    let (m, n, hm, hn) = c.requires.monomials in
-    record { stands = c.requires.stands; expression = c.requires.first; factors = c.requires.factors; monomial = (m, hm) }
+get-first-requires c = let (m, n, hm, hn) = c.requires.monomials in record { stands = c.requires.stands; expression = c.requires.first; factors = c.requires.factors; monomial = (m, hm) }
 
 pub get-second-requires : goal.get-second-requires
-get-second-requires c =
-    let (m, n, hm, hn) = c.requires.monomials in
-    record { stands = c.requires.stands; expression = c.requires.second; factors = c.of-right.ensures; monomial = (n, hn) }
+get-second-requires c = let (m, n, hm, hn) = c.requires.monomials in record { stands = c.requires.stands; expression = c.requires.second; factors = c.of-right.ensures; monomial = (n, hn) }
 
 pub next_factor-requires : goal.next_factor-requires
 next_factor-requires c =
@@ -48,10 +43,7 @@ next c m n hm hn =
     (head_beside c.loop-next.j c.loop-next.second a c.requires.second c.loop-next.invariant.second hn))
 
 pub place_factor-requires-clause-read : goal.place_factor-requires-clause-read
-place_factor-requires-clause-read c =
-    let (m, n, hm, hn) = c.requires.monomials in
-    let h = next (goal.at.place_factor-requires-clause-read c).In-Some m n hm hn in
-    (h.factor, h.read)
+place_factor-requires-clause-read c = let (m, n, hm, hn) = c.requires.monomials in let h = next (goal.at.place_factor-requires-clause-read c).In-Some m n hm hn in (h.factor, h.read)
 
 pub overflow_add-i : goal.overflow_add-i
 overflow_add-i c =
@@ -81,9 +73,7 @@ loop-next-smaller c =
 -- the factors that are placed then
 more : (c : In_ok-_factor) (m n : Monomial) → HasMonomial m (plain (tree_at c.args.s (forest c.args.pool.now))) → HasMonomial n (plain (tree_at c.args.t (forest c.args.pool.now)))
     → IsMerged m n (c.loop-next.i + c.in-Some.next.left) (c.loop-next.j + c.in-Some.next.right) (c.loop-next.many + 1) (forest c.args.pool.now) (forest c.place_factor.new.pool)
-more c m n hm hn =
-    let h = next c.before.before.before.before.before m n hm hn in
-    merged_more (c.loop-next.invariant.merged m n hm hn) c.in-Some.next h (c.in_ok-_factor.ensures.ok h.factor h.read)
+more c m n hm hn = let h = next c.before.before.before.before.before m n hm hn in merged_more (c.loop-next.invariant.merged m n hm hn) c.in-Some.next h (c.in_ok-_factor.ensures.ok h.factor h.read)
 
 pub following-first-requires : goal.following-first-requires
 following-first-requires c =
@@ -126,50 +116,43 @@ loop-next-preserved c = record {
 }
 
 pub returns : goal.returns
-returns c =
-    record {
-      ok = λ m n hm hn.
-          let w = c.loop-next.invariant.merged m n hm hn in
-          let goes = c.in_ok-next.ensures.next (drop c.loop-next.i m) (drop c.loop-next.j n) (drop_monomial c.loop-next.i m hm.monomial) (drop_monomial c.loop-next.j n hn.monomial)
-          (head_beside c.loop-next.i c.loop-next.first w.adds c.requires.first c.loop-next.invariant.first hm)
-          (head_beside c.loop-next.j c.loop-next.second w.adds c.requires.second c.loop-next.invariant.second hn) in
-          let (e, k) = all_gone c.in_ok-next.field-0 goes c.in_default.not-Some in
-          let all = merged_all w e k in
-          (w.many ∙ ap (λ (x : Monomial). length x) all, subst (λ (x : Monomial). AddsTrees (factor_trees x) (forest c.args.pool.now) (forest c.loop-next.pool)) all w.adds);
-      fits = λ a b d e f h i. tt;
-      room = λ a b d e. tt;
-      safe = let i = c.loop-next.invariant in
-          answered i.front i.kept i.stands;
-    }
+returns c = record {
+  ok = λ m n hm hn.
+      let w = c.loop-next.invariant.merged m n hm hn in
+      let goes = c.in_ok-next.ensures.next (drop c.loop-next.i m) (drop c.loop-next.j n) (drop_monomial c.loop-next.i m hm.monomial) (drop_monomial c.loop-next.j n hn.monomial)
+      (head_beside c.loop-next.i c.loop-next.first w.adds c.requires.first c.loop-next.invariant.first hm)
+      (head_beside c.loop-next.j c.loop-next.second w.adds c.requires.second c.loop-next.invariant.second hn) in
+      let (e, k) = all_gone c.in_ok-next.field-0 goes c.in_default.not-Some in
+      let all = merged_all w e k in
+      (w.many ∙ ap (λ (x : Monomial). length x) all, subst (λ (x : Monomial). AddsTrees (factor_trees x) (forest c.args.pool.now) (forest c.loop-next.pool)) all w.adds);
+  fits = λ a b d e f h i. tt;
+  room = λ a b d e. tt;
+  safe = let i = c.loop-next.invariant in answered i.front i.kept i.stands;
+}
 
 -- ---- few bytes, and exponents that fit
 
 pub returns-in_err-_factor : goal.returns-in_err-_factor
-returns-in_err-_factor c =
-    record {
-      ok = λ a b d e. no_answer c.from_residual-in_err-_factor.result _ c.from_residual-in_err-_factor.ensures.0;
-      fits = λ a b d e f h i. fits_full c.from_residual-in_err-_factor.result c.in_err-_factor.field-0.0 _ c.from_residual-in_err-_factor.ensures.0 c.from_residual-in_err-_factor.ensures.1;
-      room = λ m n hm hn.
-          let i = c.loop-next.invariant in
-          let w = i.merged m n hm hn in
-          passed_on c.from_residual-in_err-_factor.result (fault.Full c.in_err-_factor.field-0.0)
-          (OfFull (λ full. free_of c.args.pool.now < factor_bytes * length (monomial_times m n))) c.from_residual-in_err-_factor.ensures.0 c.from_residual-in_err-_factor.ensures.1
-          (omega (arith, adds_free c.requires.stands i.stands i.kept w.adds, factors_most w.done, c.in_err-_factor.ensures.room, merged_length w (next (goal.at.returns-in_err-_factor c).In-Some m n hm hn)));
-      safe = let i = c.loop-next.invariant in
-          after i.kept i.front (passed_full c.from_residual-in_err-_factor.result c.in_err-_factor.field-0.0 c.from_residual-in_err-_factor.ensures.0 c.from_residual-in_err-_factor.ensures.1 c.in_err-_factor.ensures.safe);
-    }
+returns-in_err-_factor c = let r = c.from_residual-in_err-_factor.result in let said = c.from_residual-in_err-_factor.ensures in record {
+  ok = λ a b d e. no_answer r _ said.0;
+  fits = λ a b d e f h i. fits_full r c.in_err-_factor.field-0.0 _ said.0 said.1;
+  room = λ m n hm hn.
+      let i = c.loop-next.invariant in
+      let w = i.merged m n hm hn in
+      passed_on r (fault.Full c.in_err-_factor.field-0.0) (OfFull (λ full. free_of c.args.pool.now < factor_bytes * length (monomial_times m n))) said.0 said.1
+      (omega (arith, adds_free c.requires.stands i.stands i.kept w.adds, factors_most w.done, c.in_err-_factor.ensures.room, merged_length w (next (goal.at.returns-in_err-_factor c).In-Some m n hm hn)));
+  safe = let i = c.loop-next.invariant in after i.kept i.front (passed_full r c.in_err-_factor.field-0.0 said.0 said.1 c.in_err-_factor.ensures.safe);
+}
 
 pub returns-in_err-next : goal.returns-in_err-next
-returns-in_err-next c =
-    record {
-      ok = λ a b d e. no_answer c.from_residual.result _ c.from_residual.ensures.0;
-      fits = λ m n k hm hn x l.
-          let w = c.loop-next.invariant.merged m n hm hn in
-          let rest = later_exponents k w.done (monomial_times (drop c.loop-next.i m) (drop c.loop-next.j n)) (subst (HasExponents k) (sym w.split) x) in
-          absurd (c.in_err-next.ensures.fits (drop c.loop-next.i m) (drop c.loop-next.j n) k (drop_monomial c.loop-next.i m hm.monomial) (drop_monomial c.loop-next.j n hn.monomial)
-          (head_beside c.loop-next.i c.loop-next.first w.adds c.requires.first c.loop-next.invariant.first hm)
-          (head_beside c.loop-next.j c.loop-next.second w.adds c.requires.second c.loop-next.invariant.second hn) rest l);
-      room = λ a b d e. room_overflow c.from_residual.result c.in_err-next.field-0.0 _ c.from_residual.ensures.0 c.from_residual.ensures.1;
-      safe = let i = c.loop-next.invariant in
-          overflowed c.from_residual.result c.in_err-next.field-0.0 c.from_residual.ensures.0 c.from_residual.ensures.1 c.in_err-next.ensures.overflow i.front i.kept i.stands;
-    }
+returns-in_err-next c = let r = c.from_residual.result in let said = c.from_residual.ensures in record {
+  ok = λ a b d e. no_answer r _ said.0;
+  fits = λ m n k hm hn x l.
+      let w = c.loop-next.invariant.merged m n hm hn in
+      let rest = later_exponents k w.done (monomial_times (drop c.loop-next.i m) (drop c.loop-next.j n)) (subst (HasExponents k) (sym w.split) x) in
+      absurd (c.in_err-next.ensures.fits (drop c.loop-next.i m) (drop c.loop-next.j n) k (drop_monomial c.loop-next.i m hm.monomial) (drop_monomial c.loop-next.j n hn.monomial)
+      (head_beside c.loop-next.i c.loop-next.first w.adds c.requires.first c.loop-next.invariant.first hm)
+      (head_beside c.loop-next.j c.loop-next.second w.adds c.requires.second c.loop-next.invariant.second hn) rest l);
+  room = λ a b d e. room_overflow r c.in_err-next.field-0.0 _ said.0 said.1;
+  safe = let i = c.loop-next.invariant in overflowed r c.in_err-next.field-0.0 said.0 said.1 c.in_err-next.ensures.overflow i.front i.kept i.stands;
+}

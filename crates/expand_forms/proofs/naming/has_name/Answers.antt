@@ -13,11 +13,9 @@ returns-then-eq-clause-there c = λ _.
 pub loop-other-preserved : goal.loop-other-preserved
 loop-other-preserved c = λ h.
     let more : suc c.loop-other.other-index ≡ c.loop-other.other-index + 1 = omega arith in
-    subst (λ (i : ℕ). HasName (name_of c.args.name) (names_of (drop i c.args.names.now))) more
-    (not_first c.other-item.result c.args.name c.eq.result _ c.eq.ensures c.if-eq.false
+    subst (λ (i : ℕ). HasName (name_of c.args.name) (names_of (drop i c.args.names.now))) more (not_first c.other-item.result c.args.name c.eq.result _ c.eq.ensures c.if-eq.false
     (subst (λ (xs : List Name). HasName (name_of c.args.name) (names_of xs))
     (dropped c.args.names.now c.loop-other.other-index c.other-item.result c.loop-other-test.true c.other-item.is) (c.loop-other.invariant h)))
 
 pub returns-clause-other : goal.returns-clause-other
-returns-clause-other c = λ _ h.
-    subst (λ (xs : List Name). HasName (name_of c.args.name) (names_of xs)) (dropped_all c.args.names.now c.loop-other.other-index c.loop-other-test.false) (c.loop-other.invariant h)
+returns-clause-other c = λ _ h. subst (λ (xs : List Name). HasName (name_of c.args.name) (names_of xs)) (dropped_all c.args.names.now c.loop-other.other-index c.loop-other-test.false) (c.loop-other.invariant h)

@@ -3,29 +3,24 @@ use Rattle.expand_forms.proofs.Shared.{has_polynomial_root, scaled, gives_rest, 
 use Rattle.expand_forms.proofs.Shared.{given_rest, given_handed, sum_bytes, free_of, OfFull, passed_on, full_as, IsNoOverflow, drop_all, has_parts, parts_of, total, gathered_append, gathered_is}
 use Rattle.expand_forms.proofs.{Shared.{gathered_refl, gathered_trans, few_as, few_append}, JoinLoops.{joined_none, IsNextPart, joined_all, joined_lacks, joined_more, part_few, part_held}}
 use Rattle.expand_forms.proofs.{PowersOfSums.{all_ready}, NodeParts.{one_term, part_row}, TermReadings.{beside}, Within.{IsWithin, within}, node.join_parts.Goals.{After-part_at-part}}
-use Rattle.expand_forms.proofs.Safety.{after_one, answered, no_answer, passed}
+use Rattle.number_forms.proofs.Safety.{after_one, answered, no_answer, passed}
 use Rattle.expand_forms.proofs.node.join_parts.Goals as goal
 
 pub part_count-at-end-requires : goal.part_count-at-end-requires
 part_count-at-end-requires c =
-    let x = beside c.requires.sum c.requires.expression in
-    record { stands = c.requires.stands; expression = x.expression; parts = ap has_parts x.same ∙ c.requires.parts }
+    let x = beside c.requires.sum c.requires.expression in record { stands = c.requires.stands; expression = x.expression; parts = ap has_parts x.same ∙ c.requires.parts }
 
 pub loop-at-init : goal.loop-at-init
 loop-at-init c = record { lists = c.requires.lists; joined = joined_none c.args.sum.now _ _ c.args.pool.now c.requires.stands c.requires.sum (gathered_refl _) }
 
 pub part_at-part-requires : goal.part_at-part-requires
-part_at-part-requires c =
-    let j = c.loop-at.invariant.joined in
-    let now = beside j.gives c.requires.expression in
-    let then = beside c.requires.sum c.requires.expression in
-    record {
-      stands = j.stands;
-      expression = now.expression;
-      polynomial = ap has_polynomial_root now.same ∙ c.requires.polynomial;
-      children = all_ready (children_of (plain (tree_at c.args.id (forest c.loop-at.pool)))) (subst (λ (t : Tree). AreExpanded (children_of t)) (sym now.same) c.requires.children);
-      within = omega (arith, c.part_count-at-end.ensures, ap (λ (t : Tree). length (parts_of t)) now.same, ap (λ (t : Tree). length (parts_of t)) then.same, c.loop-at-test.true);
-    }
+part_at-part-requires c = let j = c.loop-at.invariant.joined in let now = beside j.gives c.requires.expression in let then = beside c.requires.sum c.requires.expression in record {
+  stands = j.stands;
+  expression = now.expression;
+  polynomial = ap has_polynomial_root now.same ∙ c.requires.polynomial;
+  children = all_ready (children_of (plain (tree_at c.args.id (forest c.loop-at.pool)))) (subst (λ (t : Tree). AreExpanded (children_of t)) (sym now.same) c.requires.children);
+  within = omega (arith, c.part_count-at-end.ensures, ap (λ (t : Tree). length (parts_of t)) now.same, ap (λ (t : Tree). length (parts_of t)) then.same, c.loop-at-test.true);
+}
 
 -- the tree of the part, as it was handed
 part_within : (c : After-part_at-part) → IsWithin c.part_at-part.result.tree (without_root c.args.sum.now (forest c.args.pool.now)) (forest c.loop-at.pool)
@@ -81,33 +76,30 @@ loop-at-preserved c = record {
 }
 
 pub returns-in_err-join_row : goal.returns-in_err-join_row
-returns-in_err-join_row c =
-    record {
-      ok = no_answer c.from_residual.result _ c.from_residual.ensures.0;
-      lists = no_answer c.from_residual.result _ c.from_residual.ensures.0;
-      fits = λ h l held k.
-          passed_on c.from_residual.result c.in_err-join_row.field-0.0 IsNoOverflow c.from_residual.ensures.0 c.from_residual.ensures.1
-          (c.in_err-join_row.ensures.fits h l (part_held c.loop-at.invariant.joined (next (goal.at.returns-in_err-join_row c).After-part_at-part) held) k);
-      room = λ ns k n hs ht.
-          let j = c.loop-at.invariant.joined in
-          let all = part_few j (next (goal.at.returns-in_err-join_row c).After-part_at-part) (few_as (few_append ht hs) (let e : n + k ≤ k + n = omega arith in e)) in
-          passed_on c.from_residual.result c.in_err-join_row.field-0.0
-          (OfFull (λ full. free_of c.args.pool.now + size (tree_of c.args.sum.now c.args.pool.now) < sum_bytes ns (k + n))) c.from_residual.ensures.0 c.from_residual.ensures.1
-          (full_as c.in_err-join_row.field-0.0 (c.in_err-join_row.ensures.room ns (k + n) all) (λ full short. joined_lacks (sum_bytes ns (k + n)) j c.requires.stands (given_handed c.requires.sum) short));
-      safe = let j = c.loop-at.invariant.joined in
-          after_one j.kept behind_first j.front (passed c.from_residual.result c.in_err-join_row.field-0.0 c.from_residual.ensures.0 c.from_residual.ensures.1 c.in_err-join_row.ensures.safe);
-    }
+returns-in_err-join_row c = record {
+  ok = no_answer c.from_residual.result _ c.from_residual.ensures.0;
+  lists = no_answer c.from_residual.result _ c.from_residual.ensures.0;
+  fits = λ h l held k.
+      passed_on c.from_residual.result c.in_err-join_row.field-0.0 IsNoOverflow c.from_residual.ensures.0 c.from_residual.ensures.1
+      (c.in_err-join_row.ensures.fits h l (part_held c.loop-at.invariant.joined (next (goal.at.returns-in_err-join_row c).After-part_at-part) held) k);
+  room = λ ns k n hs ht.
+      let j = c.loop-at.invariant.joined in
+      let all = part_few j (next (goal.at.returns-in_err-join_row c).After-part_at-part) (few_as (few_append ht hs) (let e : n + k ≤ k + n = omega arith in e)) in
+      passed_on c.from_residual.result c.in_err-join_row.field-0.0
+      (OfFull (λ full. free_of c.args.pool.now + size (tree_of c.args.sum.now c.args.pool.now) < sum_bytes ns (k + n))) c.from_residual.ensures.0 c.from_residual.ensures.1
+      (full_as c.in_err-join_row.field-0.0 (c.in_err-join_row.ensures.room ns (k + n) all) (λ full short. joined_lacks (sum_bytes ns (k + n)) j c.requires.stands (given_handed c.requires.sum) short));
+  safe = let j = c.loop-at.invariant.joined in
+      after_one j.kept behind_first j.front (passed c.from_residual.result c.in_err-join_row.field-0.0 c.from_residual.ensures.0 c.from_residual.ensures.1 c.in_err-join_row.ensures.safe);
+}
 
 pub returns : goal.returns
-returns c =
-    record {
-      ok = let t = plain (tree_at c.args.id (without_root c.args.sum.now (forest c.args.pool.now))) in
-          let then = beside c.requires.sum c.requires.expression in
-          joined_all c.loop-at.invariant.joined
-          (ap total (drop_all c.loop-at.at (parts_of t) (omega (arith, c.part_count-at-end.ensures, ap (λ (u : Tree). length (parts_of u)) then.same, c.loop-at-test.false))));
-      lists = c.loop-at.invariant.lists;
-      fits = λ a b d e. tt;
-      room = λ a b d e f. tt;
-      safe = let j = c.loop-at.invariant.joined in
-          answered j.front j.kept j.stands;
-    }
+returns c = record {
+  ok = let t = plain (tree_at c.args.id (without_root c.args.sum.now (forest c.args.pool.now))) in
+      let then = beside c.requires.sum c.requires.expression in
+      joined_all c.loop-at.invariant.joined
+      (ap total (drop_all c.loop-at.at (parts_of t) (omega (arith, c.part_count-at-end.ensures, ap (λ (u : Tree). length (parts_of u)) then.same, c.loop-at-test.false))));
+  lists = c.loop-at.invariant.lists;
+  fits = λ a b d e. tt;
+  room = λ a b d e f. tt;
+  safe = let j = c.loop-at.invariant.joined in answered j.front j.kept j.stands;
+}

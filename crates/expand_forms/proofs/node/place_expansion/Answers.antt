@@ -2,7 +2,7 @@ use Rattle.expand_forms.proofs.Shared.{◌≡◌, ◌<◌, ◌∙◌, true, ap, 
 use Rattle.expand_forms.proofs.{Shared.{free_of, OfFull, passed_on, refused_below, size-plain, bits_of, high, low, OfOverflow, has_factors, has_parts, few_names}, NodeKinds.{leaf_itself}}
 use Rattle.expand_forms.proofs.{NodeRooms.{leaf_size}, NodeBits.{few_bits, over_kind, within_bits}, NodeParts.{factors_over, parts_over}}
 use Rattle.tree_handles.specs.declared.fault.NumberFault.TheVariants as fault
-use Rattle.expand_forms.proofs.Safety.{answered, no_answer, refused}
+use Rattle.number_forms.proofs.Safety.{answered, no_answer, refused}
 use Rattle.expand_forms.proofs.node.place_expansion.Goals as goal
 
 pub returns-then-has_factors-clause-fits : goal.returns-then-has_factors-clause-fits
@@ -23,18 +23,16 @@ returns-then-has_parts-clause-room c = λ whole n h l. c.place_sum.ensures.room 
 -- ---- leaves
 
 pub returns : goal.returns
-returns c =
-    let t = plain (tree_at c.args.id (forest c.args.pool.now)) in
-    let given = c.in_ok-copy_tree.ensures.given c.requires.expression in
-    record {
-      ok = gives_as given refl (λ u e. e ∙ leaf_itself t c.requires.polynomial (sym c.has_factors.ensures ∙ c.if-has_factors.false) (sym c.has_parts.ensures ∙ c.if-has_parts.false));
-      safe = answered (front_end given.ends front_same) c.in_ok-copy_tree.ensures.kept c.in_ok-copy_tree.ensures.stands;
-      fits = λ whole o p. tt;
-      room = λ whole n h l. tt;
-    }
+returns c = let t = plain (tree_at c.args.id (forest c.args.pool.now)) in let given = c.in_ok-copy_tree.ensures.given c.requires.expression in record {
+  ok = gives_as given refl (λ u e. e ∙ leaf_itself t c.requires.polynomial (sym c.has_factors.ensures ∙ c.if-has_factors.false) (sym c.has_parts.ensures ∙ c.if-has_parts.false));
+  safe = answered (front_end given.ends front_same) c.in_ok-copy_tree.ensures.kept c.in_ok-copy_tree.ensures.stands;
+  fits = λ whole o p. tt;
+  room = λ whole n h l. tt;
+}
 
 pub returns-in_err-copy_tree : goal.returns-in_err-copy_tree
 returns-in_err-copy_tree c =
+    let r = c.from_residual.result in let e = fault.Full c.in_err-copy_tree.field-0.0 in let said = c.from_residual.ensures in
     let t = plain (tree_at c.args.id (forest c.args.pool.now)) in
     let small = leaf_size t c.requires.polynomial (sym c.has_factors.ensures ∙ c.if-has_factors.false) (sym c.has_parts.ensures ∙ c.if-has_parts.false) in
     let tree : Forest = tree_at c.args.id (forest c.args.pool.now) in
@@ -42,9 +40,9 @@ returns-in_err-copy_tree c =
     let bytes : bytes_in tree ≡ size t = sym (size-plain tree alone c.requires.expression.whole) in
     let few : free_of c.args.pool.now < bytes_in tree = refused_below c.in_err-copy_tree.ensures.full in
     record {
-      ok = no_answer c.from_residual.result _ c.from_residual.ensures.0;
-      safe = refused c.from_residual.result c.in_err-copy_tree.field-0.0 c.from_residual.ensures.0 c.from_residual.ensures.1 c.in_err-copy_tree.ensures.full c.in_err-copy_tree.ensures.stands;
-      fits = λ whole o p. passed_on c.from_residual.result (fault.Full c.in_err-copy_tree.field-0.0) (OfOverflow (λ x. 124 < bits_of whole)) c.from_residual.ensures.0 c.from_residual.ensures.1 tt;
-      room = λ whole n h l. passed_on c.from_residual.result (fault.Full c.in_err-copy_tree.field-0.0)
-          (OfFull (λ full. free_of c.args.pool.now < node_bytes (names whole) n)) c.from_residual.ensures.0 c.from_residual.ensures.1 (omega (arith, bytes, small, few));
+      ok = no_answer r _ said.0;
+      safe = refused r c.in_err-copy_tree.field-0.0 said.0 said.1 c.in_err-copy_tree.ensures.full c.in_err-copy_tree.ensures.stands;
+      fits = λ whole o p. passed_on r e (OfOverflow (λ x. 124 < bits_of whole)) said.0 said.1 tt;
+      room = λ whole n h l. passed_on r (fault.Full c.in_err-copy_tree.field-0.0)
+          (OfFull (λ full. free_of c.args.pool.now < node_bytes (names whole) n)) said.0 said.1 (omega (arith, bytes, small, few));
     }

@@ -16,9 +16,7 @@ compare_monomials-requires-clause-first g c =
     (x.summand.monomial, c.monomial_key-other.ensures x.summand.monomial (term_monomial x))
 
 pub compare_monomials-requires-clause-second : goal.compare_monomials-requires-clause-second
-compare_monomials-requires-clause-second g c =
-    let (m, h) = c.requires.monomial in
-    (m, c.monomial_key-key.ensures m h)
+compare_monomials-requires-clause-second g c = let (m, h) = c.requires.monomial in (m, c.monomial_key-key.ensures m h)
 
 -- how the term there stands to one with the monomial
 order : (g : Over) (c : After-compare_monomials g) (m : Monomial) (t : Tree) → HasMonomial m (plain (tree_at c.args.product (forest c.args.pool.now))) → HasMonomial m t
@@ -30,19 +28,16 @@ order g c m t s h =
     (c.compare_monomials.ensures x.summand.monomial m (c.monomial_key-other.ensures x.summand.monomial k) (c.monomial_key-key.ensures m s))
 
 pub returns-in-Equal-clause-found : goal.returns-in-Equal-clause-found
-returns-in-Equal-clause-found g c = λ m t s h.
-    (omega (arith, c.middle-at.ensures.below, c.loop-low.invariant.within), order g (goal.at.returns-in-Equal-clause-found g c).After-compare_monomials m t s h ∙ c.in-Equal.is)
+returns-in-Equal-clause-found g c = λ m t s h. (omega (arith, c.middle-at.ensures.below, c.loop-low.invariant.within), order g (goal.at.returns-in-Equal-clause-found g c).After-compare_monomials m t s h ∙ c.in-Equal.is)
 
 pub loop-low-preserved-in-Less : goal.loop-low-preserved-in-Less
-loop-low-preserved-in-Less g c =
-    let at = c.middle-at.result in
-    record {
-      order = omega (arith, c.middle-at.ensures.below);
-      within = c.loop-low.invariant.within;
-      below = λ m t s h k l. sum_below c.requires.sum k at t (omega (arith, l)) (omega (arith, c.middle-at.ensures.below, c.loop-low.invariant.within))
-          (order g (goal.at.loop-low-preserved-in-Less g c).After-compare_monomials m t s h ∙ c.in-Less.is);
-      above = c.loop-low.invariant.above;
-    }
+loop-low-preserved-in-Less g c = let at = c.middle-at.result in record {
+  order = omega (arith, c.middle-at.ensures.below);
+  within = c.loop-low.invariant.within;
+  below = λ m t s h k l. sum_below c.requires.sum k at t (omega (arith, l)) (omega (arith, c.middle-at.ensures.below, c.loop-low.invariant.within))
+      (order g (goal.at.loop-low-preserved-in-Less g c).After-compare_monomials m t s h ∙ c.in-Less.is);
+  above = c.loop-low.invariant.above;
+}
 
 pub loop-low-preserved : goal.loop-low-preserved
 loop-low-preserved g c = record {

@@ -4,9 +4,7 @@ use Rattle.expansions.specs.Named.{names_of}
 use Rattle.expand_forms.proofs.packing.packed_monomial.Goals as goal
 
 pub loop-name-init : goal.loop-name-init
-loop-name-init c = λ m h n.
-    let a = c.factor_nodes-nodes.ensures m h in
-    packed_none n (record { monomial = h.monomial; begins = c.next_read-next.ensures.factor m a; ahead = c.next_read-next.ensures.ahead m a })
+loop-name-init c = λ m h n. let a = c.factor_nodes-nodes.ensures m h in packed_none n (record { monomial = h.monomial; begins = c.next_read-next.ensures.factor m a; ahead = c.next_read-next.ensures.ahead m a })
 
 pub overflow_mul-packed : goal.overflow_mul-packed
 overflow_mul-packed c =

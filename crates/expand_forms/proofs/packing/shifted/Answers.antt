@@ -11,6 +11,4 @@ pub loop-place-preserved : goal.loop-place-preserved
 loop-place-preserved c = shifted_more c.args.packed c.args.names c.loop-place.shifted c.loop-place.place c.loop-place-test.true c.loop-place.invariant
 
 pub returns : goal.returns
-returns c =
-    let e : c.loop-place.place ≡ 8 = omega arith in
-    shifted_all c.args.packed c.args.names c.loop-place.shifted c.loop-place.place e c.loop-place.invariant
+returns c = let e : c.loop-place.place ≡ 8 = omega arith in shifted_all c.args.packed c.args.names c.loop-place.shifted c.loop-place.place e c.loop-place.invariant

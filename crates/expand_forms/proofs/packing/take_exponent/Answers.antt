@@ -11,7 +11,6 @@ next_read-requires-clause-ahead c = let (m, h) = c.requires.coming in (drop 1 m,
 pub returns-in_ok-exponent-in-Some : goal.returns-in_ok-exponent-in-Some
 returns-in_ok-exponent-in-Some c = record {
   taken = λ m h.
-      taken_first _ c.in_ok-exponent-in-Some.exponent c.in-Some.factor h c.in-Some.is
-      (names_equal _ _ (names_cmp c.in-Some.factor.name c.args.name c.ne.result c.ne.ensures c.if-ne.false))
+      taken_first _ c.in_ok-exponent-in-Some.exponent c.in-Some.factor h c.in-Some.is (names_equal _ _ (names_cmp c.in-Some.factor.name c.args.name c.ne.result c.ne.ensures c.if-ne.false))
       c.in_ok-exponent-in-Some.ensures.value (c.next_read.ensures.factor (drop 1 m) h.ahead) (c.next_read.ensures.ahead (drop 1 m) h.ahead);
 }

@@ -4,20 +4,17 @@ use Rattle.expand_forms.proofs.{PowersOfSums.{divisor_expanded, ready_nth}, Node
 use Rattle.expand_forms.proofs.parts.factor_at.Goals as goal
 
 pub returns-in-Neg : goal.returns-in-Neg
-returns-in-Neg c =
-    let minus = opposite_value c.whole.result c.whole.ensures in
-    record {
-      value = minus ∙ factor_opposite (plain (tree_at c.args.id (forest c.args.pool.now))) c.args.at (sym c.in-Neg.is ∙ c.kind.ensures.plain c.requires.expression);
-      nonzero = ap is_zero_fraction minus ∙ minus_nonzero;
-    }
+returns-in-Neg c = let minus = opposite_value c.whole.result c.whole.ensures in record {
+  value = minus ∙ factor_opposite (plain (tree_at c.args.id (forest c.args.pool.now))) c.args.at (sym c.in-Neg.is ∙ c.kind.ensures.plain c.requires.expression);
+  nonzero = ap is_zero_fraction minus ∙ minus_nonzero;
+}
 
 pub returns-in-Sub : goal.returns-in-Sub
-returns-in-Sub c =
-    record {
-      value = factor_sign (plain (tree_at c.args.id (forest c.args.pool.now))) c.args.at (value_of c.sign_at.result)
-          (sym c.in-Sub.is ∙ c.kind.ensures.plain c.requires.expression) c.sign_at.ensures.first c.sign_at.ensures.second;
-      nonzero = c.sign_at.ensures.nonzero;
-    }
+returns-in-Sub c = record {
+  value = factor_sign (plain (tree_at c.args.id (forest c.args.pool.now))) c.args.at (value_of c.sign_at.result)
+      (sym c.in-Sub.is ∙ c.kind.ensures.plain c.requires.expression) c.sign_at.ensures.first c.sign_at.ensures.second;
+  nonzero = c.sign_at.ensures.nonzero;
+}
 
 pub child_id-requires-clause-within : goal.child_id-requires-clause-within
 child_id-requires-clause-within c =
@@ -39,20 +36,15 @@ inverse_divisor-requires c =
     }
 
 pub returns-in-Div : goal.returns-in-Div
-returns-in-Div c =
-    let t = plain (tree_at c.args.id (forest c.args.pool.now)) in
-    record {
-      value = c.inverse_divisor.ensures.value ∙ ap (λ (d : Tree). inverse (divisor_of d)) (c.child_id.ensures.plain c.requires.expression)
-          ∙ factor_quotient t c.args.at (sym c.in-Div.is ∙ c.kind.ensures.plain c.requires.expression);
-      nonzero = c.inverse_divisor.ensures.nonzero;
-    }
+returns-in-Div c = let t = plain (tree_at c.args.id (forest c.args.pool.now)) in record {
+  value = c.inverse_divisor.ensures.value ∙ ap (λ (d : Tree). inverse (divisor_of d)) (c.child_id.ensures.plain c.requires.expression)
+      ∙ factor_quotient t c.args.at (sym c.in-Div.is ∙ c.kind.ensures.plain c.requires.expression);
+  nonzero = c.inverse_divisor.ensures.nonzero;
+}
 
 pub returns-in_default : goal.returns-in_default
-returns-in_default c =
-    let k = c.kind.ensures.plain c.requires.expression in
-    let one = one_value c.whole-in_default.result c.whole-in_default.ensures in
-    record {
-      value = one ∙ factor_other (plain (tree_at c.args.id (forest c.args.pool.now))) c.args.at (λ e. c.in_default.not-Neg (k ∙ sym e)) (λ e. c.in_default.not-Sub (k ∙ sym e))
-          (λ e. c.in_default.not-Div (k ∙ sym e));
-      nonzero = ap is_zero_fraction one ∙ one_nonzero;
-    }
+returns-in_default c = let k = c.kind.ensures.plain c.requires.expression in let one = one_value c.whole-in_default.result c.whole-in_default.ensures in record {
+  value = one ∙ factor_other (plain (tree_at c.args.id (forest c.args.pool.now))) c.args.at (λ e. c.in_default.not-Neg (k ∙ sym e)) (λ e. c.in_default.not-Sub (k ∙ sym e))
+      (λ e. c.in_default.not-Div (k ∙ sym e));
+  nonzero = ap is_zero_fraction one ∙ one_nonzero;
+}

@@ -12,8 +12,7 @@ pub exponent_of-requires : goal.exponent_of-requires
 exponent_of-requires c =
     let t = plain (tree_at c.args.id (forest c.args.pool.now)) in
     let node = power_node t (sym c.in-Pow.is ∙ c.kind.ensures.plain c.requires.expression) in
-    let two : count (children_of t) ≡ 2 = many_children node refl in
-    record {
+    let two : count (children_of t) ≡ 2 = many_children node refl in record {
       stands = c.requires.stands;
       expression = c.child_id.ensures.expression c.requires.expression;
       expanded = subst IsExpanded (sym (c.child_id.ensures.plain c.requires.expression)) (second_expanded t c.requires.children two);

@@ -4,8 +4,7 @@ use Rattle.expand_forms.proofs.parts.part_at.Goals as goal
 
 pub child_id-requires-clause-within : goal.child_id-requires-clause-within
 child_id-requires-clause-within c =
-    let f = forest c.args.pool.now in
-    omega (arith, parts_within (plain (tree_at c.args.id f)) c.args.at c.requires.within, children_number c.args.id f c.requires.expression)
+    let f = forest c.args.pool.now in omega (arith, parts_within (plain (tree_at c.args.id f)) c.args.at c.requires.within, children_number c.args.id f c.requires.expression)
 
 pub returns : goal.returns
 returns c =

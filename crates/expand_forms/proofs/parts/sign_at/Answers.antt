@@ -3,8 +3,7 @@ use Rattle.expand_forms.proofs.parts.sign_at.Goals as goal
 
 pub returns-then-at-eq0 : goal.returns-then-at-eq0
 returns-then-at-eq0 c =
-    let one = one_value c.whole.result c.whole.ensures in
-    record { first = λ e. one; second = λ n. absurd (n c.if-at-eq0.true); nonzero = ap is_zero_fraction one ∙ one_nonzero }
+    let one = one_value c.whole.result c.whole.ensures in record { first = λ e. one; second = λ n. absurd (n c.if-at-eq0.true); nonzero = ap is_zero_fraction one ∙ one_nonzero }
 
 pub returns-else-at-eq0 : goal.returns-else-at-eq0
 returns-else-at-eq0 c =

@@ -1,7 +1,7 @@
 use Rattle.expand_forms.proofs.Shared.{◌<◌, length, List, subst, arith, take_all, Term, AddsTrees, term_trees, terms_bytes, free_of, passed_on, kept_after, kept_same, forest, front_after, front_same}
 use Rattle.expand_forms.proofs.{Shared.{named_terms}, AddedTrees.{adds_free, adds_none}, PlacedTerms.{next_lacks, placed_more}}
 use Rattle.expansions.specs.Named.{names_of}
-use Rattle.expand_forms.proofs.Safety.{after_placing, no_answer, passed_placing, placed}
+use Rattle.number_forms.proofs.Safety.{after_placing, no_answer, passed_placing, placed}
 use Rattle.expand_forms.proofs.placing.place_all.Goals as goal
 
 pub loop-term-init : goal.loop-term-init
@@ -22,20 +22,16 @@ returns-clause-ok c =
     (take_all c.loop-term.term-index c.args.terms.now (omega (arith, c.loop-term-test.false))) c.loop-term.invariant.adds
 
 pub returns-in_err-_term : goal.returns-in_err-_term
-returns-in_err-_term c =
-    record {
-      count = no_answer c.from_residual.result _ c.from_residual.ensures.0;
-      ok = no_answer c.from_residual.result _ c.from_residual.ensures.0;
-      room = λ ns m h.
-          let i = c.loop-term.invariant in
-          passed_on c.from_residual.result c.in_err-_term.field-0.0 (λ full. free_of c.args.pool.now < terms_bytes ns (length c.args.terms.now)) c.from_residual.ensures.0 c.from_residual.ensures.1
-          (next_lacks (names_of c.args.names.now) ns c.args.terms.now _ (free_of c.args.pool.now) (free_of c.loop-term.pool) m h c.loop-term-test.true c.term-item.is
-          (adds_free c.requires.stands i.stands i.kept i.adds) c.in_err-_term.ensures.room);
-      safe = let i = c.loop-term.invariant in
-          after_placing i.kept i.front (passed_placing c.from_residual.result c.in_err-_term.field-0.0 c.from_residual.ensures.0 c.from_residual.ensures.1 c.in_err-_term.ensures.safe);
-    }
+returns-in_err-_term c = let r = c.from_residual.result in let e = c.in_err-_term.field-0.0 in let said = c.from_residual.ensures in record {
+  count = no_answer r _ said.0;
+  ok = no_answer r _ said.0;
+  room = λ ns m h.
+      let i = c.loop-term.invariant in
+      passed_on r e (λ full. free_of c.args.pool.now < terms_bytes ns (length c.args.terms.now)) said.0 said.1
+      (next_lacks (names_of c.args.names.now) ns c.args.terms.now _ (free_of c.args.pool.now) (free_of c.loop-term.pool) m h c.loop-term-test.true c.term-item.is
+      (adds_free c.requires.stands i.stands i.kept i.adds) c.in_err-_term.ensures.room);
+  safe = let i = c.loop-term.invariant in after_placing i.kept i.front (passed_placing r e said.0 said.1 c.in_err-_term.ensures.safe);
+}
 
 pub returns-clause-safe : goal.returns-clause-safe
-returns-clause-safe c =
-    let i = c.loop-term.invariant in
-    placed i.front i.kept i.stands
+returns-clause-safe c = let i = c.loop-term.invariant in placed i.front i.kept i.stands

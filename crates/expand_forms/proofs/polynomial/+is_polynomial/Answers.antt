@@ -3,8 +3,7 @@ use Rattle.expand_forms.proofs.{Shared.{plain, rest_trees, tree_at, kids_of, for
 use Rattle.expand_forms.proofs.polynomial.+is_polynomial.Goals as goal
 
 pub returns-then-not-has_polynomial_root : goal.returns-then-not-has_polynomial_root
-returns-then-not-has_polynomial_root t c =
-    sym (by_root (plain (tree_at c.args.tree (forest c.args.pool.now))) (sym c.has_polynomial_root.ensures ∙ c.if-not-has_polynomial_root.true))
+returns-then-not-has_polynomial_root t c = sym (by_root (plain (tree_at c.args.tree (forest c.args.pool.now))) (sym c.has_polynomial_root.ensures ∙ c.if-not-has_polynomial_root.true))
 
 pub loop-child-init : goal.loop-child-init
 loop-child-init t c = record {

@@ -1,7 +1,7 @@
 use Rattle.expand_forms.proofs.Shared.{expression, ◌∙◌, ◌≡◌, true, refl, sym, ap, arith, free_of, front_same, gives, gives_as, if_map, kept_same, own_bits, represents_handed, seen, tree_of}
 use Rattle.expand_forms.proofs.{Shared.{is_power_of_sum, refused_as}, OverAnswers.{children_expanded, expanded_from, few_bytes, polynomial_root}}
 use Rattle.expand_forms.proofs.{PowersOfSums.{answer_expanded, answer_over, lacks, over_ready}, powers_of_sums.raise_answer.Goals.{Then-is_power_of_sum}}
-use Rattle.expand_forms.proofs.Safety.{answered}
+use Rattle.number_forms.proofs.Safety.{answered}
 use Rattle.expand_forms.proofs.powers_of_sums.raise_answer.Goals as goal
 
 -- the tree is a power of a sum
@@ -32,11 +32,9 @@ returns-then-is_power_of_sum c =
     }
 
 pub returns : goal.returns
-returns c =
-    let h = ap is_power_of_sum (sym (seen c.id.ensures c.requires.stands c.requires.handed)) ∙ sym c.is_power_of_sum.ensures ∙ c.if-is_power_of_sum.false in
-    record {
-      ok = λ whole p x. gives c.requires.last (represents_handed c.requires.handed) (answer_expanded p x h);
-      safe = answered front_same (kept_same c.args.pool.now) c.requires.stands;
-      fits = λ whole p x. tt;
-      room = λ whole p x. tt;
-    }
+returns c = let h = ap is_power_of_sum (sym (seen c.id.ensures c.requires.stands c.requires.handed)) ∙ sym c.is_power_of_sum.ensures ∙ c.if-is_power_of_sum.false in record {
+  ok = λ whole p x. gives c.requires.last (represents_handed c.requires.handed) (answer_expanded p x h);
+  safe = answered front_same (kept_same c.args.pool.now) c.requires.stands;
+  fits = λ whole p x. tt;
+  room = λ whole p x. tt;
+}

@@ -36,14 +36,11 @@ module _ (c : In-Some) where
       (n.tree ∙ ap (nth i) terms)
 
 pub add_term-requires : goal.add_term-requires
-add_term-requires c =
-    let k = (goal.at.add_term-requires c).In-Some in
-    let x = next k in
-    record {
-      stands = c.requires.stands;
-      expression = (next_child c.requires.stands c.requires.expression c.loop-term.invariant.ids c.in-Some.ensures.steps).expression;
-      listed = (x.summand-is, take (i k) (normal (polynomial_of (t k))), x.is, c.loop-term.invariant.listed);
-    }
+add_term-requires c = let k = (goal.at.add_term-requires c).In-Some in let x = next k in record {
+  stands = c.requires.stands;
+  expression = (next_child c.requires.stands c.requires.expression c.loop-term.invariant.ids c.in-Some.ensures.steps).expression;
+  listed = (x.summand-is, take (i k) (normal (polynomial_of (t k))), x.is, c.loop-term.invariant.listed);
+}
 
 pub loop-term-preserved : goal.loop-term-preserved
 loop-term-preserved c =
@@ -95,16 +92,13 @@ module _ (c : Else-term_count-eq0) where
 
 pub add_term-requires-2-clause-listed : goal.add_term-requires-2-clause-listed
 add_term-requires-2-clause-listed c =
-    let x = only (goal.at.add_term-requires-2-clause-listed c).Else-term_count-eq0 in
-    (x.summand-is, [], x.is, listed_none c.args.names.now c.requires.names c.requires.few c.clear.ensures.items)
+    let x = only (goal.at.add_term-requires-2-clause-listed c).Else-term_count-eq0 in (x.summand-is, [], x.is, listed_none c.args.names.now c.requires.names c.requires.few c.clear.ensures.items)
 
 pub returns : goal.returns
 returns c =
     let k = (goal.at.returns c).Else-term_count-eq0 in
     let x = only k in
-    let one : length (normal (polynomial_of (u k))) ≤ 1 = omega (arith, count_is (names_of c.args.names.now) (u k) c.requires.expanded c.requires.named, ap count (alone k)) in
-    record {
-      terms = on_ok_weaker c.add_term-2.result
-          (λ l. listed_all {i = 1} (u k) one (subst (IsListOf (names_of c.args.names.now) c.add_term-2.new.list.items) (sym x.more) l))
+    let one : length (normal (polynomial_of (u k))) ≤ 1 = omega (arith, count_is (names_of c.args.names.now) (u k) c.requires.expanded c.requires.named, ap count (alone k)) in record {
+      terms = on_ok_weaker c.add_term-2.result (λ l. listed_all {i = 1} (u k) one (subst (IsListOf (names_of c.args.names.now) c.add_term-2.new.list.items) (sym x.more) l))
           (c.add_term-2.ensures.listed x.summand-is [] x.is (listed_none c.args.names.now c.requires.names c.requires.few c.clear.ensures.items));
     }

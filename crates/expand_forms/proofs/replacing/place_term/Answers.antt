@@ -1,7 +1,7 @@
 use Rattle.expand_forms.proofs.Shared.{◌≡◌, ◌∙◌, length, refl, sym, eq-eqb, eqb-true, value_of, mult, is_one_fraction, factor_trees, led_by, many_factors, gives_as, if_ok_map}
 use Rattle.expand_forms.proofs.{PlacedFactors.{led_alone, many_led}, TermReadings.{led_some, led_term}, replacing.place_term.Goals.{else-factors-eq1-via-then-factors-eq1+else-is_one}}
 use Rattle.expand_forms.proofs.replacing.place_term.Goals.{else-factors-eq1-via-else-factors-eq1}
-use Rattle.expand_forms.proofs.Safety.{one_placed}
+use Rattle.number_forms.proofs.Safety.{one_placed}
 use Rattle.expand_forms.proofs.replacing.place_term.Goals as goal
 
 pub returns-then-is_empty-clause-ok : goal.returns-then-is_empty-clause-ok

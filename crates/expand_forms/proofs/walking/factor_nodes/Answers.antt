@@ -13,8 +13,7 @@ nodes_below-requires-in-Mult-clause-within c = omega (arith, c.first_factor.ensu
 pub returns-in-Mult : goal.returns-in-Mult
 returns-in-Mult c = λ m h.
     let t = plain (tree_at c.args.term (forest c.args.pool.now)) in
-    ahead_below c.args.term c.first_factor.result c.args.pool.now c.requires.stands c.requires.expression h
-    (product_behind c.first_factor.result t
+    ahead_below c.args.term c.first_factor.result c.args.pool.now c.requires.stands c.requires.expression h (product_behind c.first_factor.result t
     (product_root t (product_kind t (sym c.in-Mult.is ∙ c.kind.ensures.plain c.requires.expression))) c.first_factor.ensures.value) c.nodes_below-in-Mult.ensures
 
 pub returns-in_default : goal.returns-in_default
