@@ -1,7 +1,7 @@
 -- Sums to which the terms of a list are joined one by one.
 use Rattle.number_forms.proofs.Shared.{◌≡◌, ℕ, ◌≤◌, ◌∷◌, ◌++◌, length, refl, sym, ap, subst, [], value, Same, Term, Surd, SharesDenominators, Tree, Same-trans, Same-refl, State, IsSum, IsSumOf, plain}
 use Rattle.number_forms.proofs.Shared.{Gives, KeepsFront, root_tree, without_root, Stands, forest, KeepsRefusals, behind_first, front_after_one, front_same, given_told, drop_all, given_rest, gives_as}
-use Rattle.number_forms.proofs.{Shared.{kept_same, kept_after, gives_itself}, Denominators.{shares_eq, parts_behind, parts_end, parts_part}, Worth.{terms_from, same_behind, join_end, part_step}}
+use Rattle.number_forms.proofs.{Shared.{kept_same, kept_after, gives_itself, ◌∙◌, Forest, IsHanded, other_plain, other_read, tree_at}, Denominators.{shares_eq, parts_behind, parts_end, parts_part}, Worth.{terms_from, same_behind, join_end, part_step}}
 
 -- a sum, and with what is left of a list it is worth the whole, over the common denominators of the whole
 pub record IsSumWith (left whole : Surd) (t : Tree) : Type 0 where
@@ -51,3 +51,12 @@ joined_all {left = left} {whole = whole} j e = gives_as j.gives refl (λ t h. re
 
 pub from_all : (v : Surd) (n : ℕ) → length v ≤ n → terms_from n v ≡ []
 from_all v n l = drop_all n v l
+
+-- what stands beside the sum reads as before
+pub read_same : {i : ℕ} {left whole : Surd} {old now : State} (n : ℕ) → IsJoined i left whole old now → Gives (without_root i (forest old)) (forest old) i IsSum → IsHanded n (without_root i (forest old))
+    → plain (tree_at n (forest now)) ≡ plain (root_tree n (forest old))
+read_same {left = left} {whole = whole} {now = now} n j s h = other_read {P = IsSumWith left whole} n now j.stands j.gives h ∙ sym (other_plain n s h.root)
+
+-- beside a new tree, and by another name
+pub reads : {f g : Forest} {i m n : ℕ} {P : Tree → Type 0} → m ≡ n → Gives f g i P → IsHanded n f → plain (root_tree m g) ≡ plain (root_tree n f)
+reads {g = g} {n = n} e p h = ap (λ (k : ℕ). plain (root_tree k g)) e ∙ other_plain n p h.root

@@ -48,8 +48,7 @@ returns-in_err-place_terms c = let r = c.from_residual.result in let e = fault.F
       let free = both_released_free c.requires.stands c.release-then-has_room.ensures.stands kept c.requires.apart c.requires.first c.requires.second both_gone in
       let enough : 40 + 96 * length c.as_slice.result.now ≤ free_of c.args.pool.now = c.has_room.ensures.0 (search rules) in
       let same : c.as_slice.result.now ≡ c.as_slice-then-has_room.result.now = c.as_slice.ensures.value ∙ sym c.as_slice-then-has_room.ensures.value in
-      passed_on r e (LacksJointRoom c.args.joint c.args.a c.args.b c.args.pool.now gs) said.0 said.1
-      (absurd (omega (arith, free, enough, ap (λ (ts : List Term). length ts) same, c.in_err-place_terms.ensures.room)));
+      passed_on r e _ said.0 said.1 (absurd (omega (arith, free, enough, ap (λ (ts : List Term). length ts) same, c.in_err-place_terms.ensures.room)));
   safe = after (kept_after c.release.ensures.kept c.release-then-has_room.ensures.kept) (front (goal.at.returns-in_err-place_terms c).After-release-then-has_room) (passed_full r c.in_err-place_terms.field-0.0 said.0 said.1 c.in_err-place_terms.ensures.safe);
 }
 

@@ -1,6 +1,6 @@
-use Rattle.number_forms.proofs.Shared.{Ok, ap, ◌∙◌, ◌<◌, arith, num, root_size, tree_of, given_told, gives_as, num_most, value_of, free_of, both_released_free, refused_below, passed_on}
-use Rattle.number_forms.proofs.{Shared.{LacksJointRoom, operation, front_after, kept_after, rules, refl, subst, sym}, RationalCalls.{plain_answer, joint_rational, at_rationals, rational_over}}
-use Rattle.number_forms.proofs.{RationalBits.{joint_parts}, Rooms.{few_for_joint}, Refusals.{none_given}, Safety.{after, answered, overflowed, refused}}
+use Rattle.number_forms.proofs.Shared.{Ok, ap, ◌∙◌, ◌<◌, arith, num, root_size, tree_of, given_told, gives_as, num_most, value_of, free_of, both_released_free, refused_below, passed_on, operation}
+use Rattle.number_forms.proofs.{Shared.{front_after, kept_after, rules, refl, subst, sym}, RationalCalls.{plain_answer, joint_rational, at_rationals, rational_over}, RationalBits.{joint_parts}}
+use Rattle.number_forms.proofs.{Rooms.{few_for_joint}, Refusals.{none_given}, Safety.{after, answered, overflowed, refused}}
 use Rattle.tree_handles.specs.Causes.{Overflows}
 use Rattle.tree_handles.specs.declared.fault.NumberFault.TheVariants as fault
 use Rattle.number_forms.proofs.calculating.calculate_rationals.Goals as goal
@@ -9,7 +9,7 @@ pub returns-in_err-answer : goal.returns-in_err-answer
 returns-in_err-answer c = let r = c.from_residual.result in let e = fault.Overflow c.in_err-answer.field-0.0 in let said = c.from_residual.ensures in record {
   ok = none_given r _ said.0;
   rationals = search rules;
-  room = λ gs. passed_on r e (LacksJointRoom c.args.joint c.args.a c.args.b c.args.pool.now gs) said.0 said.1 tt;
+  room = λ gs. passed_on r e _ said.0 said.1 tt;
   safe = overflowed r c.in_err-answer.field-0.0 said.0 said.1 (subst Overflows (sym c.in_err-answer.ensures.named) (c.in_err-answer.ensures.refused.0 refl)) c.take_rationals.ensures.front c.take_rationals.ensures.kept c.take_rationals.ensures.stands;
 }
 
@@ -20,8 +20,7 @@ returns-in_err-number c = let r = c.from_residual-in_err-number.result in let e 
   room = λ gs. let few : free_of c.take_rationals.new.pool < root_size (num (value_of c.in_ok-answer.answer)) = refused_below c.in_err-number.ensures.full in
       let taken = c.take_rationals.ensures in
       let free = both_released_free c.requires.stands taken.stands taken.kept c.requires.apart c.requires.first c.requires.second taken.gone in
-      passed_on r e (LacksJointRoom c.args.joint c.args.a c.args.b c.args.pool.now gs) said.0 said.1
-      (few_for_joint c.args.joint gs _ (omega (arith, few, free, num_most (value_of c.in_ok-answer.answer))));
+      passed_on r e _ said.0 said.1 (few_for_joint c.args.joint gs _ (omega (arith, few, free, num_most (value_of c.in_ok-answer.answer))));
   safe = after c.take_rationals.ensures.kept c.take_rationals.ensures.front (refused r c.in_err-number.field-0.0 said.0 said.1 c.in_err-number.ensures.full c.number.ensures.stands);
 }
 

@@ -1,10 +1,9 @@
 use Rattle.number_forms.proofs.Shared.{◌≡◌, ◌+◌, ℕ, refl, sym, ap, ◌∙◌, subst, arith, value, classes, size, num_least, tree_of, free_of, building, Gives, without_root, forest, behind_first}
-use Rattle.number_forms.proofs.Shared.{front_same, front_at, front_without, front_after, owned, gives_as, given_told, passed_on, released_free, LacksRoom, inverse_need, IsInverseOf, LacksInverse}
-use Rattle.number_forms.proofs.{Shared.{InverseOverflows, OfOverflow, OfFull, OnlyLacksLongForm, kept_after, kept_same, rules}, InverseBits.{inverse_no_larger}, WithinBits.{inverse_within}}
-use Rattle.number_forms.proofs.{Placings.{number_alone, refused}, InverseSteps.{none_to_make, too_wide, has_inverse, no_inverse, lacks_inverse, rational_inverse}}
-use Rattle.number_forms.proofs.{Rooms.{inverse_lacks, inverse_spans}, inverting.invert_number.Goals.{After-release-2, In_err-placed, In_ok-placed}, Refusals.{none_given, none_kept}}
+use Rattle.number_forms.proofs.Shared.{front_same, front_at, front_without, front_after, owned, gives_as, given_told, passed_on, released_free, IsInverseOf, LacksInverse, OfFull, OnlyLacksLongForm}
+use Rattle.number_forms.proofs.{Shared.{kept_after, kept_same, rules}, InverseBits.{inverse_no_larger}, WithinBits.{inverse_within}, Placings.{number_alone, refused}}
+use Rattle.number_forms.proofs.{InverseSteps.{none_to_make, too_wide, has_inverse, no_inverse, lacks_inverse, rational_inverse}, Rooms.{inverse_lacks, inverse_spans}}
+use Rattle.number_forms.proofs.{inverting.invert_number.Goals.{After-release-2, In_err-placed, In_ok-placed}, Refusals.{none_given, none_kept}}
 use Rattle.tree_handles.proofs.{SmallLaws.{grown_free as free_before}, Refused.{refuses_after}}
-use Rattle.tree_handles.specs.{Causes.{IsCaused}, Faults.{Faults}}
 use Rattle.tree_handles.specs.declared.fault.NumberFault.TheVariants as fault
 use Rattle.number_forms.proofs.inverting.invert_number.Goals as goal
 
@@ -72,16 +71,15 @@ returns-in_err-inverse c = let r = c.from_residual.result in let e = fault.Overf
   ok = none_given r _ said.0;
   front = front_same;
   kept = none_kept r _ said.0;
-  faults = passed_on r e (Faults c.args.pool.now c.args.pool.now) said.0 said.1 (kept_same c.args.pool.now);
+  faults = passed_on r e _ said.0 said.1 (kept_same c.args.pool.now);
   rational = λ q k. absurd (cc (c.in_err-inverse.ensures.rational q k));
   exactly = refused r _ said.0 (no_inverse (value (tree_of c.args.a c.args.pool.now)) _ (fault.Overflow c.in_err-inverse.field-0.0) c.in_err-inverse.ensures.overflow tt);
-  overflow = passed_on r e (OfOverflow (InverseOverflows (value (tree_of c.args.a c.args.pool.now)))) said.0 said.1 c.in_err-inverse.ensures.overflow;
+  overflow = passed_on r e _ said.0 said.1 c.in_err-inverse.ensures.overflow;
   measured = none_given r _ said.0;
-  bits = λ few.
-      passed_on r e (OfOverflow (λ o. ⊥)) said.0 said.1 (inverse_within (tree_of c.args.a c.args.pool.now) c.in_err-inverse.field-0.0 c.requires.number few c.in_err-inverse.ensures.overflow);
-  first_lack = passed_on r e (OfFull (LacksInverse (value (tree_of c.args.a c.args.pool.now)) (free_of c.args.pool.now + size (tree_of c.args.a c.args.pool.now)))) said.0 said.1 tt;
-  caused = passed_on r e (IsCaused c.args.pool.now) said.0 said.1 (c.in_err-inverse.ensures.caused);
-  room = λ gs. passed_on r e (LacksRoom inverse_need (free_of c.args.pool.now + size (tree_of c.args.a c.args.pool.now)) gs) said.0 said.1 tt;
+  bits = λ few. passed_on r e _ said.0 said.1 (inverse_within (tree_of c.args.a c.args.pool.now) c.in_err-inverse.field-0.0 c.requires.number few c.in_err-inverse.ensures.overflow);
+  first_lack = passed_on r e _ said.0 said.1 tt;
+  caused = passed_on r e _ said.0 said.1 (c.in_err-inverse.ensures.caused);
+  room = λ gs. passed_on r e _ said.0 said.1 tt;
   spanned = λ gs s. none_given r _ said.0;
   stands = search rules;
 }
@@ -91,20 +89,19 @@ returns-in_err-placed c = let r = c.from_residual-in_err-placed.result in let e 
   ok = none_given r _ said.0;
   front = front_after (front_at (front_without behind_first front_same) (c.release-2.ensures.owned (owned c.requires.handed))) c.place_inverse.ensures.safe.front;
   kept = none_kept r _ said.0;
-  faults = passed_on r e (Faults c.args.pool.now c.place_inverse.new.pool) said.0 said.1 (refuses_after c.release-2.ensures.kept c.in_err-placed.ensures.safe.full);
+  faults = passed_on r e _ said.0 said.1 (refuses_after c.release-2.ensures.kept c.in_err-placed.ensures.safe.full);
   rational = λ q k. let rational = rational_inverse _ _ q k c.in_ok-inverse.ensures.ok in
       let more = free (goal.at.returns-in_err-placed c).After-release-2 in
       passed_on r e OnlyLacksLongForm said.0 said.1 (number_alone rational.0 (free_of c.release-2.new.pool) c.in_err-placed.field-0.0 (omega (arith, more, ap size k, num_least q))
       (ap (building (free_of c.release-2.new.pool)) (sym rational.1) ∙ c.in_err-placed.ensures.first_lack));
   exactly = refused r _ said.0 (no_inverse _ _ (fault.Full c.in_err-placed.field-0.0) tt (lacks (goal.at.returns-in_err-placed c).In_err-placed));
-  overflow = passed_on r e (OfOverflow (InverseOverflows (value (tree_of c.args.a c.args.pool.now)))) said.0 said.1 (tt);
+  overflow = passed_on r e _ said.0 said.1 tt;
   measured = none_given r _ said.0;
-  bits = λ few. passed_on r e (OfOverflow (λ o. ⊥)) said.0 said.1 tt;
+  bits = λ few. passed_on r e _ said.0 said.1 tt;
   first_lack = passed_on r e (OfFull (LacksInverse (value (tree_of c.args.a c.args.pool.now)) (free_of c.args.pool.now + size (tree_of c.args.a c.args.pool.now)))) said.0
       said.1 (lacks (goal.at.returns-in_err-placed c).In_err-placed);
-  caused = passed_on r e (IsCaused c.place_inverse.new.pool) said.0 said.1 (c.in_err-placed.ensures.safe.caused);
-  room = λ gs. passed_on r e (LacksRoom inverse_need (free_of c.args.pool.now + size (tree_of c.args.a c.args.pool.now)) gs) said.0 said.1
-      (inverse_lacks gs _ _ _ (lacks (goal.at.returns-in_err-placed c).In_err-placed));
+  caused = passed_on r e _ said.0 said.1 (c.in_err-placed.ensures.safe.caused);
+  room = λ gs. passed_on r e _ said.0 said.1 (inverse_lacks gs _ _ _ (lacks (goal.at.returns-in_err-placed c).In_err-placed));
   spanned = λ gs s. none_given r _ said.0;
   stands = search rules;
 }

@@ -1,4 +1,4 @@
-use Rattle.number_forms.proofs.Shared.{◌≡◌, ℕ, Err, ◌∙◌, refl, ap, [], ◌∷◌, add, Gives, forest, free_of, given_handed, Full, building, passed_on, sum_of_terms, term_of, term_tree, kept_after}
+use Rattle.number_forms.proofs.Shared.{◌≡◌, ℕ, Err, ◌∙◌, refl, ap, [], ◌∷◌, add, Gives, forest, given_handed, Full, building, passed_on, sum_of_terms, term_of, term_tree, kept_after}
 use Rattle.number_forms.proofs.{Placings.{first_lacks, second_lacks, parent_lacks, given_is}, Pairs.{first_handed, pair_apart, pair_rest, pair_trees, pair_front}, Rooms.{refusal_as}}
 use Rattle.number_forms.proofs.{Refusals.{none_given}, TermTrees.{if_given}, inverting.place_sum.Goals.{In_ok-first, In_ok-second}, Safety.{after_placing, lacked, one_placed, then_placing}}
 use Rattle.surd_terms.specs.declared.term.Term.{Term}
@@ -21,22 +21,17 @@ abbrev Short : ℕ → Term → Term → Full → Type 0
 Short free a b full = building free (sum_of_terms (term_of a) (term_of b)) ≡ Err full
 
 pub returns-in_err-first : goal.returns-in_err-first
-returns-in_err-first c =
-    let r = c.from_residual.result in let e = c.in_err-first.field-0.0 in let said = c.from_residual.ensures in let lack = c.in_err-first.ensures in
-    record {
-      ok = none_given r _ said.0;
-      first_lack = passed_on r e (Short (free_of c.args.pool.now) c.args.a c.args.b) said.0 said.1
-          (first_lacks _ (term_tree (term_of c.args.a)) (term_tree (term_of c.args.b)) (8 ∷ []) lack.first_lack);
-      safe = lacked r e said.0 said.1 c.place_term.ensures.front c.in_err-first.ensures.full c.in_err-first.ensures.caused c.place_term.ensures.stands;
-    }
+returns-in_err-first c = let r = c.from_residual.result in let e = c.in_err-first.field-0.0 in let said = c.from_residual.ensures in let lack = c.in_err-first.ensures in record {
+  ok = none_given r _ said.0;
+  first_lack = passed_on r e _ said.0 said.1 (first_lacks _ (term_tree (term_of c.args.a)) (term_tree (term_of c.args.b)) (8 ∷ []) lack.first_lack);
+  safe = lacked r e said.0 said.1 c.place_term.ensures.front c.in_err-first.ensures.full c.in_err-first.ensures.caused c.place_term.ensures.stands;
+}
 
 pub returns-in_err-second : goal.returns-in_err-second
 returns-in_err-second c =
-    let r = c.from_residual-in_err-second.result in let e = c.in_err-second.field-0.0 in let said = c.from_residual-in_err-second.ensures in
-    let lack = c.in_err-second.ensures in record {
+    let r = c.from_residual-in_err-second.result in let e = c.in_err-second.field-0.0 in let said = c.from_residual-in_err-second.ensures in let lack = c.in_err-second.ensures in record {
       ok = none_given r _ said.0;
-      first_lack = passed_on r e (Short (free_of c.args.pool.now) c.args.a c.args.b) said.0 said.1
-          (second_lacks c.requires.stands c.place_term.ensures.stands c.in_ok-first.ensures.kept (first (goal.at.returns-in_err-second c).In_ok-first)
+      first_lack = passed_on r e _ said.0 said.1 (second_lacks c.requires.stands c.place_term.ensures.stands c.in_ok-first.ensures.kept (first (goal.at.returns-in_err-second c).In_ok-first)
           (term_tree (term_of c.args.b)) (8 ∷ []) lack.first_lack);
       safe = after_placing c.in_ok-first.ensures.kept c.place_term.ensures.front (lacked r e said.0 said.1 c.place_term-2.ensures.front c.in_err-second.ensures.full c.in_err-second.ensures.caused c.place_term-2.ensures.stands);
     }

@@ -1,6 +1,6 @@
-use Rattle.number_forms.proofs.Shared.{rules, ◌≡◌, ◌<◌, ◌≤◌, true, refl, sym, ap, subst, arith, Tree, count, is_add, term_of, Full, free_of, passed_on, Forest, Gives, children_of, without_root}
-use Rattle.number_forms.proofs.Shared.{lists_behind, given_rest, given_root, given_told, gives_as, gives_rest, other_plain, behind_first, behind_new, front_same, front_after, front_after_two}
-use Rattle.number_forms.proofs.{Shared.{kept_after}, LastSums.{sum_add}, SumChanges.{inserted_in}, Refusals.{none_kept}, Safety.{lacked, placed}}
+use Rattle.number_forms.proofs.Shared.{rules, ◌≡◌, ◌≤◌, true, refl, sym, ap, subst, arith, Tree, count, is_add, term_of, free_of, passed_on, Forest, Gives, children_of, without_root, lists_behind}
+use Rattle.number_forms.proofs.Shared.{given_rest, given_root, given_told, gives_as, gives_rest, other_plain, behind_first, behind_new, front_same, front_after, front_after_two, kept_after}
+use Rattle.number_forms.proofs.{LastSums.{sum_add}, SumChanges.{inserted_in}, Refusals.{none_kept}, Safety.{lacked, placed}}
 use Rattle.number_forms.proofs.joining.insert.Goals as goal
 
 pub insert_child-requires : goal.insert_child-requires
@@ -14,8 +14,7 @@ pub returns-in_err-child : goal.returns-in_err-child
 returns-in_err-child g c = let r = c.from_residual.result in let e = c.in_err-child.field-0.0 in let said = c.from_residual.ensures in record {
   ok = none_kept r _ said.0;
   lists = none_kept r _ said.0;
-  room = let lacking : 96 ≤ free_of c.args.pool.now → ⊥ = λ enough. absurd (cc (c.in_err-child.ensures.room enough)) in
-      passed_on r e (λ (full : Full). free_of c.args.pool.now < 96) said.0 said.1 (omega (arith, lacking));
+  room = let lacking : 96 ≤ free_of c.args.pool.now → ⊥ = λ enough. absurd (cc (c.in_err-child.ensures.room enough)) in passed_on r e _ said.0 said.1 (omega (arith, lacking));
   safe = lacked r e said.0 said.1 (front_after front_same c.place_term.ensures.front) c.in_err-child.ensures.full c.in_err-child.ensures.caused c.place_term.ensures.stands;
 }
 

@@ -1,6 +1,6 @@
-use Rattle.number_forms.proofs.Shared.{sym, subst, refl, rules, ◌<◌, Tree, add, IsApart, removed, lists_at, children_of, tree_of, term_of, given_handed, given_told, gives_as, JoinOverflows}
-use Rattle.number_forms.proofs.{Shared.{OfOverflow, passed_on, free_of, Full, OfFull, expression, seen, front_same, kept_same}, LastSums.{sum_add}}
-use Rattle.number_forms.proofs.{SumChanges.{read_sum, sum_value, cancelled, made_one, matched, apart_rest}, Refusals.{none_kept}, Safety.{answer_of, answered, overflowed}}
+use Rattle.number_forms.proofs.Shared.{sym, subst, refl, rules, Tree, add, IsApart, removed, lists_at, children_of, tree_of, term_of, given_handed, given_told, gives_as, JoinOverflows, passed_on}
+use Rattle.number_forms.proofs.{Shared.{expression, seen, front_same, kept_same}, LastSums.{sum_add}, SumChanges.{read_sum, sum_value, cancelled, made_one, matched, apart_rest}}
+use Rattle.number_forms.proofs.{Refusals.{none_kept}, Safety.{answer_of, answered, overflowed}}
 use Rattle.tree_handles.specs.declared.fault.NumberFault.TheVariants as fault
 use Rattle.number_forms.proofs.joining.join_term.Goals as goal
 
@@ -25,9 +25,8 @@ returns-in_err-at g c = let r = c.from_residual.result in let e = fault.Overflow
   ok = none_kept r _ said.0;
   lists = none_kept r _ said.0;
   overflow = let same = seen c.id.ensures c.requires.stands (given_handed c.requires.sum) in
-      passed_on r e (OfOverflow (JoinOverflows (tree_of c.args.sum.now c.args.pool.now) (term_of c.args.term))) said.0 said.1
-      (subst (λ (t : Tree). JoinOverflows t (term_of c.args.term) c.in_err-at.field-0.0) same c.in_err-at.ensures.overflow);
-  room = passed_on r e (OfFull (λ (full : Full). free_of c.args.pool.now < 96)) said.0 said.1 tt;
+      passed_on r e _ said.0 said.1 (subst (λ (t : Tree). JoinOverflows t (term_of c.args.term) c.in_err-at.field-0.0) same c.in_err-at.ensures.overflow);
+  room = passed_on r e _ said.0 said.1 tt;
   safe = overflowed r c.in_err-at.field-0.0 said.0 said.1 c.in_err-at.ensures.caused front_same (kept_same c.args.pool.now) c.requires.stands;
 }
 

@@ -1,5 +1,5 @@
-use Rattle.number_forms.proofs.Shared.{◌≡◌, ℕ, false, refl, sym, ap, ◌∙◌, arith, below_more, length_push, are_alike, count, term_of, plain, children_of, nth, tree_at, forest, JoinOverflows}
-use Rattle.number_forms.proofs.{Shared.{passed_on, children_number, rules}, Children.{IsNextChild, left_more, next_child, none_left, few_children}, Joined.{apart_each}}
+use Rattle.number_forms.proofs.Shared.{◌≡◌, ℕ, false, refl, sym, ap, ◌∙◌, arith, below_more, length_push, are_alike, count, term_of, plain, children_of, nth, tree_at, forest, passed_on}
+use Rattle.number_forms.proofs.{Shared.{children_number, rules}, Children.{IsNextChild, left_more, next_child, none_left, few_children}, Joined.{apart_each}}
 use Rattle.number_forms.proofs.{SquareFreeSums.{read_apart, read_joined, read_parts}, SumChanges.{term_of_sum}, Overflows.{join_overflow}, joining.match_anywhere.Goals.{In-Some}}
 use Rattle.number_forms.proofs.Refusals.{none_given}
 use Rattle.calc_algebra.specs.Numbers.{term_of as term_of_tree}
@@ -62,7 +62,6 @@ pub returns-in_err-join : goal.returns-in_err-join
 returns-in_err-join c = let r = c.from_residual.result in let e = c.in_err-join.field-0.0 in let said = c.from_residual.ensures in record {
   ok = none_given r _ said.0;
   overflow = let t = plain (tree_at c.args.sum (forest c.args.pool.now)) in let n = next (goal.at.returns-in_err-join c).In-Some in
-      passed_on r e (JoinOverflows t (term_of c.args.term)) said.0 said.1
-      (join_overflow t c.loop-child.at _ _ _ n.within (c.term_at-other.ensures ∙ ap term_of_tree n.is) c.in_err-join.ensures.overflow);
+      passed_on r e _ said.0 said.1 (join_overflow t c.loop-child.at _ _ _ n.within (c.term_at-other.ensures ∙ ap term_of_tree n.is) c.in_err-join.ensures.overflow);
   caused = search rules;
 }

@@ -1,4 +1,4 @@
-use Rattle.number_forms.proofs.{Shared.{◌≡◌, sym, ap, ◌∙◌, arith, count, term_of, plain, children_of, tree_at, forest, JoinOverflows, passed_on, rules}, SumChanges.{term_of_sum}}
+use Rattle.number_forms.proofs.{Shared.{◌≡◌, sym, ap, ◌∙◌, arith, count, term_of, plain, children_of, tree_at, forest, passed_on, rules}, SumChanges.{term_of_sum}}
 use Rattle.number_forms.proofs.{SquareFreeSums.{read_apart, read_joined, read_parts, read_radicand}, Joined.{other_radicand}, Overflows.{join_overflow}, joining.match_equal.Given.{Over}}
 use Rattle.number_forms.proofs.{joining.match_equal.Goals.{After-children}, Refusals.{none_given}}
 use Rattle.calc_algebra.specs.Numbers.{term_of as term_of_tree}
@@ -37,7 +37,7 @@ pub returns-in_err-joined : goal.returns-in_err-joined
 returns-in_err-joined g c = let r = c.from_residual.result in let e = c.in_err-joined.field-0.0 in let said = c.from_residual.ensures in record {
   ok = none_given r _ said.0;
   overflow = let t = plain (tree_at c.args.sum (forest c.args.pool.now)) in let m = many g (goal.at.returns-in_err-joined g c).After-children in
-      passed_on r e (JoinOverflows t (term_of c.args.term)) said.0 said.1 (join_overflow t c.args.at _ _ _ (omega (arith, m, c.requires.place.within, c.if-at-children.false))
+      passed_on r e _ said.0 said.1 (join_overflow t c.args.at _ _ _ (omega (arith, m, c.requires.place.within, c.if-at-children.false))
       (c.term_at-other.ensures ∙ ap term_of_tree c.child.ensures.plain) c.in_err-joined.ensures.overflow);
   caused = search rules;
 }

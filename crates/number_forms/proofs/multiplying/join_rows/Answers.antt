@@ -1,8 +1,8 @@
-use Rattle.number_forms.proofs.Shared.{◌≡◌, ℕ, ◌≤◌, ◌++◌, Some, length, map, sym, ap, ◌∙◌, arith, add-one, subst, rules, ◌+◌, slice_get, is_number, value, classes, surd_times, term_times, Surd}
-use Rattle.number_forms.proofs.Shared.{Tree, size, SharesDenominators, IsSumOf, lists_kept, other_plain, other_read, other_expression, gives_rest, tree_of, Gives, term_of, without_root, forest}
-use Rattle.number_forms.proofs.Shared.{given_other, given_rest, handed_at, given_handed, given_told, plain_root, Same, RowOverflows, ProductOverflows, OfOverflow, passed_on, overflow_as}
-use Rattle.number_forms.proofs.{Shared.{spans_append, spans_times, Spans, free_of, LacksRoom, joining_need, behind_first}, Loops.{IsJoined, joined_none, joined_part, joined_all, from_all}}
-use Rattle.number_forms.proofs.{Worth.{terms_from, rows_next}, Rooms.{full_as, spans_from, spans_nth, partial_spanned, row_lacks}, Refusals.{none_kept}, Safety.{after_one, answered, passed}}
+use Rattle.number_forms.proofs.Shared.{◌≡◌, ℕ, ◌≤◌, ◌++◌, Some, length, map, sym, ap, ◌∙◌, arith, add-one, subst, rules, slice_get, is_number, value, classes, surd_times, term_times, Surd}
+use Rattle.number_forms.proofs.Shared.{Tree, SharesDenominators, IsSumOf, lists_kept, other_plain, other_expression, gives_rest, tree_of, Gives, term_of, without_root, forest, given_other}
+use Rattle.number_forms.proofs.Shared.{given_rest, handed_at, given_handed, given_told, plain_root, Same, RowOverflows, passed_on, overflow_as, spans_append, spans_times, Spans, behind_first}
+use Rattle.number_forms.proofs.{Loops.{IsJoined, joined_none, joined_part, joined_all, from_all, read_same}, Worth.{terms_from, rows_next}}
+use Rattle.number_forms.proofs.{Rooms.{full_as, spans_from, spans_nth, partial_spanned, row_lacks}, Refusals.{none_kept}, Safety.{after_one, answered, passed}}
 use Rattle.number_forms.proofs.multiplying.join_rows.Goals as goal
 
 pub term_count-at-end-requires : goal.term_count-at-end-requires
@@ -19,11 +19,8 @@ pub nth_term-term-requires : goal.nth_term-term-requires
 nth_term-term-requires g c = record {
   stands = c.loop-at.invariant.joined.stands;
   expression = other_expression c.args.a c.loop-at.pool c.loop-at.invariant.joined.stands c.loop-at.invariant.joined.gives c.requires.first;
-  number = let same = other_read c.args.a c.loop-at.pool c.loop-at.invariant.joined.stands c.loop-at.invariant.joined.gives c.requires.first
-      ∙ sym (other_plain c.args.a c.requires.sum c.requires.first.root) in
-      ap is_number same ∙ c.requires.first_number;
-  within = let same = ap classes (other_read c.args.a c.loop-at.pool c.loop-at.invariant.joined.stands c.loop-at.invariant.joined.gives c.requires.first
-      ∙ sym (other_plain c.args.a c.requires.sum c.requires.first.root)) in
+  number = let same = read_same c.args.a c.loop-at.invariant.joined c.requires.sum c.requires.first in ap is_number same ∙ c.requires.first_number;
+  within = let same = ap classes (read_same c.args.a c.loop-at.invariant.joined c.requires.sum c.requires.first) in
       let all = ap classes (plain_root c.args.a c.requires.stands (given_other c.requires.sum c.requires.first).root) in
       omega (arith, same, all, c.term_count-at-end.ensures, c.loop-at-test.true);
 }
@@ -34,8 +31,7 @@ join_products-requires g c = (search rules, (c.loop-at.invariant.joined.stands, 
 pub loop-at-preserved : goal.loop-at-preserved
 loop-at-preserved g c =
     let a : Tree = tree_of c.args.a c.args.pool.now in let b : Tree = tree_of c.args.b c.args.pool.now in let x = term_of c.nth_term-term.result in
-    let same = other_read c.args.a c.loop-at.pool c.loop-at.invariant.joined.stands c.loop-at.invariant.joined.gives c.requires.first
-    ∙ sym (other_plain c.args.a c.requires.sum c.requires.first.root) in
+    let same = read_same c.args.a c.loop-at.invariant.joined c.requires.sum c.requires.first in
     let here : slice_get (value a) c.loop-at.at ≡ Some x = ap (λ (t : Tree). slice_get (value t) c.loop-at.at) (sym same) ∙ c.nth_term-term.ensures in
     let other = other_plain c.args.b c.loop-at.invariant.joined.gives c.requires.second.root ∙ sym (other_plain c.args.b c.requires.sum c.requires.second.root) in
     let joined = subst (λ (t : Tree). Gives (without_root c.args.sum.now (forest c.loop-at.pool)) (forest c.join_products.new.pool) c.args.sum.now
@@ -61,13 +57,11 @@ returns-in_err-join_products g c = let r = c.from_residual.result in let e = c.i
   lists = none_kept r _ said.0;
   overflow = λ empty. let a : Tree = tree_of c.args.a c.args.pool.now in
       let b : Tree = tree_of c.args.b c.args.pool.now in let partial : Tree = tree_of c.args.sum.now c.loop-at.pool in
-      let x = term_of c.nth_term-term.result in
-      let same = other_read c.args.a c.loop-at.pool c.loop-at.invariant.joined.stands c.loop-at.invariant.joined.gives c.requires.first
-      ∙ sym (other_plain c.args.a c.requires.sum c.requires.first.root) in
+      let x = term_of c.nth_term-term.result in let same = read_same c.args.a c.loop-at.invariant.joined c.requires.sum c.requires.first in
       let here : slice_get (value a) c.loop-at.at ≡ Some x = ap (λ (t : Tree). slice_get (value t) c.loop-at.at) (sym same) ∙ c.nth_term-term.ensures in
       let other = other_plain c.args.b c.loop-at.invariant.joined.gives c.requires.second.root ∙ sym (other_plain c.args.b c.requires.sum c.requires.second.root) in
       let told = given_told c.loop-at.invariant.joined.gives in
-      passed_on r e (OfOverflow (ProductOverflows (value a) (value b))) said.0 said.1 (overflow_as c.in_err-join_products.field-0.0 c.in_err-join_products.ensures.overflow (λ o r. record {
+      passed_on r e _ said.0 said.1 (overflow_as c.in_err-join_products.field-0.0 c.in_err-join_products.ensures.overflow (λ o r. record {
         at = c.loop-at.at;
         factor = x;
         here = here;
@@ -79,13 +73,12 @@ returns-in_err-join_products g c = let r = c.from_residual.result in let e = c.i
       }));
   room = λ gs s t u. let a : Tree = tree_of c.args.a c.args.pool.now in
       let b : Tree = tree_of c.args.b c.args.pool.now in let joined = c.loop-at.invariant.joined in
-      let same = other_read c.args.a c.loop-at.pool joined.stands joined.gives c.requires.first ∙ sym (other_plain c.args.a c.requires.sum c.requires.first.root) in
+      let same = read_same c.args.a joined c.requires.sum c.requires.first in
       let here : slice_get (value a) c.loop-at.at ≡ Some (term_of c.nth_term-term.result) = ap (λ (t : Tree). slice_get (value t) c.loop-at.at) (sym same) ∙ c.nth_term-term.ensures in
       let other = other_plain c.args.b joined.gives c.requires.second.root ∙ sym (other_plain c.args.b c.requires.sum c.requires.second.root) in
       let left = spans_times gs (terms_from c.loop-at.at (value a)) (value b) (spans_from gs (value a) c.loop-at.at t) u in
       let partial = partial_spanned gs _ _ (tree_of c.args.sum.now c.loop-at.pool) (given_told joined.gives) (spans_append gs _ _ s (spans_times gs (value a) (value b) t u)) left in
-      passed_on r e (LacksRoom joining_need (free_of c.args.pool.now + size (tree_of c.args.sum.now c.args.pool.now)) gs) said.0 said.1
-      (full_as c.in_err-join_products.field-0.0 (c.in_err-join_products.ensures.room gs partial (spans_nth gs (value a) c.loop-at.at _ here t) (subst (λ (t : Tree). Spans gs (value t)) (sym other) u))
+      passed_on r e _ said.0 said.1 (full_as c.in_err-join_products.field-0.0 (c.in_err-join_products.ensures.room gs partial (spans_nth gs (value a) c.loop-at.at _ here t) (subst (λ (t : Tree). Spans gs (value t)) (sym other) u))
       (λ full few. row_lacks gs joined c.requires.stands (given_handed c.requires.sum) few));
   safe = let j = c.loop-at.invariant.joined in after_one j.kept behind_first j.front (passed r e said.0 said.1 c.in_err-join_products.ensures.safe);
 }

@@ -1,6 +1,5 @@
-use Rattle.number_forms.proofs.Shared.{inl, ◌+◌, gives_without, behind_first, behind_later, front_same, front_at, front_without, front_after, given_other, handed_beside, handed_at, owned}
-use Rattle.number_forms.proofs.{Shared.{product_need, size, free_of, LacksRoom, passed_on, tree_of, kept_after}, Rooms.{full_as, product_lacks}, Refusals.{none_given}}
-use Rattle.number_forms.proofs.Safety.{answered, beside_all, passed}
+use Rattle.number_forms.proofs.Shared.{inl, gives_without, behind_first, behind_later, front_same, front_at, front_without, front_after, given_other, handed_beside, handed_at, owned, passed_on}
+use Rattle.number_forms.proofs.{Shared.{kept_after}, Rooms.{full_as, product_lacks}, Refusals.{none_given}, Safety.{answered, beside_all, passed}}
 use Rattle.number_forms.proofs.multiplying.multiply_others.Goals as goal
 
 pub release-requires-clause-releasable : goal.release-requires-clause-releasable
@@ -15,8 +14,7 @@ pub returns-in_err-product : goal.returns-in_err-product
 returns-in_err-product c = let r = c.from_residual.result in let e = c.in_err-product.field-0.0 in let said = c.from_residual.ensures in record {
   ok = none_given r _ said.0;
   overflow = passed_on r e _ said.0 said.1 c.in_err-product.ensures.overflow;
-  room = λ gs s t. passed_on r e (LacksRoom product_need (free_of c.args.pool.now + size (tree_of c.args.a c.args.pool.now) + size (tree_of c.args.b c.args.pool.now)) gs) said.0 said.1
-      (full_as c.in_err-product.field-0.0 (c.in_err-product.ensures.room gs s t) (λ full few. product_lacks gs _ _ _ c.requires.first_number c.requires.second_number s t few));
+  room = λ gs s t. passed_on r e _ said.0 said.1 (full_as c.in_err-product.field-0.0 (c.in_err-product.ensures.room gs s t) (λ full few. product_lacks gs _ _ _ c.requires.first_number c.requires.second_number s t few));
   safe = beside_all (passed r e said.0 said.1 c.in_err-product.ensures.safe);
 }
 

@@ -1,5 +1,5 @@
-use Rattle.number_forms.proofs.Shared.{◌<◌, ◌*◌, List, length, take, subst, arith, length-take-le, take_all, Trees, forest, free_of, front_after, front_same, kept_after, kept_same, passed_on, Adds}
-use Rattle.number_forms.proofs.{Shared.{trees_of}, ListedTerms.{terms_size, trees_more}, Placings.{given_is}, Planted.{adds_free, adds_more, adds_none}, Refusals.{none_given, none_kept}}
+use Rattle.number_forms.proofs.Shared.{◌<◌, List, take, subst, arith, length-take-le, take_all, Trees, forest, free_of, front_after, front_same, kept_after, kept_same, passed_on, Adds, trees_of}
+use Rattle.number_forms.proofs.{ListedTerms.{terms_size, trees_more}, Placings.{given_is}, Planted.{adds_free, adds_more, adds_none}, Refusals.{none_given, none_kept}}
 use Rattle.number_forms.proofs.Safety.{after_placing, lacked, placed}
 use Rattle.surd_terms.specs.declared.term.Term.{Term}
 use Rattle.number_forms.proofs.placing.place_all.Goals as goal
@@ -33,8 +33,7 @@ returns-in_err-_term c = let r = c.from_residual.result in let e = c.in_err-_ter
   ok = none_kept r _ said.0;
   room = let i = c.loop-term.invariant in let n = c.loop-term.term-index in let free = adds_free c.requires.stands i.stands i.kept i.adds in
       let few : free_of c.loop-term.pool < 96 = grind (arith, c.in_err-_term.ensures.room) in
-      passed_on r e (λ full. free_of c.args.pool.now < 96 * length c.args.terms.now) said.0 said.1
-      (omega (arith, free, few, terms_size (take n c.args.terms.now), length-take-le n c.args.terms.now (omega (arith, c.loop-term-test.true)), c.loop-term-test.true));
+      passed_on r e _ said.0 said.1 (omega (arith, free, few, terms_size (take n c.args.terms.now), length-take-le n c.args.terms.now (omega (arith, c.loop-term-test.true)), c.loop-term-test.true));
   safe = after_placing c.loop-term.invariant.kept c.loop-term.invariant.front (lacked r e said.0 said.1 c.place_term.ensures.front c.in_err-_term.ensures.full c.in_err-_term.ensures.caused c.place_term.ensures.stands);
 }
 

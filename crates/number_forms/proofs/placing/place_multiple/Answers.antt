@@ -1,6 +1,6 @@
-use Rattle.number_forms.proofs.Shared.{◌≡◌, ℕ, pos, Err, ◌∙◌, refl, ap, [], ◌∷◌, whole_fraction, value_of, num, root, mult, more, none, Rat, given_handed, free_of, Full, building, passed_on}
-use Rattle.number_forms.proofs.{Shared.{kept_after}, Placings.{first_lacks, second_lacks, parent_lacks, lacking}, Pairs.{first_handed, pair_apart, pair_rest, pair_trees, pair_front}}
-use Rattle.number_forms.proofs.{Rooms.{refusal_as}, Refusals.{none_given}, TermTrees.{if_given}, Safety.{after_placing, one_placed, passed_placing, refused_placing, then_placing}}
+use Rattle.number_forms.proofs.Shared.{◌≡◌, ℕ, pos, Err, ◌∙◌, refl, ap, [], ◌∷◌, whole_fraction, value_of, num, root, mult, more, none, Rat, given_handed, Full, building, passed_on, kept_after}
+use Rattle.number_forms.proofs.{Placings.{first_lacks, second_lacks, parent_lacks, lacking}, Pairs.{first_handed, pair_apart, pair_rest, pair_trees, pair_front}, Rooms.{refusal_as}}
+use Rattle.number_forms.proofs.{Refusals.{none_given}, TermTrees.{if_given}, Safety.{after_placing, one_placed, passed_placing, refused_placing, then_placing}}
 use Rattle.number_forms.proofs.placing.place_multiple.Goals as goal
 
 pub node_over_two-requires : goal.node_over_two-requires
@@ -14,22 +14,17 @@ abbrev Short : ℕ → Rat → ℕ → Full → Type 0
 Short free q r full = building free (mult (more (num (value_of q)) (more (root (num (whole_fraction (pos r)))) none))) ≡ Err full
 
 pub returns-in_err-rational : goal.returns-in_err-rational
-returns-in_err-rational c =
-    let r = c.from_residual.result in let e = c.in_err-rational.field-0.0 in let said = c.from_residual.ensures in
-    let lack = c.in_err-rational.ensures.full in record {
-      ok = none_given r _ said.0;
-      first_lack = passed_on r e (Short (free_of c.args.pool.now) c.args.coefficient c.args.radicand) said.0 said.1
-          (first_lacks _ (num (value_of c.args.coefficient)) (root (num (whole_fraction (pos c.args.radicand)))) (8 ∷ []) (lacking [] lack));
-      safe = refused_placing r e said.0 said.1 c.in_err-rational.ensures.full c.number.ensures.stands;
-    }
+returns-in_err-rational c = let r = c.from_residual.result in let e = c.in_err-rational.field-0.0 in let said = c.from_residual.ensures in let lack = c.in_err-rational.ensures.full in record {
+  ok = none_given r _ said.0;
+  first_lack = passed_on r e _ said.0 said.1 (first_lacks _ (num (value_of c.args.coefficient)) (root (num (whole_fraction (pos c.args.radicand)))) (8 ∷ []) (lacking [] lack));
+  safe = refused_placing r e said.0 said.1 c.in_err-rational.ensures.full c.number.ensures.stands;
+}
 
 pub returns-in_err-root : goal.returns-in_err-root
 returns-in_err-root c =
-    let r = c.from_residual-in_err-root.result in let e = c.in_err-root.field-0.0 in let said = c.from_residual-in_err-root.ensures in
-    let lack = c.in_err-root.ensures in record {
+    let r = c.from_residual-in_err-root.result in let e = c.in_err-root.field-0.0 in let said = c.from_residual-in_err-root.ensures in let lack = c.in_err-root.ensures in record {
       ok = none_given r _ said.0;
-      first_lack = passed_on r e (Short (free_of c.args.pool.now) c.args.coefficient c.args.radicand) said.0 said.1
-          (second_lacks c.requires.stands c.number.ensures.stands c.in_ok-rational.ensures.kept c.in_ok-rational.ensures.given
+      first_lack = passed_on r e _ said.0 said.1 (second_lacks c.requires.stands c.number.ensures.stands c.in_ok-rational.ensures.kept c.in_ok-rational.ensures.given
           (root (num (whole_fraction (pos c.args.radicand)))) (8 ∷ []) lack.first_lack);
       safe = after_placing c.in_ok-rational.ensures.kept c.number.ensures.front (passed_placing r e said.0 said.1 c.in_err-root.ensures.safe);
     }

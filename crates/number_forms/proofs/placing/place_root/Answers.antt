@@ -19,13 +19,10 @@ mid c = free_before c.requires.stands c.number.ensures.stands c.in_ok-rational.e
 abbrev Short : ℕ → ℕ → Full → Type 0
 Short free r full = building free (root (num (whole_fraction (pos r)))) ≡ Err full
 
--- ---- what is refused
-
 pub returns-in_err-rational : goal.returns-in_err-rational
 returns-in_err-rational c = let r = c.from_residual.result in let e = c.in_err-rational.field-0.0 in let said = c.from_residual.ensures in record {
   ok = none_given r _ said.0;
-  first_lack = passed_on r e (Short (free_of c.args.pool.now) c.args.radicand) said.0 said.1
-      (ap (λ (q : Fraction). taking (free_of c.args.pool.now) (bytes q ∷ 8 ∷ [])) (sym c.whole.ensures) ∙ lacking (8 ∷ []) c.in_err-rational.ensures.full);
+  first_lack = passed_on r e _ said.0 said.1 (ap (λ (q : Fraction). taking (free_of c.args.pool.now) (bytes q ∷ 8 ∷ [])) (sym c.whole.ensures) ∙ lacking (8 ∷ []) c.in_err-rational.ensures.full);
   safe = refused_placing r e said.0 said.1 c.in_err-rational.ensures.full c.number.ensures.stands;
 }
 

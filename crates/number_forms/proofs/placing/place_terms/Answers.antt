@@ -1,5 +1,5 @@
-use Rattle.number_forms.proofs.Shared.{◌≡◌, ◌<◌, ◌+◌, ◌*◌, ◌∙◌, length, refl, sym, ap, arith, pos, count, eq-eqb, eqb-true, num, free_of, front_end, front_same, gives_as, passed_on, trees_of}
-use Rattle.number_forms.proofs.{Shared.{kept_after, num_most, refused_below, root_size, value_of}, ListedTerms.{count_trees, no_tree_of, one_tree_of, sum_tree_of}, Placings.{if_tree}}
+use Rattle.number_forms.proofs.Shared.{◌≡◌, ◌<◌, ◌∙◌, length, refl, sym, ap, arith, pos, count, eq-eqb, eqb-true, num, free_of, front_end, front_same, gives_as, passed_on, trees_of, kept_after}
+use Rattle.number_forms.proofs.{Shared.{num_most, refused_below, root_size, value_of}, ListedTerms.{count_trees, no_tree_of, one_tree_of, sum_tree_of}, Placings.{if_tree}}
 use Rattle.number_forms.proofs.{Planted.{adopts, can_adopt, node_free}, TermTrees.{if_gives}, placing.place_terms.Goals.{In_ok-placed}, Refusals.{none_given}, Rooms.{refusal_as}}
 use Rattle.number_forms.proofs.Safety.{after_placing, one_placed, passed_placing, placed, refused_placing}
 use Rattle.surd_terms.proofs.Rationals.{whole_value as whole_is}
@@ -19,12 +19,10 @@ adopt-requires-clause-root c = (can_adopt c.in_ok-sum.ensures.ok c.in_ok-placed.
 pub adopt-requires-clause-within : goal.adopt-requires-clause-within
 adopt-requires-clause-within c = (can_adopt c.in_ok-sum.ensures.ok c.in_ok-placed.ensures.ok (many (goal.at.adopt-requires-clause-within c).In_ok-placed)).within
 
--- ---- what is refused
-
 pub returns-in_err-sum : goal.returns-in_err-sum
 returns-in_err-sum c = let r = c.from_residual.result in let e = c.in_err-sum.field-0.0 in let said = c.from_residual.ensures in record {
   ok = none_given r _ said.0;
-  room = passed_on r e (λ full. free_of c.args.pool.now < 40 + 96 * length c.args.terms.now) said.0 said.1 (let few : free_of c.args.pool.now < 8 = refused_below c.in_err-sum.ensures.full in omega (arith, few));
+  room = passed_on r e _ said.0 said.1 (let few : free_of c.args.pool.now < 8 = refused_below c.in_err-sum.ensures.full in omega (arith, few));
   safe = refused_placing r e said.0 said.1 c.in_err-sum.ensures.full c.node.ensures.stands;
 }
 
@@ -32,7 +30,7 @@ pub returns-in_err-placed : goal.returns-in_err-placed
 returns-in_err-placed c = let r = c.from_residual-in_err-placed.result in let e = c.in_err-placed.field-0.0 in let said = c.from_residual-in_err-placed.ensures in record {
   ok = none_given r _ said.0;
   room = let free = node_free c.requires.stands c.in_ok-sum.ensures.stands c.in_ok-sum.ensures.kept c.in_ok-sum.ensures.ok in
-      passed_on r e (λ full. free_of c.args.pool.now < 40 + 96 * length c.args.terms.now) said.0 said.1 (omega (arith, free, c.in_err-placed.ensures.room));
+      passed_on r e _ said.0 said.1 (omega (arith, free, c.in_err-placed.ensures.room));
   safe = after_placing c.in_ok-sum.ensures.kept c.node.ensures.front (passed_placing r e said.0 said.1 c.in_err-placed.ensures.safe);
 }
 

@@ -1,4 +1,4 @@
-use Rattle.number_forms.proofs.Shared.{rules, ◌<◌, ap, refl, arith, ◌∙◌, forest, free_of, front_end, front_same, gives_as, passed_on, num, root, kept_after}
+use Rattle.number_forms.proofs.Shared.{rules, ap, refl, arith, ◌∙◌, forest, front_end, front_same, gives_as, passed_on, num, root, kept_after}
 use Rattle.number_forms.proofs.{Planted.{adds_more, adds_none, adopts, can_adopt, node_free, number_refused}, Refusals.{none_given}, Safety.{after_placing, placed, refused_placing}}
 use Rattle.number_forms.proofs.placing.plant_root.Goals as goal
 
@@ -18,7 +18,7 @@ pub returns-in_err-_radicand : goal.returns-in_err-_radicand
 returns-in_err-_radicand c = let r = c.from_residual-in_err-_radicand.result in let e = c.in_err-_radicand.field-0.0 in let said = c.from_residual-in_err-_radicand.ensures in record {
   ok = none_given r _ said.0;
   room = let free = node_free c.requires.stands c.in_ok-root.ensures.stands c.in_ok-root.ensures.kept c.in_ok-root.ensures.ok in
-      passed_on r e (λ full. free_of c.args.pool.now < 48) said.0 said.1 (omega (arith, free, number_refused c.whole.result c.in_err-_radicand.ensures.full));
+      passed_on r e _ said.0 said.1 (omega (arith, free, number_refused c.whole.result c.in_err-_radicand.ensures.full));
   safe = after_placing c.in_ok-root.ensures.kept c.node.ensures.front (refused_placing r e said.0 said.1 c.in_err-_radicand.ensures.full c.number.ensures.stands);
 }
 

@@ -1,6 +1,6 @@
 use Rattle.number_forms.proofs.Shared.{◌≡◌, ℕ, ◌<◌, ◌*◌, ◌^◌, length, ap, ◌∙◌, subst, sym, ◌/◌, is_number, value, Tree, other_plain, kept_after, overflow_as, refused_as, IsPowerOver, tree_of, plain}
 use Rattle.number_forms.proofs.Shared.{Forest, root_tree, behind_new, front_same, front_at, front_after_one, given_handed, given_told, given_rest, given_other, gives_as, gives_rest, handed_at}
-use Rattle.number_forms.proofs.{Shared.{PowerOverflows, OfOverflow, passed_on, SpansTree, free_of, LacksRoom, raising_need, given_free}, Over.{squared_power, of_power}, TermTrees.{if_given}}
+use Rattle.number_forms.proofs.{Shared.{PowerOverflows, passed_on, SpansTree, raising_need, given_free}, Over.{squared_power, of_power}, TermTrees.{if_given}}
 use Rattle.number_forms.proofs.{Overflows.{power_overflows_more, square_overflows}, PowerSteps.{half_twice, half_below}, Rooms.{full_as, refusal_as, power_spans, step_lacks}}
 use Rattle.number_forms.proofs.{powers.+power_of.Goals.{In_ok-square}, Refusals.{none_given}, Safety.{after_one, passed, then_safe}}
 use Rattle.number_forms.proofs.powers.+power_of.Goals as goal
@@ -32,23 +32,20 @@ completed-requires _ c =
 pub returns-in_err-half : goal.returns-in_err-half
 returns-in_err-half _ c = let r = c.from_residual.result in let e = c.in_err-half.field-0.0 in let said = c.from_residual.ensures in record {
   ok = none_given r _ said.0;
-  overflow = passed_on r e (OfOverflow (PowerOverflows (value (tree_of c.args.a.now c.args.pool.now)) c.args.n)) said.0 said.1
-      (overflow_as c.in_err-half.field-0.0 c.in_err-half.ensures.overflow (λ o p. power_overflows_more _ _ _ o (half_below c.args.n) p));
-  room = λ gs s. passed_on r e (LacksRoom raising_need (free_of c.args.pool.now) gs) said.0 said.1 (c.in_err-half.ensures.room gs s);
+  overflow = passed_on r e _ said.0 said.1 (overflow_as c.in_err-half.field-0.0 c.in_err-half.ensures.overflow (λ o p. power_overflows_more _ _ _ o (half_below c.args.n) p));
+  room = λ gs s. passed_on r e _ said.0 said.1 (c.in_err-half.ensures.room gs s);
   safe = passed r e said.0 said.1 c.in_err-half.ensures.safe;
 }
 
 pub returns-in_err-square : goal.returns-in_err-square
 returns-in_err-square _ c = let r = c.from_residual-in_err-square.result in let e = c.in_err-square.field-0.0 in let said = c.from_residual-in_err-square.ensures in record {
   ok = none_given r _ said.0;
-  overflow = passed_on r e (OfOverflow (PowerOverflows (value (tree_of c.args.a.now c.args.pool.now)) c.args.n)) said.0 said.1
-      (overflow_as c.in_err-square.field-0.0 c.in_err-square.ensures.overflow (λ o p. square_overflows _ (tree_of c.in_ok-half.half c.power_of.new.pool) c.args.n o (half_twice c.args.n c.requires.twice) (given_told c.in_ok-half.ensures.ok) p));
+  overflow = passed_on r e _ said.0 said.1 (overflow_as c.in_err-square.field-0.0 c.in_err-square.ensures.overflow (λ o p. square_overflows _ (tree_of c.in_ok-half.half c.power_of.new.pool) c.args.n o (half_twice c.args.n c.requires.twice) (given_told c.in_ok-half.ensures.ok) p));
   room = λ gs s. let half = c.in_ok-half.ensures.ok in
       let h : Tree = tree_of c.in_ok-half.half c.power_of.new.pool in
       let spanned = power_spans gs (tree_of c.args.a.now c.args.pool.now) h (c.args.n / 2) c.requires.number (of_power (given_told half)) s in
       let free = given_free c.requires.stands c.in_ok-half.ensures.safe.stands c.in_ok-half.ensures.safe.kept half in
-      passed_on r e (LacksRoom raising_need (free_of c.args.pool.now) gs) said.0 said.1
-      (full_as c.in_err-square.field-0.0 (c.in_err-square.ensures.room gs spanned) (λ full few. step_lacks gs _ _ h (given_told half).number spanned free few));
+      passed_on r e _ said.0 said.1 (full_as c.in_err-square.field-0.0 (c.in_err-square.ensures.room gs spanned) (λ full few. step_lacks gs _ _ h (given_told half).number spanned free few));
   safe = after_one c.in_ok-half.ensures.safe.kept (behind_new c.in_ok-half.ensures.ok.ends front_same) c.power_of.ensures.safe.front (passed r e said.0 said.1 c.in_err-square.ensures.safe);
 }
 

@@ -1,7 +1,7 @@
-use Rattle.number_forms.proofs.Shared.{◌+◌, ◌*◌, ◌/◌, inl, refl, value, Tree, Same-refl, PowerOverflows, OfOverflow, size, free_of, LacksRoom, raising_need, tree_of, passed_on, overflow_as}
-use Rattle.number_forms.proofs.Shared.{gives_itself, gives_without, gives_as, given_handed, given_told, given_other, owned, behind_first, front_same, front_at, front_without, front_after}
-use Rattle.number_forms.proofs.{Shared.{kept_after, kept_same}, Over.{even_power, odd_power, power_itself, of_power}, Overflows.{last_overflows}, PowerSteps.{half_twice, half_odd_within}}
-use Rattle.number_forms.proofs.{Rooms.{full_as, power_spans, step_lacks}, Refusals.{none_given}, Safety.{answered, beside_all, passed}}
+use Rattle.number_forms.proofs.Shared.{◌*◌, ◌/◌, inl, refl, value, Tree, Same-refl, tree_of, passed_on, overflow_as, gives_itself, gives_without, gives_as, given_handed, given_told, given_other}
+use Rattle.number_forms.proofs.{Shared.{owned, behind_first, front_same, front_at, front_without, front_after, kept_after, kept_same}, Over.{even_power, odd_power, power_itself, of_power}}
+use Rattle.number_forms.proofs.{Overflows.{last_overflows}, PowerSteps.{half_twice, half_odd_within}, Rooms.{full_as, power_spans, step_lacks}, Refusals.{none_given}}
+use Rattle.number_forms.proofs.Safety.{answered, beside_all, passed}
 use Rattle.number_forms.proofs.powers.completed.Goals as goal
 
 pub product_of-requires : goal.product_of-requires
@@ -14,14 +14,12 @@ release-requires-clause-releasable c = inl (given_other c.in_ok-power.ensures.ok
 pub returns-in_err-power : goal.returns-in_err-power
 returns-in_err-power c = let r = c.from_residual.result in let e = c.in_err-power.field-0.0 in let said = c.from_residual.ensures in record {
   ok = none_given r _ said.0;
-  overflow = let a : Tree = tree_of c.args.a.now c.args.pool.now in passed_on r e (OfOverflow (PowerOverflows (value a) c.args.n)) said.0 said.1
-      (overflow_as c.in_err-power.field-0.0 c.in_err-power.ensures.overflow (λ o p. last_overflows _ a c.args.n o (half_twice c.args.n c.requires.twice) (half_odd_within c.args.n c.if-n-eq0.false)
+  overflow = let a : Tree = tree_of c.args.a.now c.args.pool.now in passed_on r e _ said.0 said.1 (overflow_as c.in_err-power.field-0.0 c.in_err-power.ensures.overflow (λ o p. last_overflows _ a c.args.n o (half_twice c.args.n c.requires.twice) (half_odd_within c.args.n c.if-n-eq0.false)
       (given_told c.requires.square) (power_itself a (record { number = c.requires.number; worth = Same-refl (value a) })) p));
   room = λ gs s. let q : Tree = tree_of c.args.square c.args.pool.now in
       let square = given_told c.requires.square in
       let spanned = power_spans gs (tree_of c.args.a.now c.args.pool.now) q (2 * (c.args.n / 2)) c.requires.number (of_power square) s in
-      passed_on r e (LacksRoom raising_need (free_of c.args.pool.now + size q) gs) said.0 said.1
-      (full_as c.in_err-power.field-0.0 (c.in_err-power.ensures.room gs spanned s) (λ full few. step_lacks gs _ _ q square.number spanned refl few));
+      passed_on r e _ said.0 said.1 (full_as c.in_err-power.field-0.0 (c.in_err-power.ensures.room gs spanned s) (λ full few. step_lacks gs _ _ q square.number spanned refl few));
   safe = beside_all (passed r e said.0 said.1 c.in_err-power.ensures.safe);
 }
 

@@ -1,10 +1,9 @@
-use Rattle.number_forms.proofs.Shared.{◌≡◌, inl, refl, sym, ap, ◌∙◌, rules, FitsSigned, ◌+◌, subst, ℕ, ◌*◌, ◌≤◌, arith, to_z, of_z, ℤ, nat_abs, w128, to_z-of_z, value, surd_power, size, Tree}
-use Rattle.number_forms.proofs.Shared.{Same-refl, gives_without, tree_of, behind_first, front_same, front_at, front_without, front_after, front_end, given_other, gives_as, owned, given_told}
-use Rattle.number_forms.proofs.Shared.{power_need, SpansTree, free_of, LacksRoom, passed_on, overflow_as, last_tree, plain, Forest, IsNoLargerThanPower, OfOverflow, IsNumberOf, IsPowerOver}
-use Rattle.number_forms.proofs.{Shared.{PowerOverflows, is_num, kept_after}, Rooms.{answer_spans, full_as, power_lacks, power_spans}, Over.{of_power, power_itself}}
+use Rattle.number_forms.proofs.Shared.{◌≡◌, inl, refl, sym, ap, ◌∙◌, rules, FitsSigned, ◌+◌, subst, ℕ, ◌*◌, ◌≤◌, arith, to_z, of_z, ℤ, nat_abs, w128, to_z-of_z, value, surd_power, Tree, Same-refl}
+use Rattle.number_forms.proofs.Shared.{gives_without, tree_of, behind_first, front_same, front_at, front_without, front_after, front_end, given_other, gives_as, owned, given_told, SpansTree}
+use Rattle.number_forms.proofs.Shared.{passed_on, overflow_as, last_tree, plain, Forest, IsNoLargerThanPower, OfOverflow, IsNumberOf, IsPowerOver, PowerOverflows, is_num, kept_after}
+use Rattle.number_forms.proofs.{Rooms.{answer_spans, full_as, power_lacks, power_spans}, Over.{of_power, power_itself}}
 use Rattle.number_forms.proofs.{RationalBits.{at_least_one, power_no_larger, if_power_no_larger, power_not_refused}, PowersWithin.{power_within}, TermTrees.{if_given}}
 use Rattle.number_forms.proofs.Refusals.{none_given, none_kept}
-use Rattle.tree_handles.specs.{Causes.{IsCaused}, Faults.{Faults}}
 use Rattle.number_forms.proofs.powers.power_number.Goals as goal
 
 pub returns-then-is_rational-clause-room : goal.returns-then-is_rational-clause-room
@@ -81,19 +80,16 @@ returns-in_err-power c = let r = c.from_residual.result in let e = c.in_err-powe
   rational = λ q e. absurd (cc (c.is_rational.ensures ∙ ap is_num e, c.if-is_rational.false));
   front = front_after front_same c.power_of.ensures.safe.front;
   kept = none_kept r _ said.0;
-  faults = passed_on r e (Faults c.args.pool.now c.power_of.new.pool) said.0 said.1 (c.in_err-power.ensures.safe.faults);
+  faults = passed_on r e _ said.0 said.1 (c.in_err-power.ensures.safe.faults);
   overflow = λ h. let fits : FitsSigned w128 c.args.n = search rules in
       let many = c.unsigned_abs.ensures.value ∙ ap nat_abs (to_z-of_z w128 c.args.n fits) in
-      passed_on r e (OfOverflow (PowerOverflows (value (tree_of c.args.a c.args.pool.now)) (nat_abs c.args.n))) said.0 said.1
-      (subst (λ (m : ℕ). OfOverflow (PowerOverflows (value (tree_of c.args.a c.args.pool.now)) m) c.in_err-power.field-0.0) many c.in_err-power.ensures.overflow);
+      passed_on r e _ said.0 said.1 (subst (λ (m : ℕ). OfOverflow (PowerOverflows (value (tree_of c.args.a c.args.pool.now)) m) c.in_err-power.field-0.0) many c.in_err-power.ensures.overflow);
   measured = none_given r _ said.0;
   bits = λ h l k few. let fits : FitsSigned w128 c.args.n = search rules in
       let many : c.unsigned_abs.result ≡ nat_abs c.args.n = c.unsigned_abs.ensures.value ∙ ap nat_abs (to_z-of_z w128 c.args.n fits) in
-      passed_on r e (OfOverflow (λ o. ⊥)) said.0 said.1
-      (overflow_as c.in_err-power.field-0.0 c.in_err-power.ensures.overflow (λ o p. absurd (power_within (value (tree_of c.args.a c.args.pool.now)) c.unsigned_abs.result h l o k (subst (λ (n : ℕ). n * (2 * h + 4 * l) ≤ 124) (sym many) few) p)));
-  caused = passed_on r e (IsCaused c.power_of.new.pool) said.0 said.1 (c.in_err-power.ensures.safe.caused);
-  room = λ gs s. passed_on r e (LacksRoom power_need (free_of c.args.pool.now + size (tree_of c.args.a c.args.pool.now)) gs) said.0 said.1
-      (full_as c.in_err-power.field-0.0 (c.in_err-power.ensures.room gs s) (λ full few. power_lacks gs _ _ c.requires.number s few));
+      passed_on r e _ said.0 said.1 (overflow_as c.in_err-power.field-0.0 c.in_err-power.ensures.overflow (λ o p. absurd (power_within (value (tree_of c.args.a c.args.pool.now)) c.unsigned_abs.result h l o k (subst (λ (n : ℕ). n * (2 * h + 4 * l) ≤ 124) (sym many) few) p)));
+  caused = passed_on r e _ said.0 said.1 (c.in_err-power.ensures.safe.caused);
+  room = λ gs s. passed_on r e _ said.0 said.1 (full_as c.in_err-power.field-0.0 (c.in_err-power.ensures.room gs s) (λ full few. power_lacks gs _ _ c.requires.number s few));
   spanned = λ gs s. none_given r _ said.0;
   stands = search rules;
 }

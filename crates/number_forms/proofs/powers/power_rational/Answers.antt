@@ -1,6 +1,6 @@
 use Rattle.number_forms.proofs.Shared.{sym, ap, ◌∙◌, subst, rules, FitsSigned, ◌+◌, ◌<◌, arith, ℤ, nat_abs, w128, to_z-of_z, pow_op, fraction_power, operation_fits, Fraction, whole_fraction}
 use Rattle.number_forms.proofs.Shared.{calculated, value_of, num, root_size, size, whole_numerator, IsPlainAnswer, tree_of, behind_first, front_same, front_at, front_without, front_after}
-use Rattle.number_forms.proofs.Shared.{given_told, gives_as, power_need, num_most, free_of, LacksRoom, refused_below, passed_on, released_free, kept_after}
+use Rattle.number_forms.proofs.Shared.{given_told, gives_as, num_most, free_of, refused_below, passed_on, released_free, kept_after}
 use Rattle.number_forms.proofs.{RationalCalls.{plain_answer, rational_power_over, rational_power, num_same}, RationalBits.{power_parts}, Rooms.{few_for}, Refusals.{none_given}}
 use Rattle.number_forms.proofs.Safety.{after, answered, overflowed, refused}
 use Rattle.tree_handles.specs.declared.fault.NumberFault.TheVariants as fault
@@ -10,7 +10,7 @@ pub returns-in_err-power : goal.returns-in_err-power
 returns-in_err-power c = let r = c.from_residual.result in let e = fault.Overflow c.in_err-power.field-0.0 in let said = c.from_residual.ensures in record {
   ok = none_given r _ said.0;
   rational = search rules;
-  room = λ gs. passed_on r e (LacksRoom power_need (free_of c.args.pool.now + size (tree_of c.args.a c.args.pool.now)) gs) said.0 said.1 tt;
+  room = λ gs. passed_on r e _ said.0 said.1 tt;
   safe = overflowed r c.in_err-power.field-0.0 said.0 said.1 (search rules) (front_at (front_without behind_first front_same) c.take_rational-q.ensures.gone) c.take_rational-q.ensures.kept c.take_rational-q.ensures.stands;
 }
 
@@ -20,8 +20,7 @@ returns-in_err-number c = let r = c.from_residual-in_err-number.result in let e 
   rational = search rules;
   room = λ gs. let few : free_of c.take_rational-q.new.pool < root_size (num (value_of c.in_ok-power.power)) = refused_below c.in_err-number.ensures.full in
       let free = released_free c.requires.stands c.take_rational-q.ensures.stands c.take_rational-q.ensures.kept c.requires.handed c.take_rational-q.ensures.gone in
-      passed_on r e (LacksRoom power_need (free_of c.args.pool.now + size (tree_of c.args.a c.args.pool.now)) gs) said.0 said.1
-      (let least : free_of c.args.pool.now + size (tree_of c.args.a c.args.pool.now) < 40 = omega (arith, few, free, num_most (value_of c.in_ok-power.power)) in omega (arith, few_for gs _ least));
+      passed_on r e _ said.0 said.1 (let least : free_of c.args.pool.now + size (tree_of c.args.a c.args.pool.now) < 40 = omega (arith, few, free, num_most (value_of c.in_ok-power.power)) in omega (arith, few_for gs _ least));
   safe = after c.take_rational-q.ensures.kept (front_at (front_without behind_first front_same) c.take_rational-q.ensures.gone) (refused r c.in_err-number.field-0.0 said.0 said.1 c.in_err-number.ensures.full c.number.ensures.stands);
 }
 

@@ -1,8 +1,8 @@
 use Rattle.number_forms.proofs.Shared.{◌≡◌, ◌≤◌, ◌<◌, ◌+◌, ◌*◌, ◌^◌, List, length, rules, ◌/◌, ap, ◌∙◌, subst, sym, ℕ, arith, refl, is_number, value, Tree, Same-refl, IsPowerOver, PowerOverflows}
-use Rattle.number_forms.proofs.Shared.{other_plain, passed_on, overflow_as, refused_as, OfOverflow, tree_of, behind_new, front_same, front_after_one, given_rest, given_other, gives_as, gives_rest}
-use Rattle.number_forms.proofs.{Shared.{SpansTree, free_of, LacksRoom, raising_need, given_free, number_tree}, Over.{power_itself, squared_power}, Overflows.{square_overflows}}
-use Rattle.number_forms.proofs.{PowerSteps.{half_one, half_twice}, TermTrees.{if_given}, Rooms.{full_as, refusal_as}, powers.square_or_cube.Goals.{After-square_of, In_ok-square}}
-use Rattle.number_forms.proofs.{Refusals.{none_given}, Safety.{answer_of, passed, passed_full, then_safe}}
+use Rattle.number_forms.proofs.Shared.{other_plain, passed_on, overflow_as, refused_as, tree_of, behind_new, front_same, front_after_one, given_rest, given_other, gives_as, gives_rest, SpansTree}
+use Rattle.number_forms.proofs.{Shared.{free_of, raising_need, given_free, number_tree}, Over.{power_itself, squared_power}, Overflows.{square_overflows}, PowerSteps.{half_one, half_twice}}
+use Rattle.number_forms.proofs.{TermTrees.{if_given}, Rooms.{full_as, refusal_as}, powers.square_or_cube.Goals.{After-square_of, In_ok-square}, Refusals.{none_given}}
+use Rattle.number_forms.proofs.Safety.{answer_of, passed, passed_full, then_safe}
 use Rattle.surd_terms.specs.declared.term.Term.{Term}
 use Rattle.tree_handles.specs.declared.fault.NumberFault.TheVariants as fault
 use Rattle.number_forms.proofs.powers.square_or_cube.Goals as goal
@@ -19,16 +19,13 @@ same c = other_plain c.args.a.now c.in_ok-square.ensures.ok c.requires.handed.ro
 pub completed-requires : goal.completed-requires
 completed-requires c =
     let at = goal.at.completed-requires c in let a : Tree = tree_of c.args.a.now c.args.pool.now in let square = gives_rest c.in_ok-square.ensures.ok
-    (λ t h. subst (λ (x : Tree). IsPowerOver (value x) (2 * (c.args.n / 2)) t) (sym (same at.In_ok-square)) (squared_power (value a) a t (c.args.n / 2) (half at.After-square_of) h)) in
-    record {
+    (λ t h. subst (λ (x : Tree). IsPowerOver (value x) (2 * (c.args.n / 2)) t) (sym (same at.In_ok-square)) (squared_power (value a) a t (c.args.n / 2) (half at.After-square_of) h)) in record {
       stands = c.in_ok-square.ensures.safe.stands;
       square = square;
       handed = given_other c.in_ok-square.ensures.ok c.requires.handed;
       number = ap is_number (same at.In_ok-square) ∙ c.requires.number;
       twice = c.requires.twice;
     }
-
--- ---- as values
 
 pub returns-then-has_room : goal.returns-then-has_room
 returns-then-has_room c = record {
@@ -43,22 +40,19 @@ returns-then-has_room c = record {
 pub returns-in_err-place_terms : goal.returns-in_err-place_terms
 returns-in_err-place_terms c = let r = c.from_residual.result in let e = fault.Full c.in_err-place_terms.field-0.0 in let said = c.from_residual.ensures in record {
   ok = none_given r _ said.0;
-  overflow = passed_on r e (OfOverflow (PowerOverflows (value (tree_of c.args.a.now c.args.pool.now)) c.args.n)) said.0 said.1 (tt);
+  overflow = passed_on r e _ said.0 said.1 tt;
   room = λ gs s. let enough : 40 + 96 * length c.as_slice.result.now ≤ free_of c.args.pool.now = c.has_room.ensures.0 (search rules) in
       let same : c.as_slice.result.now ≡ c.as_slice-then-has_room.result.now = c.as_slice.ensures.value ∙ sym c.as_slice-then-has_room.ensures.value in
-      passed_on r e (LacksRoom raising_need (free_of c.args.pool.now) gs) said.0 said.1
-      (absurd (omega (arith, enough, ap (λ (ts : List Term). length ts) same, c.in_err-place_terms.ensures.room)));
+      passed_on r e _ said.0 said.1 (absurd (omega (arith, enough, ap (λ (ts : List Term). length ts) same, c.in_err-place_terms.ensures.room)));
   safe = passed_full r c.in_err-place_terms.field-0.0 said.0 said.1 c.in_err-place_terms.ensures.safe;
 }
 
 pub returns-in_err-square : goal.returns-in_err-square
 returns-in_err-square c = let r = c.from_residual-in_err-square.result in let e = c.in_err-square.field-0.0 in let said = c.from_residual-in_err-square.ensures in record {
   ok = none_given r _ said.0;
-  overflow = passed_on r e (OfOverflow (PowerOverflows (value (tree_of c.args.a.now c.args.pool.now)) c.args.n)) said.0 said.1
-      (overflow_as c.in_err-square.field-0.0 c.in_err-square.ensures.overflow
+  overflow = passed_on r e _ said.0 said.1 (overflow_as c.in_err-square.field-0.0 c.in_err-square.ensures.overflow
       (λ o p. square_overflows _ (tree_of c.args.a.now c.args.pool.now) c.args.n o (half_twice c.args.n c.requires.twice) (half (goal.at.returns-in_err-square c).After-square_of) p));
-  room = λ gs s.
-      passed_on r e (LacksRoom raising_need (free_of c.args.pool.now) gs) said.0 said.1 (full_as c.in_err-square.field-0.0 (c.in_err-square.ensures.room gs s) (λ full few. omega (arith, few)));
+  room = λ gs s. passed_on r e _ said.0 said.1 (full_as c.in_err-square.field-0.0 (c.in_err-square.ensures.room gs s) (λ full few. omega (arith, few)));
   safe = passed r e said.0 said.1 c.in_err-square.ensures.safe;
 }
 

@@ -1,5 +1,5 @@
-use Rattle.number_forms.proofs.Shared.{inl, gives_without, behind_first, front_same, front_at, front_without, front_after, given_other, owned, free_of, LacksRoom, joining_need, passed_on}
-use Rattle.number_forms.proofs.{Shared.{OfOverflow, SquareOverflows, kept_after, tree_of, value}, Refusals.{none_given}, Safety.{answered, beside_all, passed}}
+use Rattle.number_forms.proofs.{Shared.{inl, gives_without, behind_first, front_same, front_at, front_without, front_after, given_other, owned, passed_on, kept_after}, Refusals.{none_given}}
+use Rattle.number_forms.proofs.Safety.{answered, beside_all, passed}
 use Rattle.number_forms.proofs.powers.squared.Goals as goal
 
 pub release-requires-clause-releasable : goal.release-requires-clause-releasable
@@ -8,8 +8,8 @@ release-requires-clause-releasable c = inl (given_other c.in_ok-square.ensures.o
 pub returns-in_err-square : goal.returns-in_err-square
 returns-in_err-square c = let r = c.from_residual.result in let e = c.in_err-square.field-0.0 in let said = c.from_residual.ensures in record {
   ok = none_given r _ said.0;
-  overflow = passed_on r e (OfOverflow (SquareOverflows (value (tree_of c.args.a c.args.pool.now)))) said.0 said.1 (c.in_err-square.ensures.overflow);
-  room = λ gs s. passed_on r e (LacksRoom joining_need (free_of c.args.pool.now) gs) said.0 said.1 (c.in_err-square.ensures.room gs s);
+  overflow = passed_on r e _ said.0 said.1 (c.in_err-square.ensures.overflow);
+  room = λ gs s. passed_on r e _ said.0 said.1 (c.in_err-square.ensures.room gs s);
   safe = beside_all (passed r e said.0 said.1 c.in_err-square.ensures.safe);
 }
 

@@ -1,9 +1,9 @@
 use Rattle.number_forms.proofs.Shared.{◌≡◌, ℕ, ◌≤◌, ◌++◌, Some, length, sym, ap, ◌∙◌, arith, add-one, subst, rules, ◌+◌, slice_get, is_number, value, classes, Same, Surd, SharesDenominators}
-use Rattle.number_forms.proofs.Shared.{spans_append, Spans, Tree, size, free_of, SquareRowOverflows, SquareOverflows, LacksRoom, joining_need, square_row, square_terms, IsSumOf, lists_kept}
-use Rattle.number_forms.proofs.Shared.{other_plain, other_read, other_expression, gives_rest, passed_on, overflow_as, term_of, OfOverflow, tree_of, Gives, without_root, forest, given_other}
-use Rattle.number_forms.proofs.{Shared.{given_rest, handed_at, given_handed, given_told, plain_root, behind_first}, Loops.{joined_none, joined_part, joined_all, from_all}}
-use Rattle.number_forms.proofs.{Rooms.{full_as, spans_from, spans_nth, partial_spanned, row_lacks}, Squares.{spans_square}, Worth.{terms_from, from_next}}
-use Rattle.number_forms.proofs.{squaring.join_squares.Goals.{After-listed_term-term}, squaring.join_squares.Given.{Over}, Refusals.{none_kept}, Safety.{after_one, answered, passed}}
+use Rattle.number_forms.proofs.Shared.{spans_append, Spans, Tree, SquareRowOverflows, square_row, square_terms, IsSumOf, lists_kept, other_plain, other_expression, gives_rest, passed_on}
+use Rattle.number_forms.proofs.Shared.{overflow_as, term_of, tree_of, Gives, without_root, forest, given_other, given_rest, handed_at, given_handed, given_told, plain_root, behind_first}
+use Rattle.number_forms.proofs.{Loops.{joined_none, joined_part, joined_all, from_all, read_same}, Rooms.{full_as, spans_from, spans_nth, partial_spanned, row_lacks}, Squares.{spans_square}}
+use Rattle.number_forms.proofs.{Worth.{terms_from, from_next}, squaring.join_squares.Goals.{After-listed_term-term}, squaring.join_squares.Given.{Over}, Refusals.{none_kept}}
+use Rattle.number_forms.proofs.Safety.{after_one, answered, passed}
 use Rattle.number_forms.proofs.squaring.join_squares.Goals as goal
 
 -- the Number as it stands now
@@ -12,9 +12,7 @@ same g c = other_plain c.args.number c.loop-at.invariant.joined.gives c.requires
 
 here : (g : Over) (c : After-listed_term-term g) → slice_get (value (tree_of c.args.number c.args.pool.now)) c.loop-at.at ≡ Some (term_of c.listed_term-term.result)
 here g c =
-    let read = other_read c.args.number c.loop-at.pool c.loop-at.invariant.joined.stands c.loop-at.invariant.joined.gives c.requires.handed
-    ∙ sym (other_plain c.args.number c.requires.sum c.requires.handed.root) in
-    ap (λ (t : Tree). slice_get (value t) c.loop-at.at) (sym read) ∙ c.listed_term-term.ensures
+    let read = read_same c.args.number c.loop-at.invariant.joined c.requires.sum c.requires.handed in ap (λ (t : Tree). slice_get (value t) c.loop-at.at) (sym read) ∙ c.listed_term-term.ensures
 
 pub term_count-at-end-requires : goal.term_count-at-end-requires
 term_count-at-end-requires g c = record {
@@ -28,8 +26,7 @@ loop-at-init g c = record { joined = joined_none c.args.sum.now (square_terms (v
 
 pub listed_term-term-requires : goal.listed_term-term-requires
 listed_term-term-requires g c =
-    let joined = c.loop-at.invariant.joined in
-    let read = other_read c.args.number c.loop-at.pool joined.stands joined.gives c.requires.handed ∙ sym (other_plain c.args.number c.requires.sum c.requires.handed.root) in
+    let joined = c.loop-at.invariant.joined in let read = read_same c.args.number joined c.requires.sum c.requires.handed in
     let all = ap classes (plain_root c.args.number c.requires.stands (given_other c.requires.sum c.requires.handed).root) in
     (search rules, (joined.stands, (other_expression c.args.number c.loop-at.pool joined.stands joined.gives c.requires.handed, (ap is_number read ∙ c.requires.number, (lists_kept c.args.number c.args.pool.now c.loop-at.pool c.requires.stands joined.stands c.requires.sum joined.gives c.requires.handed c.requires.terms, omega (arith, ap classes read, all, c.term_count-at-end.ensures, c.loop-at-test.true))))))
 
@@ -71,7 +68,7 @@ returns-in_err-join_square_row g c = let r = c.from_residual.result in let e = c
       let v = value (tree_of c.args.number c.args.pool.now) in let partial : Tree = tree_of c.args.sum.now c.loop-at.pool in
       let left = square_terms (terms_from c.loop-at.at v) in let x = term_of c.listed_term-term.result in
       let told = given_told c.loop-at.invariant.joined.gives in
-      passed_on r e (OfOverflow (SquareOverflows v)) said.0 said.1 (overflow_as c.in_err-join_square_row.field-0.0 c.in_err-join_square_row.ensures.overflow (λ o r. record {
+      passed_on r e _ said.0 said.1 (overflow_as c.in_err-join_square_row.field-0.0 c.in_err-join_square_row.ensures.overflow (λ o r. record {
         at = c.loop-at.at;
         factor = x;
         here = here g at;
@@ -86,8 +83,7 @@ returns-in_err-join_square_row g c = let r = c.from_residual.result in let e = c
       let v = value (tree_of c.args.number c.args.pool.now) in let joined = c.loop-at.invariant.joined in
       let left = spans_square gs (terms_from c.loop-at.at v) (spans_from gs v c.loop-at.at t) in
       let partial = partial_spanned gs _ _ (tree_of c.args.sum.now c.loop-at.pool) (given_told joined.gives) (spans_append gs _ _ s (spans_square gs v t)) left in
-      passed_on r e (LacksRoom joining_need (free_of c.args.pool.now + size (tree_of c.args.sum.now c.args.pool.now)) gs) said.0 said.1
-      (full_as c.in_err-join_square_row.field-0.0 (c.in_err-join_square_row.ensures.room gs partial (spans_nth gs v c.loop-at.at _ (here g at) t) (subst (λ (x : Tree). Spans gs (value x)) (sym (same g at)) t))
+      passed_on r e _ said.0 said.1 (full_as c.in_err-join_square_row.field-0.0 (c.in_err-join_square_row.ensures.room gs partial (spans_nth gs v c.loop-at.at _ (here g at) t) (subst (λ (x : Tree). Spans gs (value x)) (sym (same g at)) t))
       (λ full few. row_lacks gs joined c.requires.stands (given_handed c.requires.sum) few));
   safe = let j = c.loop-at.invariant.joined in after_one j.kept behind_first j.front (passed r e said.0 said.1 c.in_err-join_square_row.ensures.safe);
 }
