@@ -249,7 +249,7 @@ def build(root, program, kit):
     log = Path(tempfile.gettempdir()) / f"poincare-build.{os.getpid()}.log"
     built = program.parent / "libraries"
     built.mkdir(exist_ok=True)
-    say(f"the program is proved and built, which takes about half an hour on four processors; the log is {log}")
+    say(f"the program is proved and built, which takes about a quarter of an hour on four processors; the log is {log}")
     made = Build(root, Kit(kit, built), program, log)
     for it in (signal.SIGTERM, signal.SIGINT, signal.SIGHUP):
         signal.signal(it, made.stop)
