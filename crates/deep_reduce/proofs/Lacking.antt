@@ -7,7 +7,7 @@ use Rattle.deep_reduce.proofs.Shared.{product_count, sum_count, sum_room, produc
 use Rattle.deep_reduce.proofs.Shared.{all_nth, calm_exponent, calm_no_half, calm_product, calm_power, IsJoining, joining, split_bytes, argument_needs, inner_needs, exponents_lack, part_lacks}
 use Rattle.deep_reduce.proofs.{Shared.{product_lacks, split_at, last_parts, parts_calm, parts_single, powers_raised, exponents_calm, exponents_span, raised_calm, by_product, by_power}, Rows.{IsNext}}
 use Rattle.deep_reduce.proofs.Shared.{State, KeepsRefusals, on_ok_after, fault_after}
-use Rattle.deep_reduce.specs.Pools.{LeavesPool}
+use Rattle.product_reduce.specs.Pools.{LeavesPool}
 use Rattle.tree_room.specs.Needs.{product_step_room}
 use Rattle.node_bounds.proofs.JointBytes.{exponents_lack as sum_lacks, power_lacks as joint_power_lacks}
 use Rattle.tree_handles.proofs.SmallLaws.{mult_is as product_words}

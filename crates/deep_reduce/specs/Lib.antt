@@ -4,4 +4,3 @@ pub mod Nodes
 pub mod Reductions
 pub mod Pairs
 pub mod Connectives
-pub mod Pools

@@ -18,7 +18,7 @@ ghost use Rattle.tree_handles.specs.Handed.{tree_of, IsHanded, Ends, Gives, Keep
 ghost use Rattle.tree_handles.specs.Expressions.{children_of, nth};
 ghost use Rattle.tree_handles.specs.Faults.{IfOverflow};
 ghost use Rattle.tree_handles.specs.Roots.{root_tree, without_root};
-ghost use Rattle.deep_reduce.specs.Pools.{LeavesPool};
+ghost use Rattle.product_reduce.specs.Pools.{LeavesPool};
 ghost use Rattle.tree_handles.specs.Standing.{Stands, forest, KeepsRefusals};
 
 use crate::connective::Connective;

@@ -15,7 +15,7 @@ ghost use Rattle.tree_handles.specs.Handed.{tree_of, IsHanded, Gives, KeepsFront
 ghost use Rattle.tree_handles.specs.Expressions.{children_of};
 ghost use Rattle.tree_handles.specs.Faults.{OfOverflow};
 ghost use Rattle.tree_handles.specs.Roots.{without_root};
-ghost use Rattle.deep_reduce.specs.Pools.{LeavesPool};
+ghost use Rattle.product_reduce.specs.Pools.{LeavesPool};
 ghost use Rattle.tree_handles.specs.Standing.{Stands, forest};
 
 use node_pool::Pool;

@@ -21,7 +21,7 @@ ghost use Rattle.tree_handles.specs.Expressions.{IsExpression, plain, children_o
 ghost use Rattle.tree_handles.specs.Faults.{IfOverflow};
 ghost use Rattle.tree_handles.specs.Inside.{tree_at};
 ghost use Rattle.tree_handles.specs.Roots.{root_tree, without_root};
-ghost use Rattle.deep_reduce.specs.Pools.{LeavesPool};
+ghost use Rattle.product_reduce.specs.Pools.{LeavesPool};
 ghost use Rattle.tree_handles.specs.Standing.{Stands, forest};
 
 use crate::connective::Connective;
