@@ -131,7 +131,7 @@ uint32_t poincare_close(poincare_session *session);
 
 /* Answers a line: so many bytes, without a newline and a carriage return at their end. They may be any bytes; UTF-8 is
  * what the grammar knows. The answer is what became of the line; poincare_text has its text.
- * `:after K` may be asked any number of times; the program heeds two. */
+ * `:after K` may interrupt any number of lines; in the program it may interrupt two. */
 uint32_t poincare_line(poincare_session *session, const char *line, size_t length);
 
 /* The same, but that the line is interrupted where it needs more than so many checks, too. There is one check for each
