@@ -15,7 +15,8 @@ from timed import Row
 
 HERE = os.path.join(os.path.dirname(os.path.abspath(__file__)), "rationals_beside")
 CRATES = os.path.join(HERE, "..", "..", "crates")
-NEEDED = {"calc_terms": "", "rational128": "calc_terms", "square_parts": "rational128 calc_terms"}
+CRATES_LIST = os.path.join(CRATES, "..", "crates.txt")
+NEEDED = ("calc_terms", "calc_algebra", "rational128", "square_parts")
 PAIRS = 100 * 64 * 64
 SPLITS = {10: 200000, 20: 100000, 40: 5000, 64: 5000, 120: 2000, 127: 2000}
 
@@ -28,10 +29,9 @@ def build(folder):
     program = os.path.join(folder, "crates", "numbers_bench")
     os.makedirs(os.path.join(program, "src"))
     shutil.copy(os.path.join(HERE, "program.txt"), os.path.join(program, "src", "main.rt"))
-    with open(os.path.join(folder, "crates.txt"), "w") as file:
-        for name, below in NEEDED.items():
-            file.write(f"{name}: {below}\n")
-        file.write(f"numbers_bench: {' '.join(NEEDED)}\n")
+    with open(CRATES_LIST) as listed, open(os.path.join(folder, "crates.txt"), "w") as file:
+        file.writelines(line for line in listed if line.partition(":")[0] in NEEDED)
+        file.write("numbers_bench: calc_terms rational128 square_parts\n")
     done = subprocess.run(["rt", "run"], cwd=program, capture_output=True, text=True)
     if done.returncode != 0:
         raise SystemExit(done.stdout[-4000:] + done.stderr[-4000:])

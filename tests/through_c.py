@@ -49,8 +49,8 @@ def prompt(*words, **how):
 
 
 def rows():
-    """The worked rows: those of the gate, and those that take a process. In the program `:after` is heeded twice, and in
-    the library as often as it is asked."""
+    """The worked rows: those of the gate, and those that take a process. In the program `:after` may interrupt two
+    lines, and in the library any number."""
     for words, lines, output in tables():
         yield words, lines, output.replace("no breaker", "after 0") if "no breaker" in output else output
     for given, output in BYTES:

@@ -52,7 +52,7 @@ pub fn same_is_respected()
     ensures raised { (n : ℕ) (v w : Surd) → Same v w → Same (surd_power v n) (surd_power w n) }
 {}
 
-/// Up to it, surds are a commutative ring.
+/// Up to it, sums and products of surds commute, products associate and distribute over sums, and 1 is neutral.
 #[tactic(auto, using(crate::proofs::SurdLaws::ring))]
 pub fn surds_are_a_ring()
     ensures sums_commute { (v w : Surd) → Same (v ++ w) (w ++ v) }

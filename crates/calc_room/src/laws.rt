@@ -61,7 +61,7 @@ pub fn numbers_are_small()
     ensures bytes { (gs : List ℕ) (t : Tree) → is_number t ≡ true → Spans gs (value t) → size t ≤ 96 * 2 ^ length gs - 48 }
 {}
 
-/// The same of a sum of any number of terms, as it stands while it is made.
+/// What spans it and how many bytes it has, of a sum of any number of terms, as it stands while it is made.
 pub fn partial_sums_are_small()
     ensures spanned { (gs : List ℕ) (ts : Trees) (v : Surd) → AreTerms ts → Rises (terms_of ts) → Same (terms_of ts) v → Spans gs v
         → Spans gs (terms_of ts) }

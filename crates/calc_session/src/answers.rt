@@ -18,11 +18,11 @@ pub enum Refusal {
     Syntax,
     /// The line's tree is over 64 deep, or is so once the names in it are replaced.
     Deep,
-    /// `ans` is neither stored nor forgotten.
+    /// `ans` can be neither stored nor forgotten.
     Reserved,
     /// The name is new, and 64 names are stored.
     NamesFull,
-    /// A node, or a tree that is copied whole, needs more bytes than are free in the pool.
+    /// A node, a stored tree that is copied, or a derivative needs more bytes than are free in the pool.
     Full { needed: u32, free: u32 },
     /// The operation on these operands does not fit.
     Overflow { op: Op, a: Rat, b: Rat },
@@ -30,7 +30,8 @@ pub enum Refusal {
     Interrupted { by: u32 },
     /// What is to be stored under the name holds it.
     Circular { name: Name },
-    /// The line begins like a command and is none, or what is to be calculated with is a store.
+    /// The line begins like a command and is none: its word is unknown, its text is a store, or a text behind `:solve` is not split
+    /// into equations.
     Command,
     /// What is to be expanded is no polynomial.
     NotPolynomial,

@@ -98,7 +98,7 @@ impl Session {
     }
 
     /// Draws the last answer: writes the rows of its picture, each with its newline as one piece. Its layout
-    /// stands in the pool for so long.
+    /// stands in the pool for so long, and the text of the last line is gone afterwards.
     pub fn draw<K: Sink>(&mut self, sink: &mut K) -> Result<(), DrawFault>
         ensures drawn { OnOk result (IsDrawn (rows_in self.old.state) (K.taken sink.old) (K.taken sink.new)) }
         ensures calm { OnOk result (IsCalm (K.faults sink.old) (K.faults sink.new)) }

@@ -44,7 +44,7 @@ pub fn write_refusal(text: &mut Text, refusal: Refusal)
     }
 }
 
-/// Appends the text of an answer that is Undef.
+/// Writes the text of an answer that is Undef.
 pub fn write_undef(text: &mut Text)
     requires empty { text.old.bytes ≡ [] }
     requires room { 256 ≤ text.old.capacity }

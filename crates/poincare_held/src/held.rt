@@ -142,8 +142,8 @@ impl Held {
         self.session.line(&DeepReducer, &mut self.watch, line)
     }
 
-    /// The same, but that so many checks pass at most. What `:after` planned before is over, and so is the count when
-    /// the line is answered.
+    /// The same, but that at most `checks` checks pass. When the line is answered the count is over, and so is what
+    /// `:after` planned before or in this line.
     pub fn line_within(&mut self, line: &[u8], checks: u64) -> LineAnswer
         ensures within { IsAnsweredWithin checks self.old line.now result self.new }
     {
@@ -163,7 +163,7 @@ impl Held {
         text.len()
     }
 
-    /// Draws the last answer to the front of `out`, as far as there is room.
+    /// Draws the last answer to the front of `out`, as far as there is room. The text of the last line is gone then.
     pub fn draw(&mut self, out: &mut [u8]) -> Drawn
         ensures drawn { IsDrawnOn (state_in self.old) result out.new }
         ensures state { state_in self.new ≡ state_in self.old }

@@ -20,8 +20,8 @@ use std::alloc::Global;
 /// The most bytes of one read.
 const PIECE_LIMIT: usize = 4096;
 
-/// Answers the lines of the source one by one, and writes the answers to the sink. The result is the
-/// status of the program.
+/// Answers the lines of the source one by one, and writes the answers to the sink; with `--gen N` it reads nothing,
+/// answers the lines of session N and writes their summary. The result is the status of the program.
 ///
 /// The breakers are polled as lines are calculated, and dropped when they have tripped.
 pub fn run<S: Source, K: Sink, B: Breaker>(

@@ -6,7 +6,7 @@ pub fn replaced_where_absent()
     ensures { StaysWhereAbsent }
 {}
 
-/// The names after a replacement are those of the tree that was put in, and the other names of the tree.
+/// A name after a replacement is one of the tree that was put in, or another name of the tree.
 pub fn names_of_replaced()
     ensures { NamesOfReplaced }
 {}
