@@ -8,11 +8,13 @@ change or an interruption, proves what has changed and what stands on it.
 usage: build.py ROOT WORD..
 """
 
+import contextlib
 import fcntl
 import hashlib
 import math
 import os
 import re
+import shlex
 import shutil
 import signal
 import subprocess
@@ -158,7 +160,8 @@ class Build:
     def stop(self, number, _):
         """Ends what was called, with what it started, and then this process."""
         for it in list(self.called):
-            os.killpg(it.pid, signal.SIGKILL)
+            with contextlib.suppress(ProcessLookupError):
+                os.killpg(it.pid, signal.SIGKILL)
         os._exit(128 + number)
 
     def is_kept(self, crate):
@@ -186,8 +189,8 @@ class Build:
         return self.waiting[crate.name] * self.lanes > LATE * left
 
     def jobs_for(self, found):
-        """The processes that the first of these crates gets, none where it has to wait. One that is late gets two, and waits for one
-        processor less."""
+        """The processes that the first of these crates gets, none where it has to wait. One that is late gets at least two, also where
+        no processor is free; then no other is begun until one is."""
         free = self.lanes - sum(self.under_way.values())
         jobs = math.ceil(free / len(found))
         if free >= 0 and self.lanes > 1 and self.is_late(found[0]):
@@ -218,7 +221,11 @@ class Build:
 
     def work(self):
         while taken := self.take():
-            status = self.prove(*taken)
+            try:
+                status = self.prove(*taken)
+            except OSError as error:
+                say(f"{taken[0].name}: {error}")
+                status = 1
             with self.changed:
                 self.note(taken[0], status)
                 self.changed.notify_all()
@@ -233,17 +240,25 @@ class Build:
         return not self.failed
 
 
-def newest_source(root):
-    """When a source of the program was last changed, in nanoseconds."""
-    sources = [root / "crates.txt", *(root / "crates").glob("*/src/**/*.rt")]
-    return max(it.stat().st_mtime_ns for it in sources)
+def note_sources(root, crates, noted):
+    """Notes the files that the program is built of, as words of a function of the script at the top."""
+    files = [it for crate in crates.values() for it in sorted((crate.folder / "src").rglob("*.rt"))]
+    names = ["crates.txt", *(str(it.relative_to(root)) for it in files)]
+    fresh = noted.with_suffix(".new")
+    fresh.write_text(f"set -- {shlex.join(names)}\n")
+    # A start that reads it meanwhile finds the one before whole.
+    fresh.replace(noted)
 
 
-def is_built(root, program):
-    return program.is_file() and newest_source(root) <= program.stat().st_mtime_ns
+def is_built(root, program, noted):
+    """Whether the program is at least as new as all that it was built of, as the script asks."""
+    if not program.is_file() or not noted.is_file():
+        return False
+    built, names = program.stat().st_mtime_ns, shlex.split(noted.read_text())[2:]
+    return all((root / it).stat().st_mtime_ns <= built for it in names if (root / it).exists())
 
 
-def build(root, program, kit):
+def build(root, program, noted, kit):
     """Proves and builds the program; whether it stands then."""
     begun = time.time_ns()
     log = Path(tempfile.gettempdir()) / f"poincare-build.{os.getpid()}.log"
@@ -251,6 +266,7 @@ def build(root, program, kit):
     built.mkdir(exist_ok=True)
     say(f"the program is proved and built, which takes about a quarter of an hour on four processors; the log is {log}")
     made = Build(root, Kit(kit, built), program, log)
+    note_sources(root, made.crates, noted)
     for it in (signal.SIGTERM, signal.SIGINT, signal.SIGHUP):
         signal.signal(it, made.stop)
     if not made.run():
@@ -264,6 +280,7 @@ def build(root, program, kit):
 def main(root, *words):
     root = Path(root).resolve()
     program = root / "crates" / PROGRAM / "out" / PROGRAM
+    noted = program.parent / "sources"
     rt = shutil.which("rt")
     if not rt:
         say("the command rt is missing, which proves and builds the program; it is part of Rattle's kit")
@@ -275,7 +292,7 @@ def main(root, *words):
         except BlockingIOError:
             say("another start in this folder proves and builds the program; waiting for it")
             fcntl.flock(lock, fcntl.LOCK_EX)
-        if not is_built(root, program) and not build(root, program, Path(rt).resolve().parent.parent):
+        if not is_built(root, program, noted) and not build(root, program, noted, Path(rt).resolve().parent.parent):
             return 1
     os.execv(program, [str(program), *words])
 

@@ -1,11 +1,12 @@
 #!/usr/bin/env python3
-"""What the launcher says and does, tried in a small checkout of four crates with a kit of this test's own.
+"""What the launcher says and does, tried in a small checkout of five crates with a kit of this test's own.
 
 usage: tests/launcher.py
 The last line is 'N passed, M failed'.
 """
 
 import os
+import re
 import shutil
 import signal
 import subprocess
@@ -15,23 +16,31 @@ import time
 from pathlib import Path
 
 HERE = Path(__file__).resolve().parent.parent
-CRATES = {"low": "", "left": "low", "right": "low", "poincare": "left right"}
+CRATES = {"low": "", "left": "low", "right": "low", "poincare": "left right", "beside": "low"}
 
-# Proves and builds what it is asked for, as the kit's prover does: a crate only over the libraries that it names. It fails
-# on a crate that holds a file `wrong`, and takes as long as the file `slow` says.
+# Proves and builds what it is asked for, as the kit's prover does: a crate only over libraries that are whole. It fails on a
+# crate that holds a file `wrong`, and waits while there is a file `held`, but no longer than some half a minute.
 RATTLE = r"""#!/bin/sh
 for word; do
     case $last in
         --crate-name) name=$word ;;
-        --extern) case $word in *=*/out/libraries/*) [ -e "${word#*=}" ] || exit 2 ;; esac ;;
+        --extern) case $word in *=*/out/libraries/*) [ "$(cat "${word#*=}")" = whole ] || exit 2 ;; esac ;;
         -o) to=$word ;;
     esac
     last=$word
 done
 echo "build $name" >>"$CALLS"
-[ -e src/wrong ] && exit 1
-[ -e src/slow ] && sleep "$(cat src/slow)"
-touch "$to"
+echo part >"$to"
+if [ -e src/wrong ]; then
+    echo "$name is wrong"
+    exit 1
+fi
+left=300
+while [ -e held ] && [ "$left" -gt 0 ]; do
+    sleep 0.1
+    left=$((left - 1))
+done
+echo whole >"$to"
 echo "built $name" >>"$CALLS"
 """
 
@@ -46,11 +55,23 @@ echo "linked" >>"$CALLS"
 """
 
 
+class Lacking(Exception):
+    """A test cannot be run on this machine; the text says what it lacks."""
+
+
+def wait_until(holds, what):
+    """Waits until something holds, and fails where it does not come to that."""
+    end = time.monotonic() + 20
+    while not holds():
+        assert time.monotonic() < end, f"it does not come to: {what}"
+        time.sleep(0.05)
+
+
 class Checkout:
     """A checkout of the small crates, with the launcher of this repository."""
 
     def __init__(self, folder):
-        self.folder, self.calls = folder / "checkout", folder / "calls"
+        self.folder, self.calls, self.begun = folder / "checkout", folder / "calls", []
         for name in CRATES:
             (self.folder / "crates" / name / "src").mkdir(parents=True)
             self.source(name).write_text("//\n")
@@ -66,10 +87,22 @@ class Checkout:
         self.words = {**os.environ, "CALLS": str(self.calls), "TMPDIR": str(folder)}
         self.words["PATH"] = f"{self.bin}:{os.environ['PATH']}"
 
-    def begin(self, *words, program=None, cwd=None):
+    def begin(self, *words, program=None, cwd=None, stderr=subprocess.PIPE):
         program = program or self.folder / "poincare"
-        how = {"stdin": subprocess.PIPE, "stdout": subprocess.PIPE, "stderr": subprocess.PIPE, "text": True}
-        return subprocess.Popen([str(program), *words], env=self.words, cwd=cwd or self.folder, **how)
+        how = {"stdin": subprocess.PIPE, "stdout": subprocess.PIPE, "stderr": stderr, "text": True}
+        self.begun.append(subprocess.Popen([str(program), *words], env=self.words, cwd=cwd or self.folder, **how))
+        return self.begun[-1]
+
+    def end(self):
+        """Ends the starts that still run."""
+        for begun in self.begun:
+            if begun.poll() is None:
+                begun.terminate()
+                try:
+                    begun.wait(timeout=10)
+                except subprocess.TimeoutExpired:
+                    begun.kill()
+                    begun.wait()
 
     def start(self, *words, **how):
         """Starts the launcher and gives its status and what it wrote."""
@@ -79,6 +112,12 @@ class Checkout:
 
     def called(self):
         return self.calls.read_text().splitlines() if self.calls.exists() else []
+
+    def wait_for(self, call):
+        wait_until(lambda: call in self.called(), call)
+
+    def held(self, name):
+        return self.folder / "crates" / name / "held"
 
     def source(self, name, file=None):
         return self.folder / "crates" / name / "src" / (file or ("main.rt" if name == "poincare" else "lib.rt"))
@@ -101,12 +140,18 @@ def second_start_only_runs(at):
 
 
 def crates_stand_side_by_side(at):
+    free = int(re.search(r"MemAvailable:\s+(\d+)", Path("/proc/meminfo").read_text())[1]) * 1024
+    if len(os.sched_getaffinity(0)) < 2 or free < 6_500_000_000:
+        raise Lacking("it takes two processors, and 3 GB of free memory for each")
     for name in ("left", "right"):
-        at.source(name, "slow").write_text("1")
-    at.start()
-    called = at.called()
-    begun = [called.index("build left"), called.index("build right")]
-    assert len(os.sched_getaffinity(0)) < 2 or max(begun) < min(called.index("built left"), called.index("built right")), called
+        at.held(name).touch()
+    begun = at.begin()
+    at.wait_for("build left")
+    at.wait_for("build right")
+    assert not {"built left", "built right"} & set(at.called()), at.called()
+    for name in ("left", "right"):
+        at.held(name).unlink()
+    assert begun.communicate("1+1\n", timeout=60)[0] == "answered \n1+1\n"
 
 
 def missing_kit_is_named(at):
@@ -119,10 +164,17 @@ def missing_kit_is_named(at):
     assert (status, out) == (1, "") and "the command rt is missing" in err, (status, out, err)
 
 
+def missing_prover_is_named(at):
+    (at.bin / "rattle").unlink()
+    status, out, err = at.start()
+    assert (status, out) == (1, "") and "poincare: low: " in err and "poincare: not proved: low; see " in err, (status, out, err)
+
+
 def failed_proof_is_named(at):
     at.source("left", "wrong").write_text("")
     status, out, err = at.start()
     assert (status, out) == (1, "") and "poincare: not proved: left; see " in err, (status, out, err)
+    assert "left is wrong" in Path(err.rpartition("see ")[2].strip()).read_text(), err
     assert "build poincare" not in at.called()
     at.source("left", "wrong").unlink()
     assert at.start()[0] == 0
@@ -138,13 +190,47 @@ def changed_source_is_built_anew(at):
     assert [it for it in at.called()[before:] if it.startswith("build ")] == ["build right", "build poincare"], at.called()
 
 
+def added_source_is_built_anew(at):
+    at.start()
+    before = len(at.called())
+    time.sleep(0.01)
+    at.source("right", "more.rt").write_text("//\n")
+    at.source("right").write_text("mod more;\n")
+    assert at.start()[0] == 0
+    between = len(at.called())
+    assert [it for it in at.called()[before:] if it.startswith("build ")] == ["build right", "build poincare"], at.called()
+    time.sleep(0.01)
+    at.source("right", "more.rt").write_text("// changed\n")
+    assert at.start()[0] == 0
+    assert [it for it in at.called()[between:] if it.startswith("build ")] == ["build right", "build poincare"], at.called()
+
+
+def source_beside_the_program_builds_nothing(at):
+    at.start()
+    before = at.called()
+    time.sleep(0.01)
+    at.source("beside").write_text("// changed\n")
+    assert at.start() == (0, "answered \n1+1\n", ""), at.start()
+    assert at.called() == before and "build beside" not in before, before
+
+
+def changed_proof_alone_builds_nothing(at):
+    (at.folder / "crates" / "low" / "proofs").mkdir()
+    at.start()
+    before = at.called()
+    (at.folder / "crates" / "low" / "proofs" / "Lib.antt").write_text("-- new\n")
+    assert at.start() == (0, "answered \n1+1\n", ""), at.start()
+    assert at.called() == before, at.called()
+
+
 def changed_proof_below_is_proved_with_all_above(at):
     (at.folder / "crates" / "low" / "proofs").mkdir()
     (at.folder / "crates" / "low" / "proofs" / "Lib.antt").write_text("-- changed\n")
     at.start()
     before = len(at.called())
     (at.folder / "crates" / "low" / "proofs" / "Lib.antt").write_text("-- changed again\n")
-    at.source("low").write_text("// changed\n")
+    time.sleep(0.01)
+    at.source("poincare").write_text("// changed\n")
     assert at.start()[0] == 0
     begun = [it for it in at.called()[before:] if it.startswith("build ")]
     assert sorted(begun) == ["build left", "build low", "build poincare", "build right"], begun
@@ -155,8 +241,10 @@ def symbolic_link_is_followed(at):
     folder.mkdir()
     link.symlink_to("checkout/poincare")
     (folder / "second").symlink_to("../link")
+    (folder / "third").symlink_to(folder / "second")
     assert at.start(program=folder / "second", cwd="/")[:2] == (0, "answered \n1+1\n")
     assert at.start("x", program=link, cwd=folder) == (0, "answered x\n1+1\n", "")
+    assert at.start("y", program="./third", cwd=folder) == (0, "answered y\n1+1\n", "")
 
 
 def other_folder_serves(at):
@@ -165,26 +253,31 @@ def other_folder_serves(at):
 
 
 def two_starts_build_once(at):
-    at.source("low", "slow").write_text("1")
+    at.held("low").touch()
     first = at.begin()
-    time.sleep(0.5)
-    second = at.begin()
+    at.wait_for("build low")
+    told = at.folder.parent / "told"
+    with told.open("w") as stderr:
+        second = at.begin(stderr=stderr)
+    wait_until(lambda: "another start in this folder" in told.read_text(), "the second start waits, and says so")
+    at.held("low").unlink()
     said = [it.communicate("1+1\n", timeout=60) for it in (first, second)]
     assert [it[0] for it in said] == ["answered \n1+1\n"] * 2, said
-    assert "another start in this folder" in said[1][1], said
     assert at.called().count("build low") == 1 and at.called().count("build poincare") == 1, at.called()
 
 
 def interrupted_start_is_carried_on(at):
-    at.source("right", "slow").write_text("20")
+    at.held("right").touch()
     begun = at.begin()
-    while "built left" not in at.called():
-        time.sleep(0.1)
+    at.wait_for("built left")
+    at.wait_for("build right")
     begun.send_signal(signal.SIGTERM)
     begun.communicate(timeout=10)
     assert begun.returncode == 143, begun.returncode
-    assert "build poincare" not in at.called()
-    at.source("right", "slow").unlink()
+    at.held("right").unlink()
+    # A proof that were still under way would end now.
+    time.sleep(0.5)
+    assert not {"built right", "build poincare"} & set(at.called()), at.called()
     before = len(at.called())
     assert at.start()[0] == 0
     assert [it for it in at.called()[before:] if it.startswith("build ")] == ["build right", "build poincare"], at.called()
@@ -195,8 +288,12 @@ TESTS = [
     second_start_only_runs,
     crates_stand_side_by_side,
     missing_kit_is_named,
+    missing_prover_is_named,
     failed_proof_is_named,
     changed_source_is_built_anew,
+    added_source_is_built_anew,
+    source_beside_the_program_builds_nothing,
+    changed_proof_alone_builds_nothing,
     changed_proof_below_is_proved_with_all_above,
     symbolic_link_is_followed,
     other_folder_serves,
@@ -206,15 +303,21 @@ TESTS = [
 
 
 def main():
-    failed = 0
+    passed = failed = 0
     for test in TESTS:
         with tempfile.TemporaryDirectory() as folder:
+            at = Checkout(Path(folder))
             try:
-                test(Checkout(Path(folder)))
-            except (AssertionError, subprocess.TimeoutExpired) as why:
+                test(at)
+                passed += 1
+            except Lacking as lack:
+                print(f"not run: {test.__name__}: {lack}")
+            except Exception as why:
                 failed += 1
-                print(f"{test.__name__}: {why}")
-    print(f"{len(TESTS) - failed} passed, {failed} failed")
+                print(f"{test.__name__}: {type(why).__name__}: {why}")
+            finally:
+                at.end()
+    print(f"{passed} passed, {failed} failed")
     return 1 if failed else 0
 
 
