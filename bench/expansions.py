@@ -47,12 +47,17 @@ def row_of(name, times):
     return Row(name, own * 1e6, "µs", ratios)
 
 
+def is_refused(command, line):
+    """Whether a line is refused by the program with these words."""
+    return subprocess.run(command, input=line.encode(), stdout=subprocess.PIPE, check=True).stdout.startswith(b"!")
+
+
 def greatest(program, terms):
     """The highest power of a sum that the default pool holds."""
     held = 0
     for exponent in range(1, GREATEST_EXPONENT + 1):
         line = f":expand ({terms})^{exponent}\n"
-        if subprocess.run([program], input=line.encode(), stdout=subprocess.PIPE).stdout.startswith(b"!"):
+        if is_refused([program], line):
             break
         held = exponent
     return held
@@ -64,6 +69,8 @@ def rows(program, runs):
     bare = {name: least(words, first, runs) for name, words, first, _ in told}
     totals, slower = dict.fromkeys(bare, 0), 0
     for line in map(with_signs, LINES):
+        if is_refused(told[0][1], told[0][3](line)):
+            raise SystemExit(f"{line} is not expanded")
         times = {}
         for name, words, first, asked in told:
             seconds = least(words, first + asked(line) * TIMES, runs) - bare[name]

@@ -16,6 +16,8 @@ def counted(program, words, text):
     """The instructions of one run."""
     command = ["valgrind", "--tool=callgrind", "--callgrind-out-file=/dev/null", program, *words]
     told = subprocess.run(command, stdin=as_input(text), stdout=subprocess.DEVNULL, stderr=subprocess.PIPE, text=True)
+    if told.returncode != 0:
+        raise SystemExit(f"{program} ended with {told.returncode}")
     return int(re.search(r"Collected : (\d+)", told.stderr)[1])
 
 

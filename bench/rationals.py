@@ -2,7 +2,7 @@
 unsigned __int128 where gcc is there, and Python's fractions.
 
 A small repository is made in a temporary folder, of copies of the crates and of the program that program.txt holds, and run with rt.
-Each number is the best of three runs.
+Each number is the best of three runs, but Python's, which is of one.
 """
 import os
 import shutil

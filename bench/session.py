@@ -1,7 +1,7 @@
 """The generated session of 2,000 lines, and the 1,750 of them that store nothing beside other programs.
 
-Each of the others is asked to clear roots from divisors and to join like roots: GiNaC's `ginsh`, `maxima`, and Python's
-`sympy`, as far as they are installed.
+Each of the others is asked for a normal form, as far as it is installed: GiNaC's `ginsh` by `normal`, which leaves roots in
+divisors; `maxima` by `ratsimp` and Python's `sympy` by `radsimp`, which clear them.
 """
 import shutil
 import sys

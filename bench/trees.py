@@ -17,5 +17,7 @@ def rows(program, runs):
     """Each line that `tree_bench` prints, as it stands."""
     for what, sizes in MEASURES.items():
         told = subprocess.run(["rt", "run", "--", what, *sizes], cwd=TOP / "crates" / "tree_bench", capture_output=True, text=True)
+        if told.returncode != 0:
+            raise SystemExit(told.stdout[-4000:] + told.stderr[-4000:])
         for line in told.stdout.splitlines():
             yield Row(f"{what}: {line.strip()}", None, "")

@@ -1,4 +1,4 @@
-"""Long lines of single kinds, each in a process of its own: its processor time, and that over the session's in the same run.
+"""Long lines of single kinds, each in a process of its own: its processor time, and the session's in the same run over it.
 
 A run that takes more than 30 seconds is broken off.
 """
@@ -64,7 +64,7 @@ def series():
 
 
 def rows(program, runs):
-    """The time of each line, the worst ones first."""
+    """The time of each line: of single ones, and then of each kind by its sizes."""
     session = least([program, "--gen", "1"], "", runs)
     yield Row("generated session", session * 1000, "ms")
     found = list(single_lines())

@@ -6,12 +6,18 @@ this machine says so, and counts as neither.
 """
 import os
 import pathlib
+import re
 import subprocess
 import sys
+import traceback
 from concurrent.futures import ThreadPoolExecutor
 
 TOP = pathlib.Path(__file__).resolve().parent.parent
 GREATEST_POOL = "--pool=524280"
+# Words of the scripts themselves, which name no program.
+OWN_WORDS = {"memory", "table"}
+# Seconds within which a run of the program has to end.
+LIMIT = 300
 
 
 class Lacking(Exception):
@@ -20,10 +26,14 @@ class Lacking(Exception):
 
 def asked_program():
     """The program that the script's first word names, or the launcher, once it has built the program."""
-    words = [word for word in sys.argv[1:] if "/" in word]
+    words = [word for word in sys.argv[1:] if word not in OWN_WORDS]
     program = pathlib.Path(words[0]).resolve() if words else TOP / "poincare"
-    if subprocess.run([program], stdin=subprocess.DEVNULL, stdout=subprocess.DEVNULL).returncode != 0:
-        raise SystemExit(f"the program {program} is not built, or does not run")
+    how = {"stdin": subprocess.DEVNULL, "stdout": subprocess.DEVNULL, "timeout": LIMIT if words else None}
+    try:
+        subprocess.run([program], check=True, **how)
+    except (OSError, subprocess.SubprocessError) as why:
+        print(f"the program {program} is not built, or does not run: {why}\n0 passed, 1 failed")
+        raise SystemExit(1) from None
     built = TOP / "crates" / "poincare" / "out" / "poincare"
     return program if words else built
 
@@ -31,10 +41,17 @@ def asked_program():
 PROGRAM = asked_program()
 
 
+def written_by(command, text, **how):
+    """The status of a command over a text, or over bytes, and what it writes to standard output and to standard error."""
+    given = text if isinstance(text, bytes) else text.encode()
+    done = subprocess.run(command, input=given, capture_output=True, timeout=LIMIT, **how)
+    return done.returncode, done.stdout.decode(), done.stderr.decode()
+
+
 def answers(lines, *words):
     """What the program writes, line by line."""
     text = "".join(line + "\n" for line in lines)
-    done = subprocess.run([PROGRAM, *words], input=text.encode(), stdout=subprocess.PIPE, check=True)
+    done = subprocess.run([PROGRAM, *words], input=text.encode(), stdout=subprocess.PIPE, check=True, timeout=LIMIT)
     return done.stdout.decode().splitlines()
 
 
@@ -52,13 +69,13 @@ def each(call, cases):
 
 
 def every(test, cases):
-    """Whether a test holds in each case; the first one where it does not is told."""
+    """Whether a test holds in each case, of which there is one at least; the first one where it does not is told."""
     cases = list(cases)
     for case, holds in zip(cases, each(test, cases)):
         if not holds:
             print("in", *case)
             return False
-    return True
+    return bool(cases)
 
 
 def are_answered(table, *words):
@@ -78,6 +95,17 @@ def answer_and_change(before, line, *words):
     return told[second - 1], told[: second - 1] == told[second:]
 
 
+def least_of(sizes, line):
+    """The least of these pools in which a line is answered as in the default one. None where it is not Full in each smaller
+    one and answered so in each greater one, or where some pool is not as it was."""
+    wanted = answers([line])[0]
+    told = list(each(lambda size: answer_and_change([], line, f"--pool={size}"), [(size,) for size in sizes]))
+    held = [given == wanted for given, _ in told]
+    least = held.index(True) if True in held else len(held)
+    full = all(given.startswith("! full needed ") for given, _ in told[:least])
+    return sizes[least] if True in held and full and all(held[least:]) and all(stays for _, stays in told) else None
+
+
 def is_interrupted_at_each_of(checks, line, before=()):
     """Whether a line is interrupted by each of so many checks, with the pool as it was, and answered where none is left."""
     wanted = answers([*before, line])[-1]
@@ -89,14 +117,6 @@ def is_interrupted_at_each_of(checks, line, before=()):
     return every(interrupts, [(after,) for after in range(checks + 1)])
 
 
-def checks_of(line, before=()):
-    """How many checks a line makes: the least number after which an armed breaker no longer interrupts it."""
-    for checks in range(1000):
-        if answers([*before, f":after {checks}", line])[-1] != "! interrupted":
-            return checks
-    raise ValueError(line)
-
-
 def run(checks):
     """Runs the checks and tells how they ended; the status of the script."""
     passed, failed = 0, 0
@@ -106,6 +126,9 @@ def run(checks):
         except Lacking as lack:
             print(f"not run: {check.__name__}: {lack}")
             continue
+        except Exception:
+            traceback.print_exc(file=sys.stdout)
+            holds = False
         passed, failed = passed + bool(holds), failed + (not holds)
         if not holds:
             print(f"failed: {check.__name__}: {check.__doc__}")
@@ -120,3 +143,28 @@ def sympy():
     except ImportError:
         raise Lacking("Python's sympy is not installed") from None
     return module
+
+
+def tokens(text):
+    return re.findall(r"[0-9]+(?:\.[0-9]+)?|[A-Za-z][A-Za-z0-9]*|\*\*|\S", text)
+
+
+def names_in(text):
+    return {token for token in tokens(text) if token[0].isalpha()}
+
+
+def as_python(text):
+    """A text as sympy reads it: factors side by side are a product of their own."""
+    given = tokens(text.replace("×", "*").replace("^", "**"))
+    words = []
+    for before, token in zip([""] + given, given):
+        beside = before and (before[-1].isalnum() or before == ")")
+        if beside and (token[0].isalpha() or token == "("):
+            words.append("*")
+        words.append(token)
+    return " ".join(words)
+
+
+def parsed(text, symbols):
+    """A text as sympy has it, with these symbols for its names."""
+    return sympy().sympify(as_python(text), locals=symbols, rational=True)

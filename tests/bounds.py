@@ -13,7 +13,8 @@ from asked import GREATEST_POOL, TOP, answer_and_change, answers, every, run
 TABLE = TOP / "tests" / "bounds.txt"
 GREATEST_SIZE = 524280
 FEW_BITS = 124
-SMALL_POOLS = [("7", "7", 1064), ("1/3+1/6", "1/2", 7208), ("1/(√(2)+√(3))", "-√(2)+√(3)", 28712), ("(√(2)+√(3))^4", "49+20×√(6)", 28712)]
+# Each with its answer and its room: 1,024 bytes for each node, times 2 for each root.
+SMALL_POOLS = [("7", "7", 1024), ("1/3+1/6", "1/2", 7168), ("1/(√(2)+√(3))", "-√(2)+√(3)", 28672), ("(√(2)+√(3))^4", "49+20×√(6)", 28672)]
 BEYOND = [
     ("x", "x", "--pool=200"),
     ("√(2)+√(3)+√(5)+√(7)+√(11)+√(13)+√(17)", "√(2)+√(3)+√(5)+√(7)+√(11)+√(13)+√(17)"),
@@ -58,13 +59,14 @@ def check_both():
 
 
 def check_small_pools():
-    """In pools of every size up to what suffices, a line is answered or is Full, with all bytes as at opening."""
+    """In pools of every size up to its room, a line is answered or is Full, with all bytes as at opening; with its room free it
+    is answered."""
 
-    def is_held(line, wanted, enough, size):
+    def is_held(line, wanted, room, size):
         given, stays = answer_and_change([], line, f"--pool={size}")
-        return given == wanted or size < enough and given.startswith("! full needed ") and stays
+        return given == wanted or size < pool_of(room) and given.startswith("! full needed ") and stays
 
-    return all(every(is_held, [(*row, size) for size in range(64, row[2] + 8, 8)]) for row in SMALL_POOLS)
+    return all(every(is_held, [(*row, size) for size in range(64, pool_of(row[2]) + 8, 8)]) for row in SMALL_POOLS)
 
 
 def check_beyond():

@@ -9,13 +9,16 @@
 # failed.
 root=$(cd "$(dirname "$0")/.." && pwd)
 program=${1:-$root/crates/poincare/out/poincare}
-ARCHIVE=${ARCHIVE:-$root/crates/poincare_c/out/libpoincare_c.a}
+own=$root/crates/poincare_c/out/libpoincare_c.a
+ARCHIVE=${ARCHIVE:-$own}
 export ARCHIVE
 folder=$(mktemp -d) || exit 1
 trap 'rm -rf "$folder"' EXIT
+trap 'exit 1' HUP INT TERM
 passed=0
 failed=0
 strict="-std=c11 -Wall -Wextra -pedantic -Werror"
+limited="timeout 900"
 
 has() {
     command -v "$1" >/dev/null
@@ -68,8 +71,8 @@ compiled() {
 built() {
     suffix=$1
     shift
-    for name in slots memory threads program; do
-        ${CC:-gcc} $strict "$@" -I"$root/c" -o "$folder/$name$suffix" "$root/tests/c/$name.c" "$out/libpoincare.a" -pthread ||
+    for test in slots memory threads program; do
+        ${CC:-gcc} $strict "$@" -I"$root/c" -o "$folder/$test$suffix" "$root/tests/c/$test.c" "$out/libpoincare.a" -pthread ||
             return 1
     done
     ${CC:-gcc} $strict "$@" -I"$root/c" -o "$folder/example$suffix" "$root/c/example.c" "$root/c/heap.c" "$ARCHIVE" -pthread
@@ -86,11 +89,11 @@ has_symbols() {
 }
 
 tells_example() {
-    "$@" >"$folder/told" && diff "$folder/told" "$root/tests/c/example.txt"
+    $limited "$@" >"$folder/told" && diff "$folder/told" "$root/tests/c/example.txt"
 }
 
 tells_hundred() {
-    "$@" <"$root/tests/hundred-lines.txt" >"$folder/told" && diff "$folder/told" "$root/tests/hundred-answers.txt"
+    $limited "$@" <"$root/tests/hundred-lines.txt" >"$folder/told" && diff "$folder/told" "$root/tests/hundred-answers.txt"
 }
 
 # What is installed is found by pkg-config, or by its path, and works.
@@ -109,11 +112,17 @@ if ! has "${CC:-gcc}" || ! has make; then
     ends
 fi
 if [ ! -f "$ARCHIVE" ]; then
+    if [ "$ARCHIVE" != "$own" ]; then
+        echo "failed: there is no $ARCHIVE"
+        failed=1
+        ends
+    fi
     if ! has rt; then
         lacks "all of it" "$ARCHIVE is not built, and the command rt, which builds it, is missing"
         ends
     fi
-    tried "the archive" make -s -C "$root/c" "$ARCHIVE"
+    # The rule of c/Makefile names it by this path.
+    tried "the archive" make -s -C "$root/c" ../crates/poincare_c/out/libpoincare_c.a
     [ -f "$ARCHIVE" ] || ends
 fi
 out=$folder/out
@@ -141,17 +150,17 @@ for compiler in g++ clang++; do
 done
 
 tried "the example" tells_example "$folder/example"
-tried "slots" "$folder/slots"
-tried "memory" "$folder/memory"
-tried "threads" "$folder/threads"
+tried "slots" $limited "$folder/slots"
+tried "memory" $limited "$folder/memory"
+tried "threads" $limited "$folder/threads"
 
 sanitizers="-fsanitize=address,undefined -fno-sanitize-recover=all"
 if echo 'int main(void) { return 0; }' | ${CC:-gcc} -x c $sanitizers -o "$folder/nothing" - 2>"$folder/said"; then
     tried "the sanitized tests are built" built .sanitized -O1 -g $sanitizers
     tried "the example, sanitized" tells_example "$folder/example.sanitized"
-    tried "slots, sanitized" "$folder/slots.sanitized"
-    tried "memory, sanitized" "$folder/memory.sanitized" 1000
-    tried "threads, sanitized" "$folder/threads.sanitized"
+    tried "slots, sanitized" $limited "$folder/slots.sanitized"
+    tried "memory, sanitized" $limited "$folder/memory.sanitized" 1000
+    tried "threads, sanitized" $limited "$folder/threads.sanitized"
     tried "a hundred lines, sanitized" tells_hundred "$folder/program.sanitized"
     tried "a hundred lines in one call, sanitized" tells_hundred "$folder/program.sanitized" --whole
 else
@@ -161,9 +170,9 @@ fi
 if has valgrind; then
     valgrind="valgrind -q --leak-check=full --show-leak-kinds=all --errors-for-leak-kinds=all --error-exitcode=9"
     tried "the example under valgrind" tells_example $valgrind "$folder/example"
-    tried "slots under valgrind" $valgrind "$folder/slots"
-    tried "memory under valgrind" $valgrind "$folder/memory" 100
-    tried "threads under valgrind" $valgrind "$folder/threads" 10
+    tried "slots under valgrind" $limited $valgrind "$folder/slots"
+    tried "memory under valgrind" $limited $valgrind "$folder/memory" 100
+    tried "threads under valgrind" $limited $valgrind "$folder/threads" 10
     tried "a hundred lines under valgrind" tells_hundred $valgrind "$folder/program"
     tried "a hundred lines in one call under valgrind" tells_hundred $valgrind "$folder/program" --whole
 else

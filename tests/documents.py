@@ -4,7 +4,7 @@
 A clause is cited in code marks as `function: clause` or `function: clause, clause`, a method as `Type::method: clause`, and
 what a trait or a type states of itself as `Type: fact`. In the README of a crate such a clause stands in that crate; so it does
 in a row of a table whose first cell links to a crate's README; elsewhere in some crate. What is called a law is a function
-there, and a name in code marks with a `_` or a capital in front is declared there. Each public item of a crate is named in its
+there, and a name in code marks with a `_` or a capital in front occurs there. Each public item of a crate is named in its
 README, in code marks. A file that is named or linked to is there. Each crate of crates.txt stands in one of the tables of
 docs/ARCHITECTURE.md, in the same order, and docs/crates.svg has the arrows that docs/crates.py draws.
 

@@ -7,12 +7,13 @@ The built program is run. With the word `memory` its sources are run, too, by `r
 which takes half an hour.
 """
 import os
+import shutil
 import subprocess
 import sys
 import tempfile
 import time
 
-from asked import PROGRAM, TOP
+from asked import PROGRAM, TOP, Lacking
 from asked import run as run_checks
 
 USAGE = b"usage: poincare"
@@ -59,9 +60,10 @@ def reader_gone():
 def reader_goes():
     """The reader goes after the first answer."""
     child = subprocess.Popen([PROGRAM], stdin=subprocess.PIPE, stdout=subprocess.PIPE, stderr=subprocess.PIPE)
+    os.set_blocking(child.stdout.fileno(), False)
     child.stdin.write(b"1+1\n")
     child.stdin.flush()
-    first = child.stdout.readline()
+    first = text_within(child.stdout, 10)
     child.stdout.close()
     _, errors = child.communicate(b"2+2\n", timeout=60)
     return first == b"2\n" and child.returncode == 4 and not errors
@@ -129,16 +131,20 @@ def words_refused():
 
 # ---- memory
 
-def refused_memory(words):
-    """From the first request on, one refused request a run: status 5, until a run makes no such request. That one is
-    as ever, or takes longer than `rt try` waits."""
+ANSWERED = "run=ended status=0 "
+
+
+def refused_memory(words, ends=ANSWERED):
+    """From the first request on, one refused request a run: status 5, until a run makes no such request and ends as ever."""
+    if not shutil.which("rt"):
+        raise Lacking("the kit's command rt is missing")
     for request in range(1, MOST_REQUESTS):
         done = subprocess.run(
             ["rt", "try", "--fail-alloc", str(request), "--", *words],
             cwd=TOP / "crates" / "poincare", input=b"", capture_output=True, timeout=900)
         last = (done.stdout + done.stderr).decode(errors="replace").strip().splitlines()[-1]
         if not last.startswith("run=ended status=5 "):
-            return request > 4 and last.startswith(("run=ended status=0 ", "run=no-answer"))
+            return request > 4 and last.startswith(ends)
     return False
 
 
@@ -151,7 +157,8 @@ def memory_refused_at_words():
 
 
 def memory_refused_in_generated_session():
-    return refused_memory(["--pool", "64", "--gen", "1"])
+    """Where nothing is refused, it may take longer than `rt try` waits."""
+    return refused_memory(["--pool", "64", "--gen", "1"], (ANSWERED, "run=no-answer"))
 
 
 CHECKS = [

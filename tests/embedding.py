@@ -4,7 +4,8 @@
     tests/embedding.py
 
 A block of code is a file, whose name stands before it, or else stands in the example for C. Commands are run at the top of
-a folder that has the files, and the block of text behind a program is what it prints. The library has to be built.
+a folder that has the files, and the block of text behind a program is what it prints. The archive of poincare_c has to be
+built, or another one named by ARCHIVE.
 """
 import os
 import pathlib
@@ -18,6 +19,8 @@ TOP = pathlib.Path(__file__).resolve().parent.parent
 PAGE = TOP / "docs" / "EMBEDDING.md"
 BLOCK = re.compile(r"^```(\w+)\n(.*?)^```$", re.M | re.S)
 NAMED = re.compile(r"`([\w/.]+\.(?:c|rt))`[^`]*\Z")
+# Seconds within which each command has to end.
+LIMIT = 600
 
 
 def blocks():
@@ -31,8 +34,12 @@ def blocks():
 
 
 def printed(command, folder, **how):
-    done = subprocess.run(command, cwd=folder, stdout=subprocess.PIPE, stderr=subprocess.STDOUT, text=True, **how)
-    return done.stdout if done.returncode == 0 else f"status {done.returncode}\n{done.stdout}"
+    """Whether a command ends with status 0, and what it prints."""
+    try:
+        done = subprocess.run(command, cwd=folder, stdout=subprocess.PIPE, stderr=subprocess.STDOUT, text=True, timeout=LIMIT, **how)
+    except subprocess.TimeoutExpired:
+        return False, f"no end within {LIMIT} seconds"
+    return done.returncode == 0, done.stdout
 
 
 class Samples:
@@ -49,8 +56,8 @@ class Samples:
             print(f"failed: {what}\n{shown}")
 
     def run_c(self, commands, wanted):
-        shown = printed(["sh", "-e", "-c", commands], self.folder)
-        self.note(commands, shown.endswith(wanted), shown)
+        ended, shown = printed(["sh", "-e", "-c", commands], self.folder)
+        self.note(commands, ended and shown.endswith(wanted), shown)
 
     def run_rattle(self, program, line, wanted):
         """In a copy of the sources with one more crate, without its proof."""
@@ -64,8 +71,8 @@ class Samples:
         crate = copy / "crates" / line.split(":")[0]
         (crate / "src").mkdir(parents=True)
         (crate / "src" / "main.rt").write_text(program)
-        shown = printed(["rt", "try"], crate, stdin=subprocess.DEVNULL)
-        self.note("the sample in Rattle", wanted in shown, shown[-2000:])
+        ended, shown = printed(["rt", "try"], crate, stdin=subprocess.DEVNULL)
+        self.note("the sample in Rattle", ended and wanted in shown, shown[-2000:])
 
     def run(self):
         found = list(blocks())
@@ -86,8 +93,8 @@ class Samples:
                 self.note("a piece of c/example.c", body in example, body)
             elif language == "python":
                 command = [sys.executable, "-c", body]
-                shown = printed(command, TOP / "python")
-                self.note("the sample in Python", shown == wanted_behind(at), shown)
+                ended, shown = printed(command, TOP / "python")
+                self.note("the sample in Python", ended and shown == wanted_behind(at), shown)
             elif language == "sh":
                 if found[at + 1 : at + 2] and found[at + 1][0] == "text":
                     printed_by_c = found[at + 1][1]
@@ -97,13 +104,16 @@ class Samples:
 def main():
     with tempfile.TemporaryDirectory() as name:
         folder = pathlib.Path(name)
-        for part in ("c", "python"):
-            os.symlink(TOP / part, folder / part)
+        # A copy is built: nothing is left in the checkout, and two runs at once are not in each other's way.
+        shutil.copytree(TOP / "c", folder / "c", ignore=shutil.ignore_patterns("out"))
+        os.symlink(TOP / "python", folder / "python")
+        os.environ.setdefault("ARCHIVE", str(TOP / "crates" / "poincare_c" / "out" / "libpoincare_c.a"))
+        os.environ.setdefault("POINCARE_LIBRARY", str(folder / "c" / "out" / "libpoincare.so"))
         samples = Samples(folder)
         samples.run()
     failed = samples.results.count(False)
     print(f"{len(samples.results) - failed} passed, {failed} failed")
-    return 1 if failed else 0
+    return 0 if samples.results and not failed else 1
 
 
 if __name__ == "__main__":

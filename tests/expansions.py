@@ -8,9 +8,8 @@ code. Those of a single line are compared with what `sympy` expands, too.
 """
 import sys
 
-from asked import GREATEST_POOL, answer_and_change, answers, are_answered, each, is_interrupted_at_each_of, pool_and_bytes, run, sessions
-from asked import sympy as installed_sympy
-from solutions import names_in, parsed
+from asked import GREATEST_POOL, answer_and_change, answers, are_answered, each, is_interrupted_at_each_of, names_in, parsed
+from asked import pool_and_bytes, run, sessions, sympy as installed_sympy
 
 TABLE = "expansions.txt"
 COMMAND = ":expand "
@@ -32,13 +31,13 @@ LINES = {
     "(a+b)×(c-d)": (7, 71_680),
 }
 
-# Lines of one polynomial each.
-ALIKE = [
-    ["(x+1)^2", "1+2x+x^2", "x^2+x+x+1", "(1+x)×(x+1)", "(-x-1)^2", "(x+1)^3-x×(x+1)^2"],
-    ["x×y", "y×x", "x×y×2/2", "((x+y)^2-(x-y)^2)/4"],
-    ["0", "x-x", "0×y", "(a-b)×(a+b)-a^2+b^2"],
-    ["a/2+b/3", "(3a+2b)/6", "b/3+a/2", "-(a/-2+b/(-3))"],
-]
+# Lines of one polynomial each, behind what it is answered.
+ALIKE = {
+    "1+2×x+x^2": ["(x+1)^2", "1+2x+x^2", "x^2+x+x+1", "(1+x)×(x+1)", "(-x-1)^2", "(x+1)^3-x×(x+1)^2"],
+    "x×y": ["x×y", "y×x", "x×y×2/2", "((x+y)^2-(x-y)^2)/4"],
+    "0": ["0", "x-x", "0×y", "(a-b)×(a+b)-a^2+b^2"],
+    "a/2+b/3": ["a/2+b/3", "(3a+2b)/6", "b/3+a/2", "-(a/-2+b/(-3))"],
+}
 
 
 def check_answers():
@@ -65,7 +64,7 @@ def check_meanings():
 
 def check_forms():
     """Lines of one polynomial are answered with the same bytes."""
-    return all(len(set(answers([COMMAND + line for line in lines]))) == 1 for lines in ALIKE)
+    return all(answers([COMMAND + line for line in lines]) == [wanted] * len(lines) for wanted, lines in ALIKE.items())
 
 
 def check_overflows():

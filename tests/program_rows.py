@@ -7,10 +7,9 @@ The rows that the gate runs stand in `crates/acceptance/src/tests/program_rows` 
 which it takes a process: bytes that are no rows of a text, words that are refused, and a hundred lines of all kinds.
 """
 import re
-import subprocess
 import sys
 
-from asked import PROGRAM, TOP, every, run
+from asked import PROGRAM, TOP, every, run, written_by
 
 TABLES = TOP / "crates" / "acceptance" / "src" / "tests" / "program_rows"
 USAGE = "usage: poincare [--pool N] [--interrupt K] [--draw] [--gen N]\n"
@@ -67,9 +66,7 @@ def session_of(rows):
 
 
 def written(words, text):
-    given = text if isinstance(text, bytes) else text.encode()
-    done = subprocess.run([PROGRAM, *words], input=given, capture_output=True)
-    return done.returncode, done.stdout.decode(), done.stderr.decode()
+    return written_by([PROGRAM, *words], text)
 
 
 def check_tables():

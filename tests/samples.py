@@ -8,10 +8,12 @@ alike, lines that are none, and pictures. With the word `table` it writes the se
 The last line says how many samples passed and failed; the status is 1 where one failed.
 """
 
+import itertools
 import pathlib
 import re
-import subprocess
 import sys
+
+from asked import PROGRAM, written_by
 
 TOP = pathlib.Path(__file__).resolve().parent.parent
 
@@ -21,13 +23,14 @@ def cells_of(row):
 
 
 def rows_under(text, head):
-    """The rows of the table whose first row has these cells."""
+    """The rows of all tables whose first row has these cells; there is one at least."""
     lines = text.splitlines()
-    at = next(i for i, line in enumerate(lines) if line.startswith("|") and cells_of(line) == head)
-    for line in lines[at + 2:]:
-        if not line.startswith("|"):
-            return
-        yield cells_of(line)
+    heads = [at for at, line in enumerate(lines) if line.startswith("|") and cells_of(line) == head]
+    if not heads:
+        raise ValueError(f"no table {head}")
+    for at in heads:
+        for line in itertools.takewhile(lambda it: it.startswith("|"), lines[at + 2:]):
+            yield cells_of(line)
 
 
 def sessions_of(text):
@@ -36,8 +39,9 @@ def sessions_of(text):
         words = re.search(r"with `([^`]*)`", lines)
         said = re.match(r"`([^`]*)`", answers)[1].split(" ; ")
         asked = re.match(r"`([^`]*)`", lines)[1].split(" ; ")
-        if "three times" in answers:
-            said = said * 3
+        for remark, times in ("twice", 2), ("three times", 3):
+            if remark in answers:
+                said = said * times
         yield words[1].split() if words else [], asked, said
 
 
@@ -71,10 +75,8 @@ def pictures_of(text):
 
 
 def written(words, lines):
-    from asked import PROGRAM
-
-    done = subprocess.run([PROGRAM, *words], input="".join(line + "\n" for line in lines).encode(), capture_output=True, check=False)
-    return done.returncode, done.stdout.decode().splitlines()
+    status, output, _ = written_by([PROGRAM, *words], "".join(line + "\n" for line in lines))
+    return status, output.splitlines()
 
 
 def samples():
@@ -87,8 +89,9 @@ def samples():
     for line, refusal in refused_of(language):
         yield [], [line], [refusal]
     for line, other in alike_of(language):
-        _, answers = written([], [other])
-        yield [], [line], answers
+        status, answers = written([], [other])
+        is_read = status == 0 and len(answers) == 1 and not answers[0].startswith("!")
+        yield [], [line], answers if is_read else [f"what {other} is answered"]
 
 
 def table():

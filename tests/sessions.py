@@ -9,15 +9,16 @@ has lines that are deep and wide at once, in the same form. The answers come fro
 import sys
 
 from asked import (
-    GREATEST_POOL, answer_and_change, answers, are_answered, checks_of, every, is_interrupted_at_each_of, run, sessions,
+    GREATEST_POOL, answer_and_change, answers, are_answered, every, is_interrupted_at_each_of, run, sessions,
 )
 
 STORES = ["x+1→y", "5→x", "y", "√(8)→r", "r×z", "ans/r→y", "(x+√(2))^2→x", "z→x", "x+y+r"]
-LINES = [
-    "1", "-x", "1+2+3", "2^10", "1/3+1/6", "√(8)+√(18)", "1/(√(2)+√(3))", "x+√(2)×x", "(x×y)^2/x", "x^2×x^-2",
-    "(1+√(2))^3", "x^(1/2)", "4^(3/2)", "1/0", "√(-1)", "(x+1)-(x+1)", "2x(x+1)-2x^2", "ans+1→k", "√(√(x))", "-a-b",
-]
-MOST_CHECKS = 100
+# Each with the nodes of its tree.
+LINES = {
+    "1": 1, "-x": 2, "1+2+3": 4, "2^10": 3, "1/3+1/6": 7, "√(8)+√(18)": 5, "1/(√(2)+√(3))": 7, "x+√(2)×x": 6,
+    "(x×y)^2/x": 7, "x^2×x^-2": 8, "(1+√(2))^3": 6, "x^(1/2)": 5, "4^(3/2)": 5, "1/0": 3, "√(-1)": 3, "(x+1)-(x+1)": 7,
+    "2x(x+1)-2x^2": 12, "ans+1→k": 3, "√(√(x))": 3, "-a-b": 4,
+}
 
 
 def check_answers():
@@ -40,13 +41,8 @@ def check_pools():
 
 
 def check_interruptions():
-    """A line is interrupted by each of its checks, with the pool as it was, and answered where none is left."""
-
-    def is_interrupted(line):
-        checks = checks_of(line, ["3→x"])
-        return 0 < checks <= MOST_CHECKS and is_interrupted_at_each_of(checks, line, ["3→x"])
-
-    return all(map(is_interrupted, LINES))
+    """A line has one check for each node. It is interrupted by each, with the pool as it was, and answered where none is left."""
+    return all(is_interrupted_at_each_of(nodes, line, ["3→x"]) for line, nodes in LINES.items())
 
 
 def check_many_names():

@@ -6,10 +6,9 @@
 `tests/solutions.txt` has sessions as `tests/sessions.txt` has them; their answers come from a model apart from this
 code. The first 100 end with a system whose answer is compared as a set of solutions with that of `sympy`, too.
 """
-import re
 import sys
 
-from asked import answer_and_change, answers, are_answered, each, is_interrupted_at_each_of, run, sessions
+from asked import answers, are_answered, is_interrupted_at_each_of, least_of, names_in, parsed, run, sessions, tokens
 from asked import sympy as installed_sympy
 
 TABLE = "solutions.txt"
@@ -36,36 +35,11 @@ def check_answers():
 
 # ---- sets of solutions
 
-def tokens(text):
-    return re.findall(r"[0-9]+(?:\.[0-9]+)?|[A-Za-z][A-Za-z0-9]*|\S", text)
-
-
 def filled(text, stored):
     """A text with the stored texts in place of their names, the oldest first."""
     for name, tree in stored:
         text = " ".join(f"({tree})" if token == name else token for token in tokens(text))
     return text
-
-
-def names_in(text):
-    return {token for token in tokens(text) if token[0].isalpha()}
-
-
-def as_python(text):
-    """A text as sympy reads it: factors side by side are a product of their own."""
-    given = tokens(text.replace("×", "*").replace("^", "**"))
-    words = []
-    for before, token in zip([""] + given, given):
-        beside = before and (before[-1].isalnum() or before == ")")
-        if beside and (token[0].isalpha() or token == "("):
-            words.append("*")
-        words.append(token)
-    return " ".join(words)
-
-
-def parsed(text, symbols):
-    sympy = installed_sympy()
-    return sympy.sympify(as_python(text), locals=symbols, rational=True)
 
 
 def is_none(differences, symbols, given):
@@ -123,17 +97,12 @@ def check_sets():
 # ---- pools and checks
 
 def check_pools():
-    """In pools of every size a line is answered as in a large one, or is Full; the pool is as it was but for an empty
-    `ans`. Where 2,048 bytes are free it is answered."""
+    """In pools of every size a line is answered as in a large one, or is Full; the pool is as it was. Where 2,048 bytes are
+    free, besides the sixteen of an empty `ans`, it is answered."""
     for line in POOL_LINES:
-        wanted = answers([line])[0]
-        sizes = range(64, MOST_NEEDED + 256, 8)
-        told = list(each(lambda size: answer_and_change([], line, f"--pool={size}"), [(size,) for size in sizes]))
-        held = [given == wanted for given, _ in told]
-        least = held.index(True)
-        full = [given.startswith("! full needed ") for given, _ in told[:least]]
-        if not all(held[least:]) or not all(full) or not all(stays for _, stays in told) or sizes[least] - 16 >= MOST_NEEDED + 8:
-            print(line, "in a pool of", sizes[least])
+        least = least_of(range(64, MOST_NEEDED + 256, 8), line)
+        if least is None or least - 16 > MOST_NEEDED:
+            print(line, "in a pool of", least)
             return False
     return True
 

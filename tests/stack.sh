@@ -3,9 +3,10 @@
 # program. Each row has to be answered as it is with all the stack there is.
 # The last line says how many rows passed and failed; the status is 1 where one failed.
 program=${1:-$(dirname "$0")/../crates/poincare/out/poincare}
-[ -x "$program" ] || { echo "the program is not built: ./poincare builds it"; exit 1; }
+[ -x "$program" ] || { echo "the program is not built: ./poincare builds it"; echo "0 passed, 1 failed"; exit 1; }
 folder=$(mktemp -d) || exit 1
 trap 'rm -rf "$folder"' EXIT
+trap 'exit 1' HUP INT TERM
 size=96
 passed=0
 failed=0
@@ -15,16 +16,14 @@ repeat() {
     awk -v number="$1" -v text="$2" 'BEGIN { for (i = 0; i < number; i++) printf "%s", text }'
 }
 
-# row NAME WORD..: the lines of $folder/input, answered with so many KiB of stack
+# row NAME WORD..: the lines of $folder/input, answered to their end with so many KiB of stack, within five minutes
 row() {
     name=$1
     shift
-    "$program" "$@" <"$folder/input" >"$folder/wanted"
-    status=$?
-    (
-        ulimit -S -s "$size" && exec env -i "$program" "$@" <"$folder/input" >"$folder/written"
-    ) 2>/dev/null
-    if [ $? = "$status" ] && [ -s "$folder/written" ] && cmp -s "$folder/wanted" "$folder/written"; then
+    if timeout 300 "$program" "$@" <"$folder/input" >"$folder/wanted" &&
+        timeout 300 sh -c 'ulimit -S -s "$0" && exec env -i "$@"' "$size" "$program" "$@" \
+            <"$folder/input" >"$folder/written" 2>/dev/null &&
+        [ -s "$folder/written" ] && cmp -s "$folder/wanted" "$folder/written"; then
         passed=$((passed + 1))
     else
         failed=$((failed + 1))

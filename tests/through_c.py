@@ -17,13 +17,12 @@ import pty
 import re
 import resource
 import shutil
-import subprocess
 import sys
 import tempfile
 import threading
 import time
 
-from asked import TOP, Lacking, every, run
+from asked import TOP, Lacking, every, run, written_by as written
 from program_rows import BYTES, REFUSED, USAGE, tables
 
 PYTHON = TOP / "python"
@@ -35,13 +34,6 @@ PROGRAM, OTHER = [pathlib.Path(word).resolve() for word in sys.argv[1:3]]
 # Lines of which the second takes half a second in the greatest pool: fifty powers of a sum of eight roots.
 SLOW = ["+".join(f"√({prime})" for prime in (2, 3, 5, 7, 11, 13, 17, 19)) + "→t", "+".join(["t^12"] * 50)]
 GENERATED = [0, 1, 2, 7, 100, 65536, 65537, 123456, 4294967294, 4294967295]
-
-
-def written(command, text, **how):
-    """The status, the output and the errors of a command."""
-    given = text if isinstance(text, bytes) else text.encode()
-    done = subprocess.run(command, input=given, capture_output=True, **how)
-    return done.returncode, done.stdout.decode(), done.stderr.decode()
 
 
 def prompt(*words, **how):
@@ -142,7 +134,7 @@ def raises(error, call, *words):
 
 
 def in_thread(call):
-    """What a call gives, or raises, in another thread."""
+    """Whether a call raises RuntimeError in another thread."""
     found = []
     thread = threading.Thread(target=lambda: found.append(raises(RuntimeError, call)))
     thread.start()

@@ -89,8 +89,7 @@ static void *stop_each(void *unused) {
         while (atomic_load(&shared.round) < round)
             nanosleep(&(struct timespec){.tv_nsec = 1000}, NULL);
         nanosleep(&(struct timespec){.tv_nsec = 20000L * (round % 50)}, NULL);
-        if (poincare_stop(&shared.stopper) != POINCARE_DONE)
-            break;
+        poincare_stop(&shared.stopper);
         atomic_store(&shared.stopped, round);
     }
     return NULL;
