@@ -57,7 +57,7 @@ static void answer_until_stopped(poincare_session *session, const char *line) {
         uint32_t code;
         do
             code = poincare_line(session, line, strlen(line));
-        while (code != POINCARE_INTERRUPTED);
+        while (code == POINCARE_SHOWN);
         pthread_join(thread, NULL);
         print_answer(session, line, code);
     }

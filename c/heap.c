@@ -1,7 +1,7 @@
 /*
  * Where the library's memory comes from: three functions over malloc. A program that has memory of its own, as a board
- * has, leaves this file out and defines the three itself. They are called by poincare_open, poincare_stopper_open and
- * poincare_answers, and by the calls that close.
+ * has, leaves this file out and defines the three itself. They are called by poincare_open and poincare_answers, and by the
+ * calls that close.
  *
  * Nothing checks what they owe: blocks that do not overlap, of so many bytes, at a multiple of `align`, which is a power
  * of two up to 16. They are called on whatever thread calls the library, so that sessions on several threads call them

@@ -15,15 +15,15 @@
  *         poincare_close(&session);
  *     }
  *
- * The whole is linked with heap.c, or with other definitions of its three functions. Memory is taken by poincare_open,
- * poincare_stopper_open and poincare_answers alone; a line takes none, whatever it is.
+ * The whole is linked with heap.c, or with other definitions of its three functions. Memory is taken by poincare_open
+ * and poincare_answers alone; a line takes none, whatever it is, and neither does a stopper.
  *
  * What the caller owes, and nothing checks:
  *
  * - Pointers are not null, neither where a length or a room is 0, and point to as much memory as is said. A null pointer
  *   is not told from another: what comes of it is not defined.
  * - Memory that a call is handed is lent until the call returns, and nothing of it is kept; of the slots alone the
- *   library keeps what it put there. What a call reads and what it writes does not overlap.
+ *   library keeps what it put there. No two pieces of memory that a call is handed overlap.
  * - A slot is initialised once before anything else is asked of it, and is neither copied, moved nor written to
  *   afterwards. It is given back, or initialised again, only while it is not open.
  * - A session stays on the thread that opened it, and so does poincare_answers while it runs. Sessions share nothing:
@@ -126,7 +126,8 @@ void poincare_stopper_init(poincare_stopper *stopper);
  * POINCARE_DONE, POINCARE_OPEN, POINCARE_BAD_POOL or POINCARE_NO_MEMORY. */
 uint32_t poincare_open(poincare_session *session, uint32_t pool);
 
-/* Gives the memory of the session back. */
+/* Gives the memory of the session back, but for a few bytes that it shares with its stoppers, until the last of these is
+ * closed. */
 uint32_t poincare_close(poincare_session *session);
 
 /* Answers a line: so many bytes, without a newline and a carriage return at their end. They may be any bytes; UTF-8 is
@@ -135,8 +136,9 @@ uint32_t poincare_close(poincare_session *session);
 uint32_t poincare_line(poincare_session *session, const char *line, size_t length);
 
 /* The same, but that the line is interrupted where it needs more than so many checks, too. There is one check for each
- * node of a line. A line that was interrupted may be asked again with more: it changed nothing. The count takes the place
- * of one that `:after` asked for, and no count is left when the call returns. */
+ * node of a line once its names are replaced; docs/LANGUAGE.md says which nodes of a command count. A line that was
+ * interrupted may be asked again with more: it changed nothing. The count takes the place of one that `:after` asked for,
+ * and no count is left when the call returns. */
 uint32_t poincare_line_within(poincare_session *session, const char *line, size_t length, uint64_t checks);
 
 /* Writes the text of the last line, without a newline and without a 0 at the end, and sets count to how many bytes it
@@ -165,14 +167,15 @@ uint32_t poincare_pool(poincare_session *session, uint32_t *used, uint32_t *left
 uint32_t poincare_stopper_open(poincare_stopper *stopper, poincare_session *session);
 
 /* Interrupts the line that the session is answering, at its next check, or else the next line that makes a check. The
- * node that is being reduced is ended first; the longest that is known takes 30 ms in a pool of 32,768 bytes. The line
- * is answered by POINCARE_INTERRUPTED, and so the request is met: the line after it is answered. */
+ * node that is being reduced is ended first; the longest that is known takes 30 ms in a pool of 32,768 bytes, and 0.7 s
+ * in the greatest. The line is answered by POINCARE_INTERRUPTED, and so the request is met: the line after it is
+ * answered. */
 uint32_t poincare_stop(poincare_stopper *stopper);
 
 /* Takes back what any stopper of the session asked for, where no line has met it. */
 uint32_t poincare_clear(poincare_stopper *stopper);
 
-/* Gives the memory of the stopper back. What it asked for stays asked. */
+/* Closes the stopper. What it asked for stays asked. */
 uint32_t poincare_stopper_close(poincare_stopper *stopper);
 
 /*

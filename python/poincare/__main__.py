@@ -3,18 +3,20 @@
     python -m poincare [--pool N] [--draw]
 
 Lines are edited and kept in a history, in ~/.poincare_history, where Python has `readline`. Ctrl-C interrupts the line
-that runs, and Ctrl-D ends. Where the input is no terminal there is no prompt, and the answers are those of the program.
+that runs, and Ctrl-D ends. Where the input is no terminal there is no prompt, the answers are those of the program, and
+Ctrl-C ends it.
 """
 
 import argparse
-import pathlib
+import os
+import signal
 import sys
 from concurrent.futures import ThreadPoolExecutor
 
 from . import DEFAULT_POOL, Kind, LibraryMissing, PoolFull, Session
 
 PROMPT = "> "
-HISTORY = pathlib.Path.home() / ".poincare_history"
+HISTORY = os.path.expanduser("~/.poincare_history")
 MOST_LINES = 1000
 
 
@@ -27,8 +29,11 @@ def read_history() -> None:
         return
     try:
         readline.read_history_file(HISTORY)
-    except OSError:
+    except FileNotFoundError:
         pass
+    except OSError as error:
+        print(f"the history is not read, and stays as it is: {error}", file=sys.stderr)
+        return
     readline.set_history_length(MOST_LINES)
     atexit.register(write_history)
 
@@ -73,14 +78,18 @@ def converse(worker: ThreadPoolExecutor, session: Session, prompt: str, draws: b
             print()
             continue
         running = worker.submit(told, session, line, draws)
-        while True:
+        text = None
+        while text is None:
             try:
-                sys.stdout.write(running.result())
-                sys.stdout.flush()
-                break
+                text = running.result()
             except KeyboardInterrupt:
                 session.stop()
         session.clear()
+        try:
+            sys.stdout.write(text)
+            sys.stdout.flush()
+        except KeyboardInterrupt:
+            print()
 
 
 def main() -> int:
@@ -92,6 +101,8 @@ def main() -> int:
     if sys.stdin.isatty():
         prompt = PROMPT
         read_history()
+    else:
+        signal.signal(signal.SIGINT, signal.SIG_DFL)
     for stream in (sys.stdin, sys.stdout):
         stream.reconfigure(encoding="utf-8", errors="surrogateescape")
     with ThreadPoolExecutor(1) as worker:
