@@ -17,6 +17,7 @@ import pty
 import re
 import resource
 import shutil
+import signal
 import sys
 import tempfile
 import threading
@@ -263,6 +264,8 @@ class Terminal:
     def __init__(self, home, *words):
         self.child, self.end = pty.fork()
         if self.child == 0:
+            # A script that runs in the background may have it ignored, and a program at a terminal has not.
+            signal.signal(signal.SIGINT, signal.SIG_DFL)
             os.chdir(PYTHON)
             os.environ.update(HOME=home, TERM="dumb")
             os.execv(sys.executable, [sys.executable, "-m", "poincare", *words])
