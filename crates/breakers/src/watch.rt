@@ -59,8 +59,8 @@ impl<B: Breaker> Watch<B> {
         Ok(())
     }
 
-    /// Arms the first breaker that can be armed, and tells whether there is one: `k` more polls of that
-    /// breaker pass, and the one after them trips.
+    /// Arms the first breaker that can be armed, and tells whether there is one: where that tells its plan, `k` more
+    /// polls of it pass, and the one after them trips.
     pub fn arm_first(&mut self, k: u64) -> bool
         ensures armed { states B.state self.new ≡ armed_first k (states B.state self.old) }
         ensures whether_one_can_be { result ≡ list_any (λ b. b.can_be_armed) (states B.state self.old) }

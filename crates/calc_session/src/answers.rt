@@ -30,8 +30,8 @@ pub enum Refusal {
     Interrupted { by: u32 },
     /// What is to be stored under the name holds it.
     Circular { name: Name },
-    /// The line begins like a command and is none: its word is unknown, its text is a store, or a text behind `:solve` is not split
-    /// into equations.
+    /// The line begins like a command and is none: its word is unknown, or does not take what stands behind it; its text is a store,
+    /// or a text behind `:solve` is not split into equations.
     Command,
     /// What is to be expanded is no polynomial.
     NotPolynomial,

@@ -9,7 +9,7 @@ use crate::kind::Kind;
 use crate::name::Name;
 use crate::rat::Rat;
 
-/// What a node holds. `Plain` holds neither `Num` nor `Sym`.
+/// What a node holds. `Plain` is for kinds other than `Num` and `Sym`.
 #[derive(Clone, Copy, Debug)]
 pub enum Leaf {
     Num(Rat),

@@ -19,8 +19,8 @@ use node_pool::{Full, Id, Pool};
 use number_forms::is_reduced_number;
 use tree_handles::{Handle, child_id, kind, move_last, node_over_two, number, take_child};
 
-/// How many leading children of a reduced product make its coefficient: none, 1, or 2 where it has
-/// one square class and is spliced.
+/// How many leading children of a reduced product make its coefficient: none, 1, or 2 where it is a
+/// rational times a root.
 #[tactic(auto, using(crate::proofs::Places::two_children))]
 pub fn coefficient_length(pool: &Pool, product: Id) -> u16
     requires stands { Stands pool.now }

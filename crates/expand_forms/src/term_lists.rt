@@ -27,7 +27,7 @@ pub struct TermLists {
 }
 
 impl TermLists {
-    /// Lists that have room for so many terms each.
+    /// Lists that have room for so many terms each, and one for the two terms of a sum that is raised.
     pub fn open(alloc: Global, terms: u16) -> Result<TermLists, AllocError> {
         let terms = usize::from(terms);
         let names = Vec::with_capacity(alloc, NAMES)?;

@@ -17,7 +17,7 @@ ghost use Rattle.tree_bits.specs.Children.{IsSumHeld, addends_of_each};
 ghost use Rattle.tree_bits.specs.HeldTrees.{IsTreeHeld};
 ghost use Rattle.tree_room.specs.Needs.{product_power_room, product_room, simple_room};
 
-/// What holds a reduced tree holds it as a factor, and the other way round.
+/// What holds a reduced tree other than Undef holds it as a factor, and the other way round.
 #[tactic(auto, using(crate::proofs::HeldFactors::tree_factor, crate::proofs::HeldFactors::factor_tree))]
 pub fn what_holds_trees_holds_factors()
     ensures factors { (t : Tree) (h l : ℕ) → is_reduced t ≡ true → is_undef t ≡ false → IsTreeHeld t h l → IsFactorHeld t h l }

@@ -106,7 +106,7 @@ impl Pool {
         self.buffer.bytes()
     }
 
-    /// How often `place` and `ask` were refused, up to 2^64 - 1.
+    /// How often `place`, `insert` and `ask` were refused, up to 2^64 - 1.
     pub fn refusals(&self) -> u64
         ensures value { result ≡ self.now.refusals }
         ensures pool { IsPool self.now }

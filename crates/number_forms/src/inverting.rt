@@ -49,7 +49,7 @@ enum Terms {
 }
 
 /// The inverse of a Number of one class or two, by the conjugate. The Number is consumed, but for three
-/// classes or more: its bytes are free again before the inverse is placed, child before parent.
+/// classes or more: its bytes are free again before the inverse is placed.
 pub fn invert_number(pool: &mut Pool, a: Handle) -> Result<Inverse, NumberFault>
     requires stands { Stands pool.old }
     requires handed { IsHanded a (forest pool.old) }

@@ -28,8 +28,7 @@ use tree_handles::{
 };
 
 /// The root of a reduced tree: of a rational it is a Number, or Undef below 0; the root of Undef is Undef, and
-/// any other is kept. The bytes of the handed tree are free again before the answer is placed, child before
-/// parent.
+/// any other is kept. The bytes of the handed tree are free again before the answer is placed.
 pub fn reduce_root(pool: &mut Pool, root: Handle) -> Result<Handle, NumberFault>
     requires stands { Stands pool.old }
     requires handed { IsHanded root (forest pool.old) }

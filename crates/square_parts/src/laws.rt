@@ -23,8 +23,8 @@ pub fn clean_without_a_square()
     ensures { (g a : ℕ) → IsClean (g * a * a) → IsClean g }
 {}
 
-/// The product of two clean numbers over what they share has no square of a number up to the trial limit, and is clean
-/// where both are below 10^12.
+/// The product of two clean numbers over what they share has no square of a number from 2 to the trial limit, and is
+/// clean where both are below 10^12.
 pub fn clean_products_over_what_is_shared()
     ensures no_square { (r s g d : ℕ) → IsClean r → IsClean s → IsGcd r s g → 2 ≤ d → d ≤ trial_limit → d * d ∣ (r / g) * (s / g) → ⊥ }
     ensures clean { (r s g : ℕ) → IsClean r → IsClean s → r < 10 ^ 12 → s < 10 ^ 12 → IsGcd r s g → IsClean ((r / g) * (s / g)) }

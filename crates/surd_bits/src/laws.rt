@@ -84,7 +84,7 @@ pub fn denominators_stay()
     ensures extracted { (t u : Term) (d : ℕ) → IsExtracted t u → u.coefficient.den ∣ d → t.coefficient.den ∣ d }
 {}
 
-/// A rational that is held within 124 bits has a root, which is held as it is.
+/// The operation that takes the root of a rational held within 124 bits fits, and the root is held as the rational is.
 pub fn roots_fit()
     ensures fits { (q : Fraction) (h l : ℕ) → IsHeld (surd_of q) h l → 2 * h + 4 * l ≤ 124
         → first_misfit (root_calculations (parts_of q)) ≡ None }

@@ -14,7 +14,7 @@ use crate::siblings::child_ids;
 use calc_terms::Kind;
 use node_pool::{Id, Pool};
 
-/// Undef in the place of a tree, whose bytes suffice for it.
+/// Releases a tree, whose bytes suffice for Undef, and gives Undef as a new last tree.
 pub fn undefined(pool: &mut Pool, tree: Handle) -> Handle
     requires stands { Stands pool.old }
     requires handed { IsHanded tree (forest pool.old) }

@@ -80,6 +80,21 @@ abcdefgh
 | ! interrupted
 | 7
 
+:diff x (x+1)^2
+:diff x x^y
+| 2+2×x
+| ! no derivative
+
+:solve x+y=3
+:solve x=y^2
+| x=3-y,y free
+| ! not linear 1
+
+:expand (x+y)×(x-y)
+:expand 1/x
+| x^2-y^2
+| ! not polynomial
+
 $ --pool 64
 1+1+1+1
 | ! full needed 16 free 0
@@ -98,6 +113,80 @@ x+1→x
 
 x+1→x
 | ! circular x
+
+:diff x x^3
+| 3×x^2
+
+:diff x 1/x
+| -1/x^2
+
+:diff x √(x)
+| 1/(2×√(x))
+
+:diff x (x+1)^2
+| 2+2×x
+
+:diff x y
+| 0
+
+:diff x x^y
+| ! no derivative
+
+5→x
+:diff x x
+| 5
+| 0
+
+:diff x x→y
+| ! command
+
+:solve x+y=3;x-y=1
+| x=2,y=1
+
+:solve x+2y=1
+| x=1-2×y,y free
+
+:solve x=1;x=2
+| none 1,-1
+
+:solve 1=1
+| true
+
+5→x
+:solve x+y=3;2(y-1)/3=z
+| 5
+| y=-2,z=-2
+
+:solve x×y=1
+| ! not linear 1
+
+:solve x
+| ! command
+
+:expand (x+1)^2
+| 1+2×x+x^2
+
+:expand (x+y)×(x-y)
+| x^2-y^2
+
+:expand x^2+x×y/2
+| x×y/2+x^2
+
+:expand (x+1)-(x+1)
+| 0
+
+5→x
+:expand (x+y)^2
+| 5
+| 25+10×y+y^2
+
+:expand 1/x
+:expand √(2)
+| ! not polynomial
+| ! not polynomial
+
+:expand x→y
+| ! command
 
 $ --draw
 -3/4+√(17)/4
@@ -210,5 +299,4 @@ x^2y
 
 √(x+1)^2
 | 1+x
-
 ";
