@@ -1,6 +1,6 @@
 -- The names that the proofs share.
 pub use Rattle.breakers.specs.Breakers.{TripsRose}
-pub use Rattle.calc_session.specs.{Answers.{Answers}, declared.answers.Refusal.TheVariants.{Interrupted}, declared.answers.LineAnswer.{LineAnswer}, declared.answers.LineAnswer.TheVariants.{Refused}}
+pub use Rattle.calc_session.specs.{Answers.{Answers}, declared.answers.Refusal.TheVariants.{Interrupted}, declared.answers.LineAnswer.{LineAnswer}, declared.answers.LineAnswer.TheVariants.{Blank, Draw, Refused}}
 pub use Rattle.node_pool.specs.State.{IsPoolSize}
 pub use Rattle.poincare_c.specs.Slots.{AnswersIn, AnswersWithinIn, Closes, ClosesStopper, Draws, IsAnswered, IsAnsweredUnder, IsNew, IsNewStopper, IsOpening, IsOpeningStopper, IsPictured, IsTold}
 pub use Rattle.poincare_c.specs.Slots.{IsUsed, Opens, OpensStanding, OpensStopper, OpensStopperStanding, PoolIn, Stops, TextIn, has_bad_size, has_closed_session, has_new_session, has_no_memory}

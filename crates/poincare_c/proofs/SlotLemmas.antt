@@ -1,5 +1,5 @@
 -- Lemmas on what calls do to slots.
-use Rattle.poincare_c.proofs.Shared.{◌≡◌, ◌↔◌, ℕ, ◌%◌, ◌≤◌, List, [], length, nat_le, Bool, true, false, arith, refl, sym, ap, subst, leb-false, leb-true, ⊤, TripsRose, Answers, LineAnswer, Refused}
+use Rattle.poincare_c.proofs.Shared.{◌≡◌, ◌↔◌, ℕ, ◌%◌, ◌≤◌, List, [], length, nat_le, Bool, true, false, arith, refl, sym, ap, subst, leb-false, leb-true, ⊤, TripsRose, Answers, Blank, Draw, LineAnswer, Refused}
 use Rattle.poincare_c.proofs.Shared.{Interrupted, IsPoolSize, bits, room, AreAnswered, over, IsAnsweredWithin, IsDrawnOn, breakers_in, pool_use_in, state_in, text_in, Drawn, Held, OpenFault, PoolSize}
 use Rattle.poincare_c.proofs.Shared.{NoMemory, PoolUse, Stopper, code_of_answer, code_of_count, code_of_fault, AnswersIn, AnswersWithinIn, Draws, IsAnswered, IsAnsweredUnder, IsOpening}
 use Rattle.poincare_c.proofs.Shared.{IsOpeningStopper, IsPictured, IsTold, IsUsed, OpensStanding, OpensStopperStanding, PoolIn, TextIn, has_bad_size, has_no_memory, Changes, is_open, Slot, Standing}
@@ -23,11 +23,12 @@ module _ (old : Slot) (held : Held) (e : old.standing ≡ Open held) where
 
   module _ (now : Held) where
     pub answers : (line : List ℕ) (answer : LineAnswer) (code : ℕ) → Answers room bits (state_in held) (breakers_in held) line answer (text_in now) (state_in now) (breakers_in now)
-        → ((place : ℕ) → (answer ≡ Refused (Interrupted place)) ↔ TripsRose (breakers_in held) (breakers_in now) place) → code ≡ code_of_answer answer
+        → ((place : ℕ) → (answer ≡ Refused (Interrupted place)) ↔ TripsRose (breakers_in held) (breakers_in now) place)
+        → (answer ≡ Blank → text_in now ≡ []) → (answer ≡ Draw → text_in now ≡ []) → code ≡ code_of_answer answer
         → AnswersIn old line code (record { standing = Open now })
-    answers line answer code a b d =
+    answers line answer code a b blank draw d =
         subst (λ (s : Standing Held). Changes s code (Open now) (IsAnswered line code) ⊤) (sym e)
-        (now, refl, record { answer = answer; step = a; interrupted = b; code_is = d })
+        (now, refl, record { answer = answer; step = a; interrupted = b; silent = record { blank = blank; draw = draw }; code_is = d })
 
     pub answers_within : (line : List ℕ) (checks : ℕ) (answer : LineAnswer) (code : ℕ) → IsAnsweredWithin checks held line answer now → code ≡ code_of_answer answer
         → AnswersWithinIn old line checks code (record { standing = Open now })

@@ -4,7 +4,7 @@ use Rattle.breakers.specs.Breakers.{TripsRose}
 use Rattle.calc_session.specs.{Answers.{Answers}, declared.answers.LineAnswer.{LineAnswer}, declared.answers.LineAnswer.TheVariants.{Refused}, declared.answers.Refusal.TheVariants.{Interrupted}}
 use Rattle.node_pool.specs.State.{IsPoolSize}
 use Rattle.poincare_run.specs.Steps.{bits, room}
-use Rattle.poincare_held.specs.{Pages.{over}, Sessions.{IsAnsweredWithin, IsDrawnOn, IsOpened, breakers_in, pool_use_in, state_in, text_in}, declared.held.Drawn.{Drawn}, declared.held.Held.{Held}}
+use Rattle.poincare_held.specs.{Pages.{over}, Sessions.{IsAnsweredWithin, IsDrawnOn, IsOpened, IsSilent, breakers_in, pool_use_in, state_in, text_in}, declared.held.Drawn.{Drawn}, declared.held.Held.{Held}}
 use Rattle.poincare_held.specs.declared.stopper.Stopper.{Stopper}
 use Rattle.poincare_c.specs.{Codes.{bad_pool, closed, code_of_answer, code_of_count, code_of_drawn, count_of_drawn, done, no_memory, not_opened, open_already}, Standings.{Changes, ClosesStanding}}
 use Rattle.poincare_c.specs.{declared.slot.Slot.{Slot}, declared.stopper_slot.StopperSlot.{StopperSlot}, declared.standing.Standing.{Standing}}
@@ -42,6 +42,7 @@ pub record IsAnswered (line : List ℕ) (code : ℕ) (old new : Held) : Type 0 w
   pub answer : LineAnswer
   pub step : Answers room bits (state_in old) (breakers_in old) line answer (text_in new) (state_in new) (breakers_in new)
   pub interrupted : (place : ℕ) → (answer ≡ Refused (Interrupted place)) ↔ TripsRose (breakers_in old) (breakers_in new) place
+  pub silent : IsSilent answer (text_in new)
   pub code_is : code ≡ code_of_answer answer
 
 abbrev pub AnswersIn : Slot → List ℕ → ℕ → Slot → Type 0

@@ -2,6 +2,7 @@
 use Rattle.std.specs.{Prelude.{ℕ, List, [], ◌∷◌, true, false}, Str.Lines.{strip_carriage_return}}
 use Rattle.breakers.specs.State.{fresh}
 use Rattle.calc_session.specs.{Replies.{Reply}, States.{first_state}}
+use Rattle.node_pool.specs.State.{IsPoolSize}
 use Rattle.poincare_run.specs.{Lines.{lines_of}, Steps.{LineStep, Moment, Steps, Transcript, written}}
 use Rattle.poincare_held.specs.{Pages.{IsFront}, Sessions.{breakers_in, state_in}, Writing.{Writes}, declared.held.Held.{Held}, declared.page.Page.{Page}}
 
@@ -27,6 +28,7 @@ pub record AnswersLines (old : Held) (lines : List (List ℕ)) (page : Page) (ne
 
 -- the answers to the lines of a text, from the beginning on, stand at the front of the memory, and this is their count
 pub record AreAnswered (size : ℕ) (lines : List ℕ) (count : ℕ) (memory : List ℕ) : Type 0 where
+  pub size_is : IsPoolSize size
   pub text : List ℕ
   pub transcript : Transcript (beginning size) (lines_of lines) text
   pub written : IsFront count text memory

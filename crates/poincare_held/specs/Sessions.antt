@@ -2,7 +2,7 @@
 use Rattle.std.specs.Prelude.{◌≡◌, ◌↔◌, ℕ, List, [], ◌∷◌, Ok, Err, true}
 use Rattle.breakers.specs.{Breakers.{TripsRose, armed_first}, SilentBreaker.{silent}, State.{State as Breaker, fresh, largest_count}, Watch.{states}}
 use Rattle.calc_session.specs.{Answers.{Answers}, Drawing.{rows_in}, States.{State, first_state, free_bytes}, declared.answers.LineAnswer.{LineAnswer}}
-use Rattle.calc_session.specs.{declared.answers.LineAnswer.TheVariants.{Refused}, declared.answers.Refusal.TheVariants.{Interrupted}}
+use Rattle.calc_session.specs.{declared.answers.LineAnswer.TheVariants.{Blank, Draw, Refused}, declared.answers.Refusal.TheVariants.{Interrupted}}
 use Rattle.node_pool.specs.{Nodes.{used}, State.{IsPoolSize}, declared.full.Full.{Full}}
 use Rattle.poincare_run.specs.Steps.{bits, room, picture_text}
 use Rattle.poincare_held.specs.{Breaking.{state_of}, Pages.{IsFront}, declared.held.Drawn.{Drawn}}
@@ -32,11 +32,17 @@ pub record IsOpenedUnder (first : Breaker) (size : ℕ) (held : Held) : Type 0 w
 abbrev pub IsOpened : ℕ → Held → Type 0
 IsOpened size held = IsOpenedUnder silent size held
 
+-- a blank line has no text, and neither has one that asks for a picture
+pub record IsSilent (answer : LineAnswer) (text : List ℕ) : Type 0 where
+  pub blank : answer ≡ Blank → text ≡ []
+  pub draw : answer ≡ Draw → text ≡ []
+
 -- A line is answered while the breaker that counts is armed with so many checks. It is interrupted exactly where trips rose, and then the count is over.
 pub record IsAnsweredWithin (checks : ℕ) (old : Held) (line : List ℕ) (answer : LineAnswer) (new : Held) : Type 0 where
   pub checked : List Breaker
   pub step : Answers room bits (state_in old) (armed_first checks (breakers_in old)) line answer (text_in new) (state_in new) checked
   pub interrupted : (place : ℕ) → (answer ≡ Refused (Interrupted place)) ↔ TripsRose (armed_first checks (breakers_in old)) checked place
+  pub silent : IsSilent answer (text_in new)
   pub ended : breakers_in new ≡ armed_first largest_count checked
 
 -- the picture of the last answer stands at the front of the memory, or in its place that its layout finds no room

@@ -49,7 +49,7 @@ impl Stopper {
     /// Withdraws the stops that no check has met.
     pub fn clear(&mut self) {
         let asked = self.requests.asked.load(Ordering::SeqCst);
-        self.requests.withdrawn.store(asked, Ordering::SeqCst);
+        let _ = self.requests.withdrawn.fetch_max(asked, Ordering::SeqCst);
     }
 }
 
