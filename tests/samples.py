@@ -1,6 +1,6 @@
 #!/usr/bin/env python3
-"""Runs the program on the samples of README.md and docs/LANGUAGE.md: sessions with their answers, lines that read
-alike, lines that are none, and pictures. With the word `table` it writes the sessions as the rows that the gate runs.
+"""Runs the program on the samples of README.md and docs/LANGUAGE.md: a transcript, sessions with their answers, lines
+that read alike, lines that are none, and pictures. With the word `table` it writes them as the rows that the gate runs.
 
     tests/samples.py [PROGRAM]
     tests/samples.py table
@@ -74,6 +74,13 @@ def pictures_of(text):
             yield rows[0], rows[1:]
 
 
+def transcripts_of(text):
+    """Lines and all that is printed of each transcript, in which what is typed follows `> `."""
+    for block in re.findall(r"(?s)<!-- session -->(.*?)<!-- end -->", text):
+        rows = [row[4:] for row in block.splitlines() if row.startswith("    ")]
+        yield [row[2:] for row in rows if row.startswith("> ")], [row for row in rows if not row.startswith("> ")]
+
+
 def written(words, lines):
     status, output, _ = written_by([PROGRAM, *words], "".join(line + "\n" for line in lines))
     return status, output.splitlines()
@@ -82,8 +89,9 @@ def written(words, lines):
 def samples():
     readme = (TOP / "README.md").read_text()
     language = (TOP / "docs" / "LANGUAGE.md").read_text()
-    for text in (readme, language):
-        yield from sessions_of(text)
+    yield from sessions_of(language)
+    for lines, printed in transcripts_of(readme):
+        yield [], lines, printed
     for line, picture in pictures_of(language):
         yield ["--draw"], [line], [line, *picture]
     for line, refusal in refused_of(language):
