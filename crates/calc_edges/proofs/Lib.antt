@@ -1,3 +1,4 @@
+pub mod Giving
 pub mod Stops
 pub mod Parts
 mod Shared

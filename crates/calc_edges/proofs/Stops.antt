@@ -1,9 +1,9 @@
 -- Lemmas on what came before the first failure.
-use Rattle.calc_edges.proofs.Shared.{◌≡◌, ◌∙◌, ℕ, List, Option, Result, Ok, Err, arith, HasCause, IsCalm, StopsAtFailure, counted, Failures}
+use Rattle.calc_edges.proofs.Shared.{◌≡◌, ◌∙◌, ℕ, List, Option, Result, Ok, Err, arith, HasCause, IsCalm, StopsKeeping, counted, Failures}
 
 -- where nothing had failed before, it stopped at the first failure in all
-pub stops_later : {X : Type 0} (bytes : X → Option (List ℕ)) (faults : X → Failures) (old middle new : X)
-    → IsCalm (faults old) (faults middle) → StopsAtFailure bytes faults middle new → StopsAtFailure bytes faults old new
+pub stops_later : {X Y : Type 0} {IsKept : Y → Y → Type 0} (bytes : X → Y) (faults : X → Failures) (old middle new : X)
+    → IsCalm (faults old) (faults middle) → StopsKeeping IsKept bytes faults middle new → StopsKeeping IsKept bytes faults old new
 stops_later bytes faults old middle new calm stops = record { last = stops.last; calm = stops.calm ∙ calm; kept = stops.kept; once = stops.once }
 
 -- a call where nothing had failed before

@@ -1,6 +1,6 @@
 -- Counts of failures. A count never falls, and it stops at 2 ^ 64 - 1.
 use Rattle.std.specs.{Prelude.{◌≡◌, ◌⊎◌, ℕ, ◌+◌, ◌-◌, ◌^◌, ◌<◌, ◌≤◌, List, Option, nat_lt, true, false, is_ok, if◌then◌else◌, Result, OnOk, OnErr}, Io.KnownBytes.{Keeps}}
-use Rattle.calc_edges.specs.declared.failures.Failures.{Failures}
+use Rattle.calc_edges.specs.{SourceBytes.{GivesNothing, SourceBytes}, declared.failures.Failures.{Failures}}
 
 -- one more, up to 2 ^ 64 - 1
 abbrev pub next_count : ℕ → ℕ
@@ -37,8 +37,16 @@ pub record HasCause {T E : Type 0} (before now : Failures) (result : Result T E)
   pub failed : OnErr result (Rose before now)
 
 -- The first failure was the last thing that came of it: one call more has failed, and it was the last call of all. In the state before that call nothing had failed, and the bytes were those of now.
-pub record StopsAtFailure {X : Type 0} (bytes : X → Option (List ℕ)) (faults : X → Failures) (old new : X) : Type 0 where
+pub record StopsKeeping {X Y : Type 0} (IsKept : Y → Y → Type 0) (bytes : X → Y) (faults : X → Failures) (old new : X) : Type 0 where
   pub last : X
   pub calm : IsCalm (faults old) (faults last)
-  pub kept : Keeps (bytes last) (bytes new)
+  pub kept : IsKept (bytes last) (bytes new)
   pub once : faults new ≡ failed (faults last)
+
+-- so for a sink, by the bytes that it took
+abbrev pub StopsAtFailure : {X : Type 0} → (X → Option (List ℕ)) → (X → Failures) → X → X → Type 0
+StopsAtFailure bytes faults old new = StopsKeeping Keeps bytes faults old new
+
+-- and for a source, by those that it gave and has left
+abbrev pub StopsAtFailedRead : {X : Type 0} → (X → SourceBytes) → (X → Failures) → X → X → Type 0
+StopsAtFailedRead bytes faults old new = StopsKeeping GivesNothing bytes faults old new

@@ -1,4 +1,4 @@
-ghost use Rattle.std.specs.Prelude.{◌≡◌, ℕ, ◌≤◌, List, ◌++◌, length, take, drop, min, Some, IfOk};
+ghost use Rattle.std.specs.Prelude.{◌≡◌, ℕ, ◌≤◌, List, ◌++◌, length, take, drop, min, None, Some, IfOk};
 ghost use Rattle.calc_edges.specs.Faults.{no_failures};
 
 use crate::{Failed, Source};
@@ -28,7 +28,7 @@ impl CalmSource {
 }
 
 impl Source for CalmSource {
-    ghost told = { λ s. Some s };
+    ghost told = { λ s. record { given = None; left = Some s } };
 
     ghost faults = { λ _. no_failures };
 

@@ -1,4 +1,4 @@
-ghost use Rattle.std.specs.Prelude.{◌≡◌, ◌<◌, ◌≤◌, ◌↔◌, [], ◌++◌, length, take, drop, min, Some, IfOk, OnErr, IsErr, Contains};
+ghost use Rattle.std.specs.Prelude.{◌≡◌, ◌<◌, ◌≤◌, ◌↔◌, [], ◌++◌, length, take, drop, min, None, Some, IfOk, OnErr, IsErr, Contains};
 ghost use Rattle.calc_edges.specs.Faults.{counted, failed, next_count, no_failures, passed};
 
 use crate::{CalmSource, Failed, Failures, Source};
@@ -50,7 +50,7 @@ impl MemSource {
 }
 
 impl Source for MemSource {
-    ghost told = { λ s. Some s.left };
+    ghost told = { λ s. record { given = None; left = Some s.left } };
 
     ghost faults = { λ s. s.faults };
 

@@ -1,7 +1,8 @@
-ghost use Rattle.std.specs.Prelude.{◌≡◌, ℕ, ◌<◌, Option, List, length, take, IfOk, OnErr};
+ghost use Rattle.std.specs.Prelude.{◌≡◌, ◌<◌, length, take, IfOk, OnErr};
 ghost use Rattle.std.specs.Io.{ReadsAtMost};
-ghost use Rattle.std.specs.Io.KnownBytes.{Consumes, IsAtEnd, Keeps};
+ghost use Rattle.std.specs.Io.KnownBytes.{IsAtEnd};
 ghost use Rattle.calc_edges.specs.Faults.{counted};
+ghost use Rattle.calc_edges.specs.SourceBytes.{Gives, GivesNothing, SourceBytes};
 ghost use Rattle.calc_edges.specs.declared.failures.Failures.{Failures};
 
 use thiserror::Error;
@@ -13,8 +14,8 @@ pub struct Failed;
 
 /// What bytes are read from.
 pub trait Source {
-    /// The bytes that are still to be read, where the source tells them.
-    ghost told: { Self → Option (List ℕ) };
+    /// The bytes that were given so far and those that are left, each where the source tells them.
+    ghost told: { Self → SourceBytes };
 
     /// How often the source has failed, and whether it failed at the last read.
     ghost faults: { Self → Failures };
@@ -25,11 +26,11 @@ pub trait Source {
     fn read(&mut self, into: &mut [u8]) -> Result<usize, Failed>
         ensures bound { ReadsAtMost result into.new }
 
-        // The bytes given are a prefix of those told, and none are given only where none are left.
-        ensures given { IfOk result (λ n. Consumes (told self.old) (told self.new) (take n into.new)) }
-        ensures end { IfOk result (λ n. n ≡ 0 → 0 < length into.new → IsAtEnd (told self.new)) }
+        // The bytes given follow those given before and are a prefix of those left, and none are given only where none are left.
+        ensures given { IfOk result (λ n. Gives (told self.old) (told self.new) (take n into.new)) }
+        ensures end { IfOk result (λ n. n ≡ 0 → 0 < length into.new → IsAtEnd (told self.new).left) }
 
         // A read that fails gives nothing, and is counted.
-        ensures kept { OnErr result (Keeps (told self.old) (told self.new)) }
+        ensures kept { OnErr result (GivesNothing (told self.old) (told self.new)) }
         ensures counted { faults self.new ≡ counted result (faults self.old) };
 }

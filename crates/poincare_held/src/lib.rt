@@ -7,7 +7,6 @@ mod held_breaker;
 mod notice;
 mod page;
 mod stopper;
-mod told;
 
 pub use answering::answers;
 pub use held::{Drawn, Held, OpenFault, PoolUse, is_pool_size};

@@ -2,15 +2,14 @@
 ghost use Rattle.std.specs.Prelude.{◌≡◌, [], ◌∷◌, ◌++◌, length};
 ghost use Rattle.poincare_held.specs.Pages.{IsFront, after, over};
 
-use crate::told::Told;
-use calc_edges::{Failed, Sink};
+use calc_edges::{Failed, History, Sink};
 
 /// Bytes that are lent. It takes all that it is given, keeps what finds room from the front on, and counts all.
 #[derive(Drop)]
 pub struct Page<'a> {
     out: &'a mut [u8],
     count: usize,
-    told: Told,
+    told: History,
     ghost kept: { IsFront count told.bytes out.now },
 }
 
@@ -24,7 +23,7 @@ impl<'a> Page<'a> {
         Page {
             out,
             count: 0,
-            told: Told::new(),
+            told: History::new(),
         }
     }
 

@@ -1,7 +1,7 @@
 -- How far a session has come in the middle of its input.
-use Rattle.std.specs.{Prelude.{◌≡◌, ℕ, ◌+◌, List, ◌++◌, length, Option, ⊤}, Str.Lines.{strip_carriage_return}, Io.KnownBytes.{Appends, Consumes}}
+use Rattle.std.specs.{Prelude.{◌≡◌, ℕ, ◌+◌, List, ◌++◌, length, Option, ⊤}, Str.Lines.{strip_carriage_return}, Io.KnownBytes.{Appends}}
 use Rattle.breakers.specs.{State.{State as Breaker}, Watch.{states}}
-use Rattle.calc_edges.specs.{Faults.{IsCalm, StopsAtFailure}, declared.failures.Failures.{Failures}, Taken.{AppendsPart}}
+use Rattle.calc_edges.specs.{Faults.{IsCalm, StopsAtFailedRead, StopsAtFailure}, SourceBytes.{Gives, SourceBytes}, declared.failures.Failures.{Failures}, Taken.{AppendsPart}}
 use Rattle.calc_session.specs.{Answers.{IsAnswer, printed}, Replies.{Reply, text_of}, declared.answers.LineAnswer.{LineAnswer}}
 use Rattle.poincare_run.specs.{declared.buffer.LineBuffer.{LineBuffer}, declared.dialog.Dialog.{Dialog}, declared.dialog.Ending.{Ending}, declared.dialog.Ending.TheVariants.{ReadToEnd, ReadFailed}}
 use Rattle.poincare_run.specs.{declared.dialog.Ending.TheVariants.{WriteFailed, LimitReached, NoMemory}, Lines.{whole_lines, rest_of}, Steps.{Chain, LineStep, Moment, Steps, Transcript, Turn}}
@@ -64,13 +64,27 @@ pub record Goes (start : Moment) (before bytes out : List ℕ) (new : Place) (ta
   pub appended : Appends taken taken' more
 
 -- the loop over the input: left more bytes may be read
-pub record IsUnderWay (start : Moment) (told told' taken taken' : Option (List ℕ)) (left : ℕ) (place : Place) : Type 0 where
+pub record IsUnderWay (start : Moment) (told told' : SourceBytes) (taken taken' : Option (List ℕ)) (left : ℕ) (place : Place) : Type 0 where
   pub input : List ℕ
   pub out : List ℕ
-  pub read : Consumes told told' input
+  pub read : Gives told told' input
   pub limit : length input + left ≡ session_limit
   pub answered : Answered start input out place
   pub appended : Appends taken taken' out
+
+-- how a dialog began: the moment, and what was known of the bytes of its source and its sink
+pub record Outset : Type 0 where
+  pub start : Moment
+  pub told : SourceBytes
+  pub taken : Option (List ℕ)
+
+-- all whole lines of what was read since then are answered, the answers are written, and the buffer holds the rest
+pub record HasAnswered (outset : Outset) (told : SourceBytes) (taken : Option (List ℕ)) (place : Place) : Type 0 where
+  pub input : List ℕ
+  pub out : List ℕ
+  pub read : Gives outset.told told input
+  pub answered : Answered outset.start input out place
+  pub appended : Appends outset.taken taken out
 
 -- the whole lines of the bytes are answered by replies of this tally, and the buffer holds the rest
 pub record Tallied (start : Moment) (bytes : List ℕ) (tally : Tally) (place : Place) : Type 0 where
@@ -80,7 +94,7 @@ pub record Tallied (start : Moment) (bytes : List ℕ) (tally : Tally) (place : 
   pub rest : Holds place.line (rest_of bytes)
 
 -- how it ended, by the bytes that the source and the sink tell
-abbrev pub EndsAs : Ending → Moment → Option (List ℕ) → Option (List ℕ) → Option (List ℕ) → Option (List ℕ) → Type 0
+abbrev pub EndsAs : Ending → Moment → SourceBytes → SourceBytes → Option (List ℕ) → Option (List ℕ) → Type 0
 EndsAs ReadToEnd = ReadsAll
 EndsAs ReadFailed = ReadsPart
 EndsAs WriteFailed = WriteStops
@@ -101,7 +115,7 @@ IsSummed NoMemory = ⊤
 IsSummed _ = ⊥
 
 -- the same from either beginning; a generated session reads nothing
-abbrev pub EndsFrom : Ending → Beginning → Option (List ℕ) → Option (List ℕ) → Option (List ℕ) → Option (List ℕ) → Type 0
+abbrev pub EndsFrom : Ending → Beginning → SourceBytes → SourceBytes → Option (List ℕ) → Option (List ℕ) → Type 0
 EndsFrom ending (reads start) told told' taken taken' = EndsAs ending start told told' taken taken'
 EndsFrom ending (generates start n) told told' taken taken' = SumsUpAs ending start n taken taken' × (told' ≡ told) × IsSummed ending
 
@@ -111,8 +125,8 @@ IfNoMemory NoMemory P = P
 IfNoMemory _ P = ⊤
 
 -- the reading stopped at a read that failed, or no read failed
-abbrev pub StopsReading : {X : Type 0} → Ending → (X → Option (List ℕ)) → (X → Failures) → X → X → Type 0
-StopsReading ReadFailed told faults old new = StopsAtFailure told faults old new
+abbrev pub StopsReading : {X : Type 0} → Ending → (X → SourceBytes) → (X → Failures) → X → X → Type 0
+StopsReading ReadFailed told faults old new = StopsAtFailedRead told faults old new
 StopsReading _ told faults old new = IsCalm (faults old) (faults new)
 
 -- the writing stopped at a write that failed, or no write failed

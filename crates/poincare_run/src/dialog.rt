@@ -1,13 +1,14 @@
 //! The dialog between a source and a sink: each line that comes is answered.
 ghost use Rattle.std.specs.Prelude.{◌≡◌, ℕ, ◌+◌, ◌^◌, ◌<◌, ◌≤◌, List, [], ◌∷◌, ◌++◌, length, take, OnOk, OnErr, IfOk};
-ghost use Rattle.std.specs.Io.KnownBytes.{Appends, Consumes, IsAtEnd, Keeps};
+ghost use Rattle.std.specs.Io.KnownBytes.{Appends, IsAtEnd};
 ghost use Rattle.calc_edges.specs.Faults.{HasCause, StopsAtFailure, counted};
+ghost use Rattle.calc_edges.specs.SourceBytes.{Gives, GivesNothing};
 ghost use Rattle.calc_edges.specs.Taken.{AppendsPart};
 ghost use Rattle.poincare_run.specs.Lines.{lines_of, whole_lines};
 ghost use Rattle.poincare_run.specs.Steps.{Moment, picture_if, picture_text};
 ghost use Rattle.poincare_run.specs.Summaries.{IsWithin};
 ghost use Rattle.poincare_run.specs.Buffer.{Holds};
-ghost use Rattle.poincare_run.specs.Progress.{Answered, AnswersLine, FailsAtLine, Continues, Breaks, Goes, EndsAs, IfNoMemory, StopsReading, StopsWriting, TakesLine, Tallied, place_of};
+ghost use Rattle.poincare_run.specs.Progress.{Answered, AnswersLine, FailsAtLine, Continues, Breaks, Goes, EndsAs, HasAnswered, IfNoMemory, Outset, StopsReading, StopsWriting, TakesLine, Tallied, place_of};
 
 use crate::buffer::LineBuffer;
 use crate::notice::Notice;
@@ -64,8 +65,10 @@ impl<B: Breaker> Dialog<B> {
         source: &mut S,
         sink: &mut K,
     ) -> Ending
+        ghost outset: { Outset }
         requires piece { 0 < length piece.old }
         requires fresh { Holds self.old.line [] }
+        requires outset { outset ≡ record { start = (place_of B.state self.old).now; told = S.told source.old; taken = K.taken sink.old } }
         ensures ends { EndsAs result (place_of B.state self.old).now (S.told source.old) (S.told source.new)
             (K.taken sink.old) (K.taken sink.new) }
         ensures reads { StopsReading result S.told S.faults source.old source.new }
@@ -74,7 +77,7 @@ impl<B: Breaker> Dialog<B> {
     {
         let mut left = SESSION_LIMIT;
         while left > 0 {
-            let Ok(count) = read_piece(source, piece, left) else {
+            let Ok(count) = self.read_piece(source, piece, left, sink) else {
                 return Ending::ReadFailed;
             };
             if count == 0 {
@@ -89,6 +92,29 @@ impl<B: Breaker> Dialog<B> {
             left -= count;
         }
         Ending::LimitReached
+    }
+
+    /// Reads a piece of at most `left` bytes, once each line that was read before is answered and its answer is in the sink.
+    fn read_piece<S: Source, K: Sink>(
+        &self,
+        source: &mut S,
+        piece: &mut [u8],
+        left: usize,
+        _sink: &K,
+    ) -> Result<usize, Failed>
+        ghost outset: { Outset }
+        requires piece { 0 < length piece.old }
+        requires left { 0 < left }
+        requires answered { HasAnswered outset (S.told source.old) (K.taken _sink.now) (place_of B.state self.now) }
+        ensures bound { IfOk result (λ n. (n ≤ left) × (n ≤ length piece.new)) }
+        ensures given { IfOk result (λ n. Gives (S.told source.old) (S.told source.new) (take n piece.new)) }
+        ensures end { IfOk result (λ n. n ≡ 0 → IsAtEnd (S.told source.new).left) }
+        ensures kept { OnErr result (GivesNothing (S.told source.old) (S.told source.new)) }
+        ensures cause { HasCause (S.faults source.old) (S.faults source.new) result }
+        ensures counted { S.faults source.new ≡ counted result (S.faults source.old) }
+    {
+        let room = left.min(piece.len());
+        source.read(&mut piece[..room])
     }
 
     /// Answers each line that ends in these bytes.
@@ -229,21 +255,6 @@ impl<B: Breaker> Dialog<B> {
         let answer = self.take_line();
         tally.count(answer, self.session.text())
     }
-}
-
-/// Reads a piece of at most `left` bytes.
-fn read_piece<S: Source>(source: &mut S, piece: &mut [u8], left: usize) -> Result<usize, Failed>
-    requires piece { 0 < length piece.old }
-    requires left { 0 < left }
-    ensures bound { IfOk result (λ n. (n ≤ left) × (n ≤ length piece.new)) }
-    ensures given { IfOk result (λ n. Consumes (S.told source.old) (S.told source.new) (take n piece.new)) }
-    ensures end { IfOk result (λ n. n ≡ 0 → IsAtEnd (S.told source.new)) }
-    ensures kept { OnErr result (Keeps (S.told source.old) (S.told source.new)) }
-    ensures cause { HasCause (S.faults source.old) (S.faults source.new) result }
-    ensures counted { S.faults source.new ≡ counted result (S.faults source.old) }
-{
-    let room = left.min(piece.len());
-    source.read(&mut piece[..room])
 }
 
 /// Writes a text and a newline.

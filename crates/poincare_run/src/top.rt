@@ -1,6 +1,6 @@
 ghost use Rattle.std.specs.Prelude.{◌≡◌, ◌≢◌, ℕ, ◌≤◌, ◌<◌, ◌^◌, ◌⊎◌, List, [], ◌∷◌, ◌++◌, length, map, vec_len, Contains, None, Some};
 ghost use Rattle.breakers.specs.Watch.{states};
-ghost use Rattle.calc_edges.specs.Faults.{IsCalm, Rose, StopsAtFailure};
+ghost use Rattle.calc_edges.specs.Faults.{IsCalm, Rose, StopsAtFailedRead, StopsAtFailure};
 ghost use Rattle.poincare_run.specs.Beginnings.{armed as armed_by, beginning_of, begun, IfReads, IfGenerates};
 ghost use Rattle.poincare_run.specs.Buffer.{Holds};
 ghost use Rattle.poincare_run.specs.Endings.{session_limit, ReadsAll, ReadsPart, ReadsLimit, WriteStops, SumsUp, SumsUpInPart};
@@ -46,7 +46,7 @@ pub fn run<S: Source, K: Sink, B: Breaker>(
     // Status 3: the source failed, and nothing was asked of it behind that. The answers to the lines that were whole were
     // written. At another status no read failed.
     ensures read_failed { result ≡ 3 → Rose (S.faults source.old) (S.faults source.new) }
-    ensures read_stops { result ≡ 3 → StopsAtFailure S.told S.faults source.old source.new }
+    ensures read_stops { result ≡ 3 → StopsAtFailedRead S.told S.faults source.old source.new }
     ensures reads_calm { result ≢ 3 → IsCalm (S.faults source.old) (S.faults source.new) }
     ensures read_in_part { result ≡ 3 → IfReads (beginning_of B.state words.now breakers.items) (λ start.
         ReadsPart start (S.told source.old) (S.told source.new) (K.taken sink.old) (K.taken sink.new)) }
@@ -64,7 +64,7 @@ pub fn run<S: Source, K: Sink, B: Breaker>(
     ensures limit_reached { result ≡ 6 → IfReads (beginning_of B.state words.now breakers.items) (λ start.
         ReadsLimit start (S.told source.old) (S.told source.new) (K.taken sink.old) (K.taken sink.new)) }
     // No more is ever read, and so much only at status 6 or where a write failed.
-    ensures limit { (input rest : List ℕ) → S.told source.old ≡ Some (input ++ rest) → S.told source.new ≡ Some rest
+    ensures limit { (input rest : List ℕ) → (S.told source.old).left ≡ Some (input ++ rest) → (S.told source.new).left ≡ Some rest
         → (length input ≤ session_limit) × (length input ≡ session_limit → (result ≡ 6) ⊎ (result ≡ 4)) }
 
     // A generated session reads nothing, and its summary is written, or a part of it where the sink failed.

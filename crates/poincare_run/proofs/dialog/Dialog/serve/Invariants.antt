@@ -11,3 +11,7 @@ invariant-loop-left g l = record {
 
 abbrev pub decreases-loop-left : goal.decreases-loop-left
 decreases-loop-left g l = l.left
+
+-- it began where the caller says
+abbrev pub ghost-read_piece : goal.ghost-read_piece
+ghost-read_piece g a = g.outset

@@ -1,13 +1,13 @@
 -- A value of no bytes is made, whose ghost list is empty.
-use Rattle.poincare_held.proofs.Shared.{[], ◌∷◌, refl, Ura, vstruct, vnil, SProp, ent, emp, via, fst∗, Memory, Routine, Calls, Loops, WpFn, Tables, Logic, Fun, tables, WpFn-mono, ‵, raw, ◌$◌, ◌∵◌, ! }
-use Rattle.poincare_held.proofs.Shared.{qed, move, suffices, done, no_more, returns, enter, agg, alloc_all, pass_all, free_all, look_at, sets, owns, pure_i, on_entry, alive, Meets, triple_of, entered}
-use Rattle.poincare_held.proofs.Shared.{says, Stays, walk_of, Walks, ends_at, walked, walk_Meets}
+use Rattle.calc_edges.proofs.Shared.{[], ◌∷◌, refl, Ura, vstruct, vnil, SProp, ent, emp, via, fst∗, Memory, Routine, Calls, Loops, WpFn, Tables, Logic, Fun, tables, WpFn-mono, ‵, raw, ◌$◌, ◌∵◌, ! }
+use Rattle.calc_edges.proofs.Shared.{qed, move, suffices, done, no_more, returns, enter, agg, alloc_all, pass_all, free_all, look_at, sets, owns, pure_i, on_entry, alive, Meets, triple_of, entered}
+use Rattle.calc_edges.proofs.Shared.{says, Stays, walk_of, Walks, ends_at, walked, walk_Meets}
 use contract.Running.{tables_of}
-use Rattle.poincare_held.specs.contracts.told.Told.new.Key.{name as key}
-use Rattle.poincare_held.specs.contracts.told.Told.new as f
-use Rattle.poincare_held.proofs.told.Told.new.Statement as stated
-use Rattle.poincare_held.proofs.told.Told.new.Code as code
-use Rattle.poincare_held.specs.contracts.told.Told as made
+use Rattle.calc_edges.specs.contracts.history.History.new.Key.{name as key}
+use Rattle.calc_edges.specs.contracts.history.History.new as f
+use Rattle.calc_edges.proofs.history.History.new.Statement as stated
+use Rattle.calc_edges.proofs.history.History.new.Code as code
+use Rattle.calc_edges.specs.contracts.history.History as made
 
 abbrev stayed : Stays (f.ended).signature.params (f.ended).kept
 stayed = tt

@@ -1,14 +1,14 @@
 -- A value of no bytes is made, whose ghost list is the old one and what is added.
-use Rattle.poincare_held.proofs.Shared.{[], ◌∷◌, ◌++◌, ◌<◌, ◌^◌, length, refl, Ura, named, Val, vptr, vstruct, vnil, SProp, ent, emp, via, fst∗, Fml, Memory, Routine, Calls, Loops, WpFn, Tables}
-use Rattle.poincare_held.proofs.Shared.{Logic, Lfts, Shares, Fun, tables, WpFn-mono, ‵, raw, ◌$◌, ◌∵◌, !, qed, move, suffices, done, no_more, returns, enter, agg, alloc_all, pass_all, free_all}
-use Rattle.poincare_held.proofs.Shared.{look_at, sets, u8, yes, owns, shr_vals, shr_Tells, pure_i, plain, types_at, slice_val, shr_slice_vals, shr_slice_Tells, on_entry, alive, Args, Meets, triple_of}
-use Rattle.poincare_held.proofs.Shared.{entered, says, stay_none_ref, stay_none_slice, Stays, walk_of, Walks, ends_at, walked, Goes-none_ref, Goes-none_slice, walk_Meets}
+use Rattle.calc_edges.proofs.Shared.{[], ◌∷◌, ◌++◌, ◌<◌, ◌^◌, length, refl, Ura, named, Val, vptr, vstruct, vnil, SProp, ent, emp, via, fst∗, Fml, Memory, Routine, Calls, Loops, WpFn, Tables}
+use Rattle.calc_edges.proofs.Shared.{Logic, Lfts, Shares, Fun, tables, WpFn-mono, ‵, raw, ◌$◌, ◌∵◌, !, qed, move, suffices, done, no_more, returns, enter, agg, alloc_all, pass_all, free_all}
+use Rattle.calc_edges.proofs.Shared.{look_at, sets, u8, yes, owns, shr_vals, shr_Tells, pure_i, plain, types_at, slice_val, shr_slice_vals, shr_slice_Tells, on_entry, alive, Args, Meets, triple_of}
+use Rattle.calc_edges.proofs.Shared.{entered, says, stay_none_ref, stay_none_slice, Stays, walk_of, Walks, ends_at, walked, Goes-none_ref, Goes-none_slice, walk_Meets}
 use contract.Running.{tables_of}
-use Rattle.poincare_held.specs.contracts.told.Told.and.Key.{name as key}
-use Rattle.poincare_held.specs.contracts.told.Told.and as f
-use Rattle.poincare_held.proofs.told.Told.and.Statement as stated
-use Rattle.poincare_held.proofs.told.Told.and.Code as code
-use Rattle.poincare_held.specs.contracts.told.Told as made
+use Rattle.calc_edges.specs.contracts.history.History.and.Key.{name as key}
+use Rattle.calc_edges.specs.contracts.history.History.and as f
+use Rattle.calc_edges.proofs.history.History.and.Statement as stated
+use Rattle.calc_edges.proofs.history.History.and.Code as code
+use Rattle.calc_edges.specs.contracts.history.History as made
 
 abbrev stayed : Stays (f.ended).signature.params (f.ended).kept
 stayed = (stay_none_ref (0 ∷ []) tt (plain (λ _. made.the_row)) yes, (stay_none_slice (1 ∷ []) tt (plain (λ _. u8)) yes, tt))

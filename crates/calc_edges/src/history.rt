@@ -4,26 +4,28 @@ ghost use Rattle.std.specs.Borrow.{ftrue};
 
 use std::marker::Model;
 
-/// All bytes that a page was given, with those that found no room on it. It takes no memory.
-#[derive(Drop)]
-pub struct Told {
+/// The bytes that came or went so far. It is there for clauses alone, and takes no memory.
+#[derive(Debug, Drop)]
+pub struct History {
     pub ghost bytes: { List ℕ },
 }
 
-impl Model for Told {
+impl Model for History {
     ghost also_owns = { λ _. ftrue };
 }
 
-impl Told {
-    pub fn new() -> Told
+impl History {
+    /// No bytes yet.
+    pub fn new() -> History
         ensures { result.bytes ≡ [] }
     {
-        Told {}
+        History {}
     }
 
-    pub fn and(&self, _more: &[u8]) -> Told
+    /// These bytes, and more after them.
+    pub fn and(&self, _more: &[u8]) -> History
         ensures { result.bytes ≡ self.now.bytes ++ _more.now }
     {
-        Told {}
+        History {}
     }
 }
