@@ -13,6 +13,7 @@ row : (w : Word) → IsRow (help_line w)
 row word.Help = record { short = omega arith; printable = refl }
 row word.Pool = record { short = omega arith; printable = refl }
 row word.Dump = record { short = omega arith; printable = refl }
+row word.Names = record { short = omega arith; printable = refl }
 row word.Forget = record { short = omega arith; printable = refl }
 row word.After = record { short = omega arith; printable = refl }
 row word.Layout = record { short = omega arith; printable = refl }
@@ -27,13 +28,14 @@ pub in_table : (w : Word) → Contains all_words w
 in_table word.Help = (0, omega arith, refl)
 in_table word.Pool = (1, omega arith, refl)
 in_table word.Dump = (2, omega arith, refl)
-in_table word.Forget = (3, omega arith, refl)
-in_table word.After = (4, omega arith, refl)
-in_table word.Layout = (5, omega arith, refl)
-in_table word.Draw = (6, omega arith, refl)
-in_table word.Diff = (7, omega arith, refl)
-in_table word.Solve = (8, omega arith, refl)
-in_table word.Expand = (9, omega arith, refl)
+in_table word.Names = (3, omega arith, refl)
+in_table word.Forget = (4, omega arith, refl)
+in_table word.After = (5, omega arith, refl)
+in_table word.Layout = (6, omega arith, refl)
+in_table word.Draw = (7, omega arith, refl)
+in_table word.Diff = (8, omega arith, refl)
+in_table word.Solve = (9, omega arith, refl)
+in_table word.Expand = (10, omega arith, refl)
 
 pub help_fits : (length all_words ≤ 24) × ((w : Word) → IsRow (help_line w))
 help_fits = (omega arith, row)

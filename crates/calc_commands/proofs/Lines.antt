@@ -3,7 +3,7 @@ use Rattle.calc_commands.proofs.Shared.{by_test, ◌≡◌, ◌∙◌, ℕ, ◌<
 use Rattle.calc_commands.proofs.Shared.{append-nil, is_in, bytes_eq-Decides, ltb, eqb-true, ne_eqb, bytes_eq, ◌||◌, not, codes, IfSome, IsNone, option_map, option_and_then, is_name, is_name_byte}
 use Rattle.calc_commands.proofs.Shared.{spelled, is_blank, leading_run, Asked, pool, dump, draw, layout, forget, after, diff, solve, expand, asked_of, begins_dark, Has, IsTextBehind, HasText}
 use Rattle.calc_commands.proofs.Shared.{IsCommandLine, asks_pool, asks_dump, asks_draw, asks_layout, asks_forget, asks_after, asks_diff, asks_solve, asks_expand, value_of, are_blanks, behind_colon}
-use Rattle.calc_commands.proofs.Shared.{asks_help, asks_explain, help, explain, asked_by, asked_with, BeginsWithWord, all_words, word_among, word_bytes, word_of}
+use Rattle.calc_commands.proofs.Shared.{asks_help, asks_names, asks_explain, help, list_names, explain, asked_by, asked_with, BeginsWithWord, all_words, word_among, word_bytes, word_of}
 use Rattle.calc_commands.specs.declared.words.Word.{Word}
 use Rattle.calc_commands.specs.declared.words.Word.TheVariants as word
 use Rattle.calc_commands.proofs.Shared.{argument_of, word_and_rest, text_behind, name_and_text, asked_alone, asked_for, asked_to_derive, asked_in, Command, run_whole, run_all, run_stops, stops}
@@ -200,6 +200,7 @@ alone_sound : (line : List ℕ) (w : Word) (q : Asked) → Has line (word_bytes 
 alone_sound line word.Help q h e = asks (asks_help h) e
 alone_sound line word.Pool q h e = asks (asks_pool h) e
 alone_sound line word.Dump q h e = asks (asks_dump h) e
+alone_sound line word.Names q h e = asks (asks_names h) e
 alone_sound line word.Forget q h e = absurd cc
 alone_sound line word.After q h e = absurd cc
 alone_sound line word.Layout q h e = asks (asks_layout h) e
@@ -224,6 +225,7 @@ with_sound : (line : List ℕ) (w : Word) (argument : List ℕ) (q : Asked) → 
 with_sound line word.Help argument q h e = explain_sound line argument q (word_of argument) refl h e
 with_sound line word.Pool argument q h e = absurd cc
 with_sound line word.Dump argument q h e = absurd cc
+with_sound line word.Names argument q h e = absurd cc
 with_sound line word.Forget argument q h e =
     by_test (λ t. is_name argument ≡ t → cond t (Some (forget argument)) None ≡ Some q → IsCommandLine line q) (is_name argument) (λ z n k. asks (asks_forget h n) k) (λ z n k. absurd cc) refl e
 with_sound line word.After argument q h e = number_sound line argument q (value_of argument) refl h e
@@ -272,6 +274,7 @@ by_sound : (line : List ℕ) (w : Word) (rest : List ℕ) (q : Asked) → HasWor
 by_sound line word.Help rest q h e = plain_sound line word.Help rest q h (argument_of rest) refl e
 by_sound line word.Pool rest q h e = plain_sound line word.Pool rest q h (argument_of rest) refl e
 by_sound line word.Dump rest q h e = plain_sound line word.Dump rest q h (argument_of rest) refl e
+by_sound line word.Names rest q h e = plain_sound line word.Names rest q h (argument_of rest) refl e
 by_sound line word.Forget rest q h e = plain_sound line word.Forget rest q h (argument_of rest) refl e
 by_sound line word.After rest q h e = plain_sound line word.After rest q h (argument_of rest) refl e
 by_sound line word.Layout rest q h e = plain_sound line word.Layout rest q h (argument_of rest) refl e
@@ -334,6 +337,7 @@ dark_word : (w : Word) → list_all (is_in class.Dark) (word_bytes w) ≡ true
 dark_word word.Help = refl
 dark_word word.Pool = refl
 dark_word word.Dump = refl
+dark_word word.Names = refl
 dark_word word.Forget = refl
 dark_word word.After = refl
 dark_word word.Layout = refl
@@ -346,6 +350,7 @@ explain_read : (w : Word) → asked_for word.Help (word_bytes w) ≡ Some (expla
 explain_read word.Help = refl
 explain_read word.Pool = refl
 explain_read word.Dump = refl
+explain_read word.Names = refl
 explain_read word.Forget = refl
 explain_read word.After = refl
 explain_read word.Layout = refl
@@ -365,6 +370,7 @@ complete line (diff name text) (asks_diff {gap = gap} h n b) =
     found_before line (codes "diff") (name ++ (gap ++ text)) (diff name text) h refl (λ rest e. ap (λ found. option_map (λ p. diff p.0 p.1) (option_and_then name_and_text found)) e ∙ ap (option_map (λ p. diff p.0 p.1)) (name_found name gap text n b))
 complete line (solve text) (asks_solve h) = found_before line (codes "solve") text (solve text) h refl (λ rest e. ap (option_map solve) e)
 complete line (expand text) (asks_expand h) = found_before line (codes "expand") text (expand text) h refl (λ rest e. ap (option_map expand) e)
+complete line list_names (asks_names h) = found_with line (codes "names") [] list_names h refl refl (λ rest e. ap (option_and_then (asked_for word.Names)) e)
 complete line help (asks_help h) = found_with line (codes "help") [] help h refl refl (λ rest e. ap (option_and_then (asked_for word.Help)) e)
 complete line (explain w) (asks_explain h) = found_with line (codes "help") (word_bytes w) (explain w) h refl (dark_word w) (λ rest e. ap (option_and_then (asked_for word.Help)) e ∙ explain_read w)
 

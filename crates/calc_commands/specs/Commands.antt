@@ -19,7 +19,7 @@ pub data Asked : Type 0 where
   after : ℕ → Asked
   diff : List ℕ → List ℕ → Asked
   solve expand : List ℕ → Asked
-  help : Asked
+  help list_names : Asked
   explain : Word → Asked
 
 abbrev pub asked_of : Command → Asked
@@ -34,6 +34,7 @@ asked_of (command.Solve text) = solve text.now
 asked_of (command.Expand text) = expand text.now
 asked_of command.Help = help
 asked_of (command.Explain w) = explain w
+asked_of command.Names = list_names
 
 -- a line is a colon and a word, with blanks around them, and an argument behind more blanks where there is one
 pub record Has (line word argument : List ℕ) : Type 0 where
@@ -77,3 +78,4 @@ pub data IsCommandLine (line : List ℕ) : Asked → Type 0 where
   asks_expand : {text : List ℕ} → HasText line (codes "expand") text → IsCommandLine line (expand text)
   asks_help : Has line (codes "help") [] → IsCommandLine line help
   asks_explain : {w : Word} → Has line (codes "help") (word_bytes w) → IsCommandLine line (explain w)
+  asks_names : Has line (codes "names") [] → IsCommandLine line list_names

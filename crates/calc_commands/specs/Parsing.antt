@@ -6,7 +6,7 @@ use Rattle.calc_commands.specs.declared.parts.Class.{Class}
 use Rattle.calc_commands.specs.declared.parts.Class.TheVariants as class
 use Rattle.calc_commands.specs.declared.words.Word.{Word}
 use Rattle.calc_commands.specs.declared.words.Word.TheVariants as word
-use Rattle.calc_commands.specs.{Commands.{Asked, pool, dump, draw, layout, forget, after, diff, solve, expand, help, explain}, Numbers.{value_of}, Words.{word_bytes, word_of}}
+use Rattle.calc_commands.specs.{Commands.{Asked, pool, dump, draw, layout, forget, after, diff, solve, expand, help, explain, list_names}, Numbers.{value_of}, Words.{word_bytes, word_of}}
 
 -- a byte is of a class
 abbrev pub is_in : Class → ℕ → Bool
@@ -45,6 +45,7 @@ abbrev pub asked_alone : Word → Option Asked
 asked_alone word.Help = Some help
 asked_alone word.Pool = Some pool
 asked_alone word.Dump = Some dump
+asked_alone word.Names = Some list_names
 asked_alone word.Draw = Some draw
 asked_alone word.Layout = Some layout
 asked_alone w = None

@@ -5,13 +5,14 @@ use Rattle.calc_commands.specs.declared.words.Word.TheVariants as word
 
 -- all words, in the order in which they are told
 abbrev pub all_words : List Word
-all_words = word.Help ∷ word.Pool ∷ word.Dump ∷ word.Forget ∷ word.After ∷ word.Layout ∷ word.Draw ∷ word.Diff ∷ word.Solve ∷ word.Expand ∷ []
+all_words = word.Help ∷ word.Pool ∷ word.Dump ∷ word.Names ∷ word.Forget ∷ word.After ∷ word.Layout ∷ word.Draw ∷ word.Diff ∷ word.Solve ∷ word.Expand ∷ []
 
 -- a word as it is typed
 abbrev pub word_bytes : Word → List ℕ
 word_bytes word.Help = codes "help"
 word_bytes word.Pool = codes "pool"
 word_bytes word.Dump = codes "dump"
+word_bytes word.Names = codes "names"
 word_bytes word.Forget = codes "forget"
 word_bytes word.After = codes "after"
 word_bytes word.Layout = codes "layout"
@@ -46,6 +47,7 @@ abbrev pub summary_of : Word → List ℕ
 summary_of word.Help = codes "these lines, or that of a word with an example"
 summary_of word.Pool = codes "how full the pool is"
 summary_of word.Dump = codes "the bytes of the pool"
+summary_of word.Names = codes "what is stored, in lines that store it again"
 summary_of word.Forget = codes "what is stored under the name X is forgotten"
 summary_of word.After = codes "a line is interrupted after K nodes"
 summary_of word.Layout = codes "the layout of the last answer in one line"
@@ -59,6 +61,7 @@ abbrev pub example_of : Word → List ℕ
 example_of word.Help = codes ":help diff"
 example_of word.Pool = codes ":pool"
 example_of word.Dump = codes ":dump"
+example_of word.Names = codes "5->x ; :names"
 example_of word.Forget = codes "5->x ; :forget x"
 example_of word.After = codes ":after 3 ; 1+2+3"
 example_of word.Layout = codes "x/2 ; :layout"

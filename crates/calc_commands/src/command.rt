@@ -35,6 +35,8 @@ pub enum Command<'a> {
     Help,
     /// The line of one, with an example.
     Explain(Word),
+    /// What is stored, in lines that store it again.
+    Names,
 }
 
 /// Whether the first byte that is no blank is `:`.
@@ -117,6 +119,7 @@ fn asked_alone<'a>(word: Word) -> Option<Command<'a>>
         Word::Help => Some(Command::Help),
         Word::Pool => Some(Command::Pool),
         Word::Dump => Some(Command::Dump),
+        Word::Names => Some(Command::Names),
         Word::Draw => Some(Command::Draw),
         Word::Layout => Some(Command::Layout),
         _ => None,
