@@ -19,6 +19,7 @@ use crate::differentiating::Derivative;
 use crate::drawing::write_layout;
 use crate::evaluating::refused;
 use crate::expanding::Expansion;
+use crate::naming::write_names;
 use crate::parts::Parts;
 use crate::reading::is_ans;
 use crate::{LineAnswer, Refusal};
@@ -99,6 +100,10 @@ impl Parts {
             Command::Expand(expression) => self.calculate(&Expansion, line, expression, watch),
             Command::Help => {
                 write_help(&mut self.text);
+                LineAnswer::Report
+            }
+            Command::Names => {
+                write_names(&self.work.pool, &self.table, &mut self.text);
                 LineAnswer::Report
             }
             Command::Explain(word) => {
