@@ -28,8 +28,18 @@ push-requires-2 c =
     let s = c.args.pool.now in
     let long = root_short s c.args.tree c.requires.stands c.requires.root c.requires.whole c.requires.writable in
     let name : length c.bytes.result.now ≤ 7 = c.bytes.ensures.name.short in
-    omega (arith, c.requires.room, long, name, ap (λ (x : Content). length x.bytes) c.write_text.ensures, ap (λ (x : Content). x.capacity) c.write_text.ensures, length-append c.args.text.now.bytes (text (plain (tree_at c.args.tree (forest s)))),
-      ap (λ (x : Content). length x.bytes) c.push.ensures, ap (λ (x : Content). x.capacity) c.push.ensures, length-append c.write_text.new.text.bytes arrow_sign)
+    omega (
+      arith,
+      c.requires.room,
+      long,
+      name,
+      ap (λ (x : Content). length x.bytes) c.write_text.ensures,
+      ap (λ (x : Content). x.capacity) c.write_text.ensures,
+      length-append c.args.text.now.bytes (text (plain (tree_at c.args.tree (forest s)))),
+      ap (λ (x : Content). length x.bytes) c.push.ensures,
+      ap (λ (x : Content). x.capacity) c.push.ensures,
+      length-append c.write_text.new.text.bytes arrow_sign,
+    )
 
 pub returns : goal.returns
 returns c =
