@@ -6,3 +6,4 @@ pub mod Lines
 pub mod Dumps
 pub mod Splitting
 pub mod Colons
+pub mod HelpLines

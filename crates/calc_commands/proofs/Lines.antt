@@ -3,8 +3,11 @@ use Rattle.calc_commands.proofs.Shared.{by_test, ◌≡◌, ◌∙◌, ℕ, ◌<
 use Rattle.calc_commands.proofs.Shared.{append-nil, is_in, bytes_eq-Decides, ltb, eqb-true, ne_eqb, bytes_eq, ◌||◌, not, codes, IfSome, IsNone, option_map, option_and_then, is_name, is_name_byte}
 use Rattle.calc_commands.proofs.Shared.{spelled, is_blank, leading_run, Asked, pool, dump, draw, layout, forget, after, diff, solve, expand, asked_of, begins_dark, Has, IsTextBehind, HasText}
 use Rattle.calc_commands.proofs.Shared.{IsCommandLine, asks_pool, asks_dump, asks_draw, asks_layout, asks_forget, asks_after, asks_diff, asks_solve, asks_expand, value_of, are_blanks, behind_colon}
+use Rattle.calc_commands.proofs.Shared.{asks_help, asks_names, asks_explain, help, list_names, explain, asked_by, asked_with, BeginsWithWord, all_words, word_among, word_bytes, word_of}
+use Rattle.calc_commands.specs.declared.words.Word.{Word}
+use Rattle.calc_commands.specs.declared.words.Word.TheVariants as word
 use Rattle.calc_commands.proofs.Shared.{argument_of, word_and_rest, text_behind, name_and_text, asked_alone, asked_for, asked_to_derive, asked_in, Command, run_whole, run_all, run_stops, stops}
-use Rattle.calc_commands.proofs.{Shared.{run_of}, Values.{not_digits}, Runs.{all-append, all_other, first_of_all}}
+use Rattle.calc_commands.proofs.{Shared.{run_of}, Values.{no_digits, not_digits}, Runs.{all-append, all_other, first_of_all}}
 use Rattle.std.proofs.Common.{eqb}
 use Rattle.calc_commands.specs.declared.parts.Class.TheVariants as class
 
@@ -187,11 +190,24 @@ name_there bytes name text h =
 asks : {line : List ℕ} {a b : Asked} → IsCommandLine line a → Some a ≡ Some b → IsCommandLine line b
 asks {line = line} {a = a} {b = b} h e = let same : a ≡ b = cc in subst (IsCommandLine line) same h
 
-word_is : {line argument : List ℕ} (word wanted : List ℕ) → bytes_eq word wanted ≡ true → Has line word argument → Has line wanted argument
-word_is {line = line} {argument = argument} word wanted e h = subst (λ w. Has line w argument) ((bytes_eq-Decides word wanted).0 e) h
+bytes_are : (ws : List Word) (bytes : List ℕ) (w : Word) → word_among ws bytes ≡ Some w → word_bytes w ≡ bytes
+bytes_are [] bytes w e = absurd cc
+bytes_are (v ∷ ws) bytes w e =
+    by_test (λ t. bytes_eq (word_bytes v) bytes ≡ t → cond t (Some v) (word_among ws bytes) ≡ Some w → word_bytes w ≡ bytes) (bytes_eq (word_bytes v) bytes)
+    (λ z p k. let same : v ≡ w = cc in ap word_bytes (sym same) ∙ (bytes_eq-Decides (word_bytes v) bytes).0 p) (λ z p k. bytes_are ws bytes w k) refl e
 
-alone_sound : (line word : List ℕ) (q : Asked) → Has line word [] → asked_alone word ≡ Some q → IsCommandLine line q
-alone_sound line word q h e = grind (arith, bytes_eq-Decides, asks_pool, asks_dump, asks_draw, asks_layout)
+alone_sound : (line : List ℕ) (w : Word) (q : Asked) → Has line (word_bytes w) [] → asked_alone w ≡ Some q → IsCommandLine line q
+alone_sound line word.Help q h e = asks (asks_help h) e
+alone_sound line word.Pool q h e = asks (asks_pool h) e
+alone_sound line word.Dump q h e = asks (asks_dump h) e
+alone_sound line word.Names q h e = asks (asks_names h) e
+alone_sound line word.Forget q h e = absurd cc
+alone_sound line word.After q h e = absurd cc
+alone_sound line word.Layout q h e = asks (asks_layout h) e
+alone_sound line word.Draw q h e = asks (asks_draw h) e
+alone_sound line word.Diff q h e = absurd cc
+alone_sound line word.Solve q h e = absurd cc
+alone_sound line word.Expand q h e = absurd cc
 
 empty_by : (bytes : List ℕ) → eqb (length bytes) 0 ≡ true → bytes ≡ []
 empty_by [] h = refl
@@ -201,58 +217,78 @@ number_sound : (line argument : List ℕ) (q : Asked) (k : Option ℕ) → value
 number_sound line argument q None v h e = absurd cc
 number_sound line argument q (Some k) v h e = asks (asks_after h v) e
 
-argument_sound : (line word argument : List ℕ) (q : Asked) → Has line word argument → asked_for word argument ≡ Some q → IsCommandLine line q
-argument_sound line word argument q h e =
-    by_test (λ t. bytes_eq word (codes "forget") ≡ t → cond t (cond (is_name argument) (Some (forget argument)) None) (cond (bytes_eq word (codes "after")) (option_map after (value_of argument)) (cond (eqb (length argument) 0) (asked_alone word) None)) ≡ Some q → IsCommandLine line q)
-    (bytes_eq word (codes "forget"))
-    (λ z p k. by_test (λ t. is_name argument ≡ t → cond t (Some (forget argument)) None ≡ Some q → IsCommandLine line q) (is_name argument) (λ z n k. asks (asks_forget (word_is word (codes "forget") p h) n) k) (λ z n k. absurd cc) refl k)
-    (λ z p k. by_test (λ t. bytes_eq word (codes "after") ≡ t → cond t (option_map after (value_of argument)) (cond (eqb (length argument) 0) (asked_alone word) None) ≡ Some q → IsCommandLine line q) (bytes_eq word (codes "after"))
-    (λ z p k. number_sound line argument q (value_of argument) refl (word_is word (codes "after") p h) k)
-    (λ z p k. by_test (λ t. eqb (length argument) 0 ≡ t → cond t (asked_alone word) None ≡ Some q → IsCommandLine line q) (eqb (length argument) 0)
-    (λ z n k. alone_sound line word q (subst (Has line word) (empty_by argument n) h) k) (λ z n k. absurd cc) refl k) refl k) refl e
+explain_sound : (line argument : List ℕ) (q : Asked) (found : Option Word) → word_of argument ≡ found → Has line (codes "help") argument → option_map explain found ≡ Some q → IsCommandLine line q
+explain_sound line argument q None v h e = absurd cc
+explain_sound line argument q (Some w) v h e = asks (asks_explain (subst (Has line (codes "help")) (sym (bytes_are all_words argument w v)) h)) e
+
+with_sound : (line : List ℕ) (w : Word) (argument : List ℕ) (q : Asked) → Has line (word_bytes w) argument → asked_with w argument ≡ Some q → IsCommandLine line q
+with_sound line word.Help argument q h e = explain_sound line argument q (word_of argument) refl h e
+with_sound line word.Pool argument q h e = absurd cc
+with_sound line word.Dump argument q h e = absurd cc
+with_sound line word.Names argument q h e = absurd cc
+with_sound line word.Forget argument q h e =
+    by_test (λ t. is_name argument ≡ t → cond t (Some (forget argument)) None ≡ Some q → IsCommandLine line q) (is_name argument) (λ z n k. asks (asks_forget h n) k) (λ z n k. absurd cc) refl e
+with_sound line word.After argument q h e = number_sound line argument q (value_of argument) refl h e
+with_sound line word.Layout argument q h e = absurd cc
+with_sound line word.Draw argument q h e = absurd cc
+with_sound line word.Diff argument q h e = absurd cc
+with_sound line word.Solve argument q h e = absurd cc
+with_sound line word.Expand argument q h e = absurd cc
+
+argument_sound : (line : List ℕ) (w : Word) (argument : List ℕ) (q : Asked) → Has line (word_bytes w) argument → asked_for w argument ≡ Some q → IsCommandLine line q
+argument_sound line w argument q h e =
+    by_test (λ t. eqb (length argument) 0 ≡ t → cond t (asked_alone w) (asked_with w argument) ≡ Some q → IsCommandLine line q) (eqb (length argument) 0)
+    (λ z n k. alone_sound line w q (subst (Has line (word_bytes w)) (empty_by argument n) h) k) (λ z n k. with_sound line w argument q h k) refl e
 
 -- a word with a text
-text_sound : {line word rest text : List ℕ} (wanted : List ℕ) → bytes_eq word wanted ≡ true → HasWord line word rest → IsText rest text → HasText line wanted text
-text_sound wanted e h x = grind (arith, bytes_eq-Decides)
+text_sound : {line word rest text : List ℕ} → HasWord line word rest → IsText rest text → HasText line word text
+text_sound {word = word} h x = record { before = h.before; gap = x.gap; whole = h.whole ∙ ap (λ y. h.before ++ (58 ∷ (word ++ y))) x.whole; blank_before = h.blank_before; behind = x.behind }
 
-solve_sound : (line word rest : List ℕ) (q : Asked) → bytes_eq word (codes "solve") ≡ true → HasWord line word rest → (found : Option (List ℕ)) → text_behind rest ≡ found → option_map solve found ≡ Some q → IsCommandLine line q
-solve_sound line word rest q w h None e k = absurd cc
-solve_sound line word rest q w h (Some text) e k = asks (asks_solve (text_sound (codes "solve") w h (text_there rest text e))) k
+solve_sound : (line rest : List ℕ) (q : Asked) → HasWord line (codes "solve") rest → (found : Option (List ℕ)) → text_behind rest ≡ found → option_map solve found ≡ Some q → IsCommandLine line q
+solve_sound line rest q h None e k = absurd cc
+solve_sound line rest q h (Some text) e k = asks (asks_solve (text_sound h (text_there rest text e))) k
 
-expand_sound : (line word rest : List ℕ) (q : Asked) → bytes_eq word (codes "expand") ≡ true → HasWord line word rest → (found : Option (List ℕ)) → text_behind rest ≡ found → option_map expand found ≡ Some q → IsCommandLine line q
-expand_sound line word rest q w h None e k = absurd cc
-expand_sound line word rest q w h (Some text) e k = asks (asks_expand (text_sound (codes "expand") w h (text_there rest text e))) k
+expand_sound : (line rest : List ℕ) (q : Asked) → HasWord line (codes "expand") rest → (found : Option (List ℕ)) → text_behind rest ≡ found → option_map expand found ≡ Some q → IsCommandLine line q
+expand_sound line rest q h None e k = absurd cc
+expand_sound line rest q h (Some text) e k = asks (asks_expand (text_sound h (text_there rest text e))) k
 
-diff_there : (line word rest name text : List ℕ) → bytes_eq word (codes "diff") ≡ true → HasWord line word rest → (bytes : List ℕ) → IsText rest bytes → IsNameAndText bytes name text → IsCommandLine line (diff name text)
-diff_there line word rest name text w h bytes x y =
-    asks_diff (subst (HasText line (codes "diff")) (y.whole ∙ ap (λ b. name ++ b) y.behind.whole) (text_sound (codes "diff") w h x)) y.named y.behind.behind
+diff_there : (line rest name text : List ℕ) → HasWord line (codes "diff") rest → (bytes : List ℕ) → IsText rest bytes → IsNameAndText bytes name text → IsCommandLine line (diff name text)
+diff_there line rest name text h bytes x y = asks_diff (subst (HasText line (codes "diff")) (y.whole ∙ ap (λ b. name ++ b) y.behind.whole) (text_sound h x)) y.named y.behind.behind
 
-diff_sound : (line word rest : List ℕ) (q : Asked) → bytes_eq word (codes "diff") ≡ true → HasWord line word rest → asked_to_derive rest ≡ Some q → IsCommandLine line q
-diff_sound line word rest q w h k = by (text_behind rest) refl k
+diff_sound : (line rest : List ℕ) (q : Asked) → HasWord line (codes "diff") rest → asked_to_derive rest ≡ Some q → IsCommandLine line q
+diff_sound line rest q h k = by (text_behind rest) refl k
   where
     named : (bytes : List ℕ) → text_behind rest ≡ Some bytes → (found : Option (List ℕ × List ℕ)) → name_and_text bytes ≡ found → option_map (λ p. diff p.0 p.1) found ≡ Some q → IsCommandLine line q
     named bytes e None f k = absurd cc
-    named bytes e (Some (name, text)) f k = asks (diff_there line word rest name text w h bytes (text_there rest bytes e) (name_there bytes name text f)) k
+    named bytes e (Some (name, text)) f k = asks (diff_there line rest name text h bytes (text_there rest bytes e) (name_there bytes name text f)) k
 
     by : (found : Option (List ℕ)) → text_behind rest ≡ found → option_map (λ p. diff p.0 p.1) (option_and_then name_and_text found) ≡ Some q → IsCommandLine line q
     by None e k = absurd cc
     by (Some bytes) e k = named bytes e (name_and_text bytes) refl k
 
-plain_sound : (line word rest : List ℕ) (q : Asked) → HasWord line word rest → (found : Option (List ℕ)) → argument_of rest ≡ found → option_and_then (asked_for word) found ≡ Some q → IsCommandLine line q
-plain_sound line word rest q h None e k = absurd cc
-plain_sound line word rest q h (Some argument) e k = argument_sound line word argument q (there line word rest argument h e) k
+plain_sound : (line : List ℕ) (w : Word) (rest : List ℕ) (q : Asked) → HasWord line (word_bytes w) rest → (found : Option (List ℕ)) → argument_of rest ≡ found → option_and_then (asked_for w) found ≡ Some q → IsCommandLine line q
+plain_sound line w rest q h None e k = absurd cc
+plain_sound line w rest q h (Some argument) e k = argument_sound line w argument q (there line (word_bytes w) rest argument h e) k
 
-sound : (line word rest : List ℕ) (q : Asked) → HasWord line word rest → asked_in word rest ≡ Some q → IsCommandLine line q
-sound line word rest q h e =
-    by_test (λ t. bytes_eq word (codes "diff") ≡ t → cond t (asked_to_derive rest) (cond (bytes_eq word (codes "solve")) (option_map solve (text_behind rest)) expand_or_plain) ≡ Some q → IsCommandLine line q)
-    (bytes_eq word (codes "diff")) (λ z p k. diff_sound line word rest q p h k)
-    (λ z p k. by_test (λ t. bytes_eq word (codes "solve") ≡ t → cond t (option_map solve (text_behind rest)) expand_or_plain ≡ Some q → IsCommandLine line q)
-    (bytes_eq word (codes "solve")) (λ z p k. solve_sound line word rest q p h (text_behind rest) refl k)
-    (λ z p k. by_test (λ t. bytes_eq word (codes "expand") ≡ t → cond t (option_map expand (text_behind rest)) (option_and_then (asked_for word) (argument_of rest)) ≡ Some q → IsCommandLine line q)
-    (bytes_eq word (codes "expand")) (λ z p k. expand_sound line word rest q p h (text_behind rest) refl k) (λ z p k. plain_sound line word rest q h (argument_of rest) refl k) refl k) refl k) refl e
+by_sound : (line : List ℕ) (w : Word) (rest : List ℕ) (q : Asked) → HasWord line (word_bytes w) rest → asked_by w rest ≡ Some q → IsCommandLine line q
+by_sound line word.Help rest q h e = plain_sound line word.Help rest q h (argument_of rest) refl e
+by_sound line word.Pool rest q h e = plain_sound line word.Pool rest q h (argument_of rest) refl e
+by_sound line word.Dump rest q h e = plain_sound line word.Dump rest q h (argument_of rest) refl e
+by_sound line word.Names rest q h e = plain_sound line word.Names rest q h (argument_of rest) refl e
+by_sound line word.Forget rest q h e = plain_sound line word.Forget rest q h (argument_of rest) refl e
+by_sound line word.After rest q h e = plain_sound line word.After rest q h (argument_of rest) refl e
+by_sound line word.Layout rest q h e = plain_sound line word.Layout rest q h (argument_of rest) refl e
+by_sound line word.Draw rest q h e = plain_sound line word.Draw rest q h (argument_of rest) refl e
+by_sound line word.Diff rest q h e = diff_sound line rest q h e
+by_sound line word.Solve rest q h e = solve_sound line rest q h (text_behind rest) refl e
+by_sound line word.Expand rest q h e = expand_sound line rest q h (text_behind rest) refl e
+
+sound : (line bytes rest : List ℕ) (q : Asked) → HasWord line bytes rest → asked_in bytes rest ≡ Some q → IsCommandLine line q
+sound line bytes rest q h e = by (word_of bytes) refl e
   where
-    expand_or_plain : Option Asked
-    expand_or_plain = cond (bytes_eq word (codes "expand")) (option_map expand (text_behind rest)) (option_and_then (asked_for word) (argument_of rest))
+    by : (found : Option Word) → word_of bytes ≡ found → option_and_then (λ w. asked_by w rest) found ≡ Some q → IsCommandLine line q
+    by None f k = absurd cc
+    by (Some w) f k = by_sound line w rest q (subst (λ b. HasWord line b rest) (sym (bytes_are all_words bytes w f)) h) k
 
 record IsFound (line : List ℕ) (q : Asked) : Type 0 where
   word : List ℕ
@@ -279,17 +315,72 @@ found_before line word text q h w is = record {
   asks = is (h.gap ++ text) (text_found h.gap text h.behind);
 }
 
+clash : {A : Type 0} (x : A) (o : Option A) → o ≡ None → o ≡ Some x → ⊥
+clash x o e f = cc
+
+some_name : (x : List ℕ) → is_name x ≡ true → 0 < length x
+some_name [] n = absurd cc
+some_name (b ∷ x) n = omega arith
+
+forget_read : (x : List ℕ) → is_name x ≡ true → asked_for word.Forget x ≡ Some (forget x)
+forget_read x n = rw (not_empty x (some_name x n), n) refl
+
+some_digit : (digits : List ℕ) (k : ℕ) → value_of digits ≡ Some k → 0 < length digits
+some_digit [] k v = absurd (clash k (value_of []) no_digits v)
+some_digit (b ∷ digits) k v = omega arith
+
+after_read : (digits : List ℕ) (k : ℕ) → value_of digits ≡ Some k → asked_for word.After digits ≡ Some (after k)
+after_read digits k v = rw (not_empty digits (some_digit digits k v)) (ap (option_map after) v)
+
+-- a word is dark, and it is read as itself
+dark_word : (w : Word) → list_all (is_in class.Dark) (word_bytes w) ≡ true
+dark_word word.Help = refl
+dark_word word.Pool = refl
+dark_word word.Dump = refl
+dark_word word.Names = refl
+dark_word word.Forget = refl
+dark_word word.After = refl
+dark_word word.Layout = refl
+dark_word word.Draw = refl
+dark_word word.Diff = refl
+dark_word word.Solve = refl
+dark_word word.Expand = refl
+
+explain_read : (w : Word) → asked_for word.Help (word_bytes w) ≡ Some (explain w)
+explain_read word.Help = refl
+explain_read word.Pool = refl
+explain_read word.Dump = refl
+explain_read word.Names = refl
+explain_read word.Forget = refl
+explain_read word.After = refl
+explain_read word.Layout = refl
+explain_read word.Draw = refl
+explain_read word.Diff = refl
+explain_read word.Solve = refl
+explain_read word.Expand = refl
+
 complete : (line : List ℕ) (q : Asked) → IsCommandLine line q → IsFound line q
-complete line pool (asks_pool h) = found_with line (codes "pool") [] pool h refl refl (λ rest e. ap (option_and_then (asked_for (codes "pool"))) e)
-complete line dump (asks_dump h) = found_with line (codes "dump") [] dump h refl refl (λ rest e. ap (option_and_then (asked_for (codes "dump"))) e)
-complete line draw (asks_draw h) = found_with line (codes "draw") [] draw h refl refl (λ rest e. ap (option_and_then (asked_for (codes "draw"))) e)
-complete line layout (asks_layout h) = found_with line (codes "layout") [] layout h refl refl (λ rest e. ap (option_and_then (asked_for (codes "layout"))) e)
-complete line (forget x) (asks_forget h n) = found_with line (codes "forget") x (forget x) h refl (dark_name x n) (λ rest e. ap (option_and_then (asked_for (codes "forget"))) e ∙ ap (λ (t : Bool). cond t (Some (forget x)) None) n)
-complete line (after k) (asks_after {digits} h v) = found_with line (codes "after") digits (after k) h refl (dark_digits digits k v) (λ rest e. ap (option_and_then (asked_for (codes "after"))) e ∙ ap (option_map after) v)
+complete line pool (asks_pool h) = found_with line (codes "pool") [] pool h refl refl (λ rest e. ap (option_and_then (asked_for word.Pool)) e)
+complete line dump (asks_dump h) = found_with line (codes "dump") [] dump h refl refl (λ rest e. ap (option_and_then (asked_for word.Dump)) e)
+complete line draw (asks_draw h) = found_with line (codes "draw") [] draw h refl refl (λ rest e. ap (option_and_then (asked_for word.Draw)) e)
+complete line layout (asks_layout h) = found_with line (codes "layout") [] layout h refl refl (λ rest e. ap (option_and_then (asked_for word.Layout)) e)
+complete line (forget x) (asks_forget h n) = found_with line (codes "forget") x (forget x) h refl (dark_name x n) (λ rest e. ap (option_and_then (asked_for word.Forget)) e ∙ forget_read x n)
+complete line (after k) (asks_after {digits} h v) = found_with line (codes "after") digits (after k) h refl (dark_digits digits k v) (λ rest e. ap (option_and_then (asked_for word.After)) e ∙ after_read digits k v)
 complete line (diff name text) (asks_diff {gap = gap} h n b) =
     found_before line (codes "diff") (name ++ (gap ++ text)) (diff name text) h refl (λ rest e. ap (λ found. option_map (λ p. diff p.0 p.1) (option_and_then name_and_text found)) e ∙ ap (option_map (λ p. diff p.0 p.1)) (name_found name gap text n b))
 complete line (solve text) (asks_solve h) = found_before line (codes "solve") text (solve text) h refl (λ rest e. ap (option_map solve) e)
 complete line (expand text) (asks_expand h) = found_before line (codes "expand") text (expand text) h refl (λ rest e. ap (option_map expand) e)
+complete line list_names (asks_names h) = found_with line (codes "names") [] list_names h refl refl (λ rest e. ap (option_and_then (asked_for word.Names)) e)
+complete line help (asks_help h) = found_with line (codes "help") [] help h refl refl (λ rest e. ap (option_and_then (asked_for word.Help)) e)
+complete line (explain w) (asks_explain h) = found_with line (codes "help") (word_bytes w) (explain w) h refl (dark_word w) (λ rest e. ap (option_and_then (asked_for word.Help)) e ∙ explain_read w)
+
+-- a line that asks for something begins with a word
+pub begins_word_of : (line : List ℕ) (q : Asked) → IsCommandLine line q → BeginsWithWord line
+begins_word_of line q h = let x = complete line q h in by x.word x.rest x.parts (word_of x.word) refl x.asks
+  where
+    by : (bytes rest : List ℕ) → word_and_rest line ≡ Some (bytes, rest) → (found : Option Word) → word_of bytes ≡ found → option_and_then (λ w. asked_by w rest) found ≡ Some q → BeginsWithWord line
+    by bytes rest e None f k = absurd cc
+    by bytes rest e (Some w) f k = record { word = w; rest = rest; parts = e ∙ ap (λ b. Some (b, rest)) (sym (bytes_are all_words bytes w f)) }
 
 -- a line with these parts asks for what they ask for
 asks_for : (line word rest : List ℕ) (q : Asked) → word_and_rest line ≡ Some (word, rest) → IsCommandLine line q → asked_in word rest ≡ Some q
@@ -298,17 +389,17 @@ asks_for line word rest q e h =
     let same = pairs x.word word x.rest rest (sym x.parts ∙ e) in
     ap (λ w. asked_in w rest) (sym same.0) ∙ ap (asked_in x.word) (sym same.1) ∙ x.asks
 
+same_asked : (a b : Asked) → Some a ≡ Some b → a ≡ b
+same_asked a b e = cc
+
 pub once : (line : List ℕ) (a b : Asked) → IsCommandLine line a → IsCommandLine line b → a ≡ b
-once line a b h k = grind (arith, complete, asks, asks_for)
+once line a b h k = let x = complete line a h in same_asked a b (sym x.asks ∙ asks_for line x.word x.rest b x.parts k)
 
 -- ---- what the reader answers
 
 pub answers : (r : Option Command) (line word rest : List ℕ) → word_and_rest line ≡ Some (word, rest) → option_map asked_of r ≡ asked_in word rest → IfSome r (λ c. IsCommandLine line (asked_of c))
 answers None line word rest e f = tt
 answers (Some c) line word rest e f = sound line word rest (asked_of c) (word_there line word rest e) (sym f)
-
-clash : {A : Type 0} (x : A) (o : Option A) → o ≡ None → o ≡ Some x → ⊥
-clash x o e f = cc
 
 pub answers_none : (r : Option Command) (line word rest : List ℕ) → word_and_rest line ≡ Some (word, rest) → option_map asked_of r ≡ asked_in word rest
     → (IsNone r → (q : Asked) → IsCommandLine line q → ⊥) × (((q : Asked) → IsCommandLine line q → ⊥) → IsNone r)

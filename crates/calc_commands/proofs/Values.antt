@@ -1,11 +1,15 @@
 -- The value of a text of digits.
-use Rattle.calc_commands.proofs.Shared.{arith, ◌≡◌, ℕ, ◌<◌, ◌≤◌, List, length, false, Some, None, Result, sym, ap, lt-ltb, list_all, is_ascii_digit, result_ok, ParsesUnsigned, digits_value, ◌^◌, Ok}
+use Rattle.calc_commands.proofs.Shared.{arith, ◌≡◌, ℕ, ◌<◌, ◌≤◌, List, [], length, refl, false, Some, None, Result, sym, ap, lt-ltb, list_all, is_ascii_digit, result_ok, ParsesUnsigned, digits_value, ◌^◌, Ok}
 use Rattle.calc_commands.proofs.{Shared.{Err, parse_digits, le-leb}, Digits.{AreDigits, digits_are_numerals}}
 use Rattle.calc_commands.specs.Numbers.{value_of}
 
 pub too_many_digits : (text : List ℕ) → 20 < length text → value_of text ≡ None
 unfolding value_of
 too_many_digits text l = grind arith
+
+pub no_digits : value_of [] ≡ None
+unfolding value_of
+no_digits = refl
 
 pub not_digits : (text : List ℕ) → list_all is_ascii_digit text ≡ false → value_of text ≡ None
 unfolding value_of

@@ -4,20 +4,23 @@ use Rattle.calc_terms.specs.{Leaf.{name_of}, Name.{is_name}}
 use Rattle.calc_language.specs.Tokens.{is_blank}
 use Rattle.calc_commands.specs.declared.command.Command.{Command}
 use Rattle.calc_commands.specs.declared.command.Command.TheVariants as command
-use Rattle.calc_commands.specs.Numbers.{value_of}
+use Rattle.calc_commands.specs.declared.words.Word.{Word}
+use Rattle.calc_commands.specs.{Numbers.{value_of}, Words.{word_bytes}}
 
 -- the first byte that is no blank is `:`
 abbrev pub is_command : List ℕ → Bool
 is_command [] = false
 is_command (b ∷ bytes) = if is_blank b then is_command bytes else (b == 58)
 
--- what a command asks for: a name by its bytes, after how many checks a breaker trips, and a text to calculate with
+-- what a command asks for: a name by its bytes, after how many checks a breaker trips, a text to calculate with, and a word to be explained
 pub data Asked : Type 0 where
   pool dump draw layout : Asked
   forget : List ℕ → Asked
   after : ℕ → Asked
   diff : List ℕ → List ℕ → Asked
   solve expand : List ℕ → Asked
+  help list_names : Asked
+  explain : Word → Asked
 
 abbrev pub asked_of : Command → Asked
 asked_of command.Pool = pool
@@ -29,6 +32,9 @@ asked_of command.Layout = layout
 asked_of (command.Diff name text) = diff (name_of name) text.now
 asked_of (command.Solve text) = solve text.now
 asked_of (command.Expand text) = expand text.now
+asked_of command.Help = help
+asked_of (command.Explain w) = explain w
+asked_of command.Names = list_names
 
 -- a line is a colon and a word, with blanks around them, and an argument behind more blanks where there is one
 pub record Has (line word argument : List ℕ) : Type 0 where
@@ -70,3 +76,6 @@ pub data IsCommandLine (line : List ℕ) : Asked → Type 0 where
   asks_diff : {name gap text : List ℕ} → HasText line (codes "diff") (name ++ (gap ++ text)) → is_name name ≡ true → IsTextBehind gap text → IsCommandLine line (diff name text)
   asks_solve : {text : List ℕ} → HasText line (codes "solve") text → IsCommandLine line (solve text)
   asks_expand : {text : List ℕ} → HasText line (codes "expand") text → IsCommandLine line (expand text)
+  asks_help : Has line (codes "help") [] → IsCommandLine line help
+  asks_explain : {w : Word} → Has line (codes "help") (word_bytes w) → IsCommandLine line (explain w)
+  asks_names : Has line (codes "names") [] → IsCommandLine line list_names

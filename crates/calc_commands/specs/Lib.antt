@@ -4,3 +4,4 @@ pub mod Parsing
 pub mod Reports
 pub mod Equations
 pub mod Ranges
+pub mod Words

@@ -1,11 +1,12 @@
 -- How a command line is cut.
-use Rattle.std.specs.{Prelude.{ℕ, ◌==◌, List, [], ◌∷◌, length, Bool, ◌&&◌, ◌||◌, not, nat_le, nat_lt, if◌then◌else◌, Option, Some, None, codes}, List.{list_all}, Option.{option_map, option_and_then}}
-use Rattle.std.specs.Str.{bytes_eq}
+use Rattle.std.specs.{Prelude.{ℕ, ◌≡◌, ◌==◌, List, [], ◌∷◌, length, Bool, ◌&&◌, ◌||◌, not, nat_le, nat_lt, if◌then◌else◌, Option, Some, None}, List.{list_all}, Option.{option_map, option_and_then}}
 use Rattle.calc_terms.specs.Name.{is_name}
 use Rattle.calc_language.specs.Tokens.{is_blank, leading_run}
 use Rattle.calc_commands.specs.declared.parts.Class.{Class}
 use Rattle.calc_commands.specs.declared.parts.Class.TheVariants as class
-use Rattle.calc_commands.specs.{Commands.{Asked, pool, dump, draw, layout, forget, after, diff, solve, expand}, Numbers.{value_of}}
+use Rattle.calc_commands.specs.declared.words.Word.{Word}
+use Rattle.calc_commands.specs.declared.words.Word.TheVariants as word
+use Rattle.calc_commands.specs.{Commands.{Asked, pool, dump, draw, layout, forget, after, diff, solve, expand, help, explain, list_names}, Numbers.{value_of}, Words.{word_bytes, word_of}}
 
 -- a byte is of a class
 abbrev pub is_in : Class → ℕ → Bool
@@ -39,23 +40,41 @@ text_behind rest = let run = leading_run is_blank rest in if (length run.0 == 0)
 abbrev pub name_and_text : List ℕ → Option (List ℕ × List ℕ)
 name_and_text text = let run = leading_run (is_in class.Dark) text in if is_name run.0 then option_map (λ behind. (run.0, behind)) (text_behind run.1) else None
 
--- what a word asks for
-abbrev pub asked_alone : List ℕ → Option Asked
-asked_alone word =
-    if bytes_eq word (codes "pool") then Some pool else if bytes_eq word (codes "dump") then Some dump
-    else if bytes_eq word (codes "draw") then Some draw else if bytes_eq word (codes "layout") then Some layout else None
+-- what a word alone asks for
+abbrev pub asked_alone : Word → Option Asked
+asked_alone word.Help = Some help
+asked_alone word.Pool = Some pool
+asked_alone word.Dump = Some dump
+asked_alone word.Names = Some list_names
+asked_alone word.Draw = Some draw
+asked_alone word.Layout = Some layout
+asked_alone w = None
 
-abbrev pub asked_for : List ℕ → List ℕ → Option Asked
-asked_for word argument =
-    if bytes_eq word (codes "forget") then (if is_name argument then Some (forget argument) else None)
-    else if bytes_eq word (codes "after") then option_map after (value_of argument)
-    else if length argument == 0 then asked_alone word else None
+-- what it asks for with an argument
+abbrev pub asked_with : Word → List ℕ → Option Asked
+asked_with word.Help argument = option_map explain (word_of argument)
+asked_with word.Forget argument = if is_name argument then Some (forget argument) else None
+asked_with word.After argument = option_map after (value_of argument)
+asked_with w argument = None
+
+abbrev pub asked_for : Word → List ℕ → Option Asked
+asked_for w argument = if length argument == 0 then asked_alone w else asked_with w argument
 
 abbrev pub asked_to_derive : List ℕ → Option Asked
 asked_to_derive rest = option_map (λ found. diff found.0 found.1) (option_and_then name_and_text (text_behind rest))
 
 -- what a word and what stands behind it ask for
+abbrev pub asked_by : Word → List ℕ → Option Asked
+asked_by word.Diff rest = asked_to_derive rest
+asked_by word.Solve rest = option_map solve (text_behind rest)
+asked_by word.Expand rest = option_map expand (text_behind rest)
+asked_by w rest = option_and_then (asked_for w) (argument_of rest)
+
 abbrev pub asked_in : List ℕ → List ℕ → Option Asked
-asked_in word rest =
-    if bytes_eq word (codes "diff") then asked_to_derive rest else if bytes_eq word (codes "solve") then option_map solve (text_behind rest)
-    else if bytes_eq word (codes "expand") then option_map expand (text_behind rest) else option_and_then (asked_for word) (argument_of rest)
+asked_in bytes rest = option_and_then (λ w. asked_by w rest) (word_of bytes)
+
+-- a line is a colon and a word of the table, with blanks before the colon, and no small letter stands behind the word
+pub record BeginsWithWord (line : List ℕ) : Type 0 where
+  pub word : Word
+  pub rest : List ℕ
+  pub parts : word_and_rest line ≡ Some (word_bytes word, rest)

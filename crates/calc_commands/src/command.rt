@@ -2,10 +2,11 @@
 ghost use Rattle.std.specs.Prelude.{◌≡◌, ◌↔◌, IfSome, IsNone, Some, None};
 ghost use Rattle.std.specs.Option.{option_map};
 ghost use Rattle.calc_commands.specs.Commands.{Asked, IsCommandLine, asked_of, is_command as begins_with_colon};
-ghost use Rattle.calc_commands.specs.Parsing.{asked_for, asked_alone, asked_in, asked_to_derive as derivative_asked_in};
+ghost use Rattle.calc_commands.specs.Parsing.{asked_alone as asked_by_it, asked_by as asked_behind, asked_for as asked_for_it, asked_in, asked_to_derive as derivative_asked_in, asked_with as asked_with_it};
 
 use crate::numbers::read_number;
 use crate::parts::{argument, name_and_text, text_behind, word_and_rest};
+use crate::words::Word;
 use calc_terms::Name;
 use calc_tokens::is_blank;
 
@@ -30,6 +31,12 @@ pub enum Command<'a> {
     Solve(&'a [u8]),
     /// The expanded form of an expression.
     Expand(&'a [u8]),
+    /// A line for each command.
+    Help,
+    /// The line of one, with an example.
+    Explain(Word),
+    /// What is stored, in lines that store it again.
+    Names,
 }
 
 /// Whether the first byte that is no blank is `:`.
@@ -54,20 +61,23 @@ pub fn read_command(line: &[u8]) -> Option<Command<'_>>
     asked(word, rest)
 }
 
-/// What a word with what stands behind it asks for.
-fn asked<'a>(word: &'a [u8], rest: &'a [u8]) -> Option<Command<'a>>
+/// What the bytes of a word with what stands behind them ask for.
+fn asked<'a>(word: &[u8], rest: &'a [u8]) -> Option<Command<'a>>
     ensures { option_map asked_of result ≡ asked_in word.now rest.now }
 {
-    if word == b"diff".as_slice() {
-        return asked_to_derive(rest);
+    asked_by(Word::read(word)?, rest)
+}
+
+/// What a word with what stands behind it asks for.
+fn asked_by(word: Word, rest: &[u8]) -> Option<Command<'_>>
+    ensures { option_map asked_of result ≡ asked_behind word rest.now }
+{
+    match word {
+        Word::Diff => asked_to_derive(rest),
+        Word::Solve => Some(Command::Solve(text_behind(rest)?)),
+        Word::Expand => Some(Command::Expand(text_behind(rest)?)),
+        _ => asked_for(word, argument(rest)?),
     }
-    if word == b"solve".as_slice() {
-        return Some(Command::Solve(text_behind(rest)?));
-    }
-    if word == b"expand".as_slice() {
-        return Some(Command::Expand(text_behind(rest)?));
-    }
-    asked_with(word, argument(rest)?)
 }
 
 /// What stands behind `diff` asks for.
@@ -78,38 +88,40 @@ fn asked_to_derive(rest: &[u8]) -> Option<Command<'_>>
     Some(Command::Diff(name, text))
 }
 
-/// What a word with its argument asks for.
-fn asked_with<'a>(word: &'a [u8], argument: &'a [u8]) -> Option<Command<'a>>
-    ensures { option_map asked_of result ≡ asked_for word.now argument.now }
+/// What a word with its argument, or with none, asks for.
+fn asked_for<'a>(word: Word, argument: &'a [u8]) -> Option<Command<'a>>
+    ensures { option_map asked_of result ≡ asked_for_it word argument.now }
 {
-    if word == b"forget".as_slice() {
-        let name = Name::read(argument)?;
-        return Some(Command::Forget(name));
-    }
-    if word == b"after".as_slice() {
-        let checks = read_number(argument)?;
-        return Some(Command::After(checks));
-    }
     if argument.is_empty() {
-        asked_by(word)
+        asked_alone(word)
     } else {
-        None
+        asked_with(word, argument)
+    }
+}
+
+/// What a word with an argument asks for.
+fn asked_with<'a>(word: Word, argument: &'a [u8]) -> Option<Command<'a>>
+    ensures { option_map asked_of result ≡ asked_with_it word argument.now }
+{
+    match word {
+        Word::Help => Some(Command::Explain(Word::read(argument)?)),
+        Word::Forget => Some(Command::Forget(Name::read(argument)?)),
+        Word::After => Some(Command::After(read_number(argument)?)),
+        _ => None,
     }
 }
 
 /// What a word without an argument asks for.
-fn asked_by(word: &[u8]) -> Option<Command<'_>>
-    ensures { option_map asked_of result ≡ asked_alone word.now }
+fn asked_alone<'a>(word: Word) -> Option<Command<'a>>
+    ensures { option_map asked_of result ≡ asked_by_it word }
 {
-    if word == b"pool".as_slice() {
-        Some(Command::Pool)
-    } else if word == b"dump".as_slice() {
-        Some(Command::Dump)
-    } else if word == b"draw".as_slice() {
-        Some(Command::Draw)
-    } else if word == b"layout".as_slice() {
-        Some(Command::Layout)
-    } else {
-        None
+    match word {
+        Word::Help => Some(Command::Help),
+        Word::Pool => Some(Command::Pool),
+        Word::Dump => Some(Command::Dump),
+        Word::Names => Some(Command::Names),
+        Word::Draw => Some(Command::Draw),
+        Word::Layout => Some(Command::Layout),
+        _ => None,
     }
 }

@@ -23,4 +23,6 @@ pub mod SideLemmas
 pub mod BuiltSides
 pub mod EquationAnswers
 pub mod RangeLemmas
+pub mod NamingLemmas
+pub mod StoreLines
 pub mod Shared

@@ -13,6 +13,7 @@ pub mod Forms
 pub mod Solving
 pub mod Solved
 pub mod SolutionsMeant
+pub mod Naming
 pub mod Commanding
 pub mod Steps
 pub mod Counting

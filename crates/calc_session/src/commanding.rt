@@ -19,13 +19,14 @@ use crate::differentiating::Derivative;
 use crate::drawing::write_layout;
 use crate::evaluating::refused;
 use crate::expanding::Expansion;
+use crate::naming::write_names;
 use crate::parts::Parts;
 use crate::reading::is_ans;
 use crate::{LineAnswer, Refusal};
 use breakers::{Breaker, Watch};
 use calc_commands::{
-    Command, read_command, write_after, write_dump, write_forgot, write_no_breaker,
-    write_pool_report, write_unknown,
+    Command, read_command, write_after, write_dump, write_forgot, write_help, write_no_breaker,
+    write_pool_report, write_unknown, write_word_help,
 };
 use calc_terms::Name;
 use line_text::Text;
@@ -97,6 +98,18 @@ impl Parts {
             }
             Command::Solve(equations) => self.solve(line, equations, watch),
             Command::Expand(expression) => self.calculate(&Expansion, line, expression, watch),
+            Command::Help => {
+                write_help(&mut self.text);
+                LineAnswer::Report
+            }
+            Command::Names => {
+                write_names(&self.work.pool, &self.table, &mut self.text);
+                LineAnswer::Report
+            }
+            Command::Explain(word) => {
+                write_word_help(word, &mut self.text);
+                LineAnswer::Report
+            }
         }
     }
 

@@ -10,6 +10,8 @@ mod drawing;
 mod evaluating;
 mod expanding;
 mod forms;
+mod laws;
+mod naming;
 mod parts;
 mod reading;
 mod session;
@@ -19,5 +21,6 @@ mod telling;
 mod text;
 
 pub use answers::{DrawFault, LineAnswer, Refusal};
+pub use laws::{told_stores_are_stores, told_stores_hold_later_names};
 pub use session::Session;
 pub use text::write_refusal;

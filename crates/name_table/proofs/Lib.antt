@@ -2,6 +2,7 @@ pub mod Slots
 pub mod Counting
 pub mod Holders
 pub mod Later
+pub mod Apart
 pub mod Ready
 pub mod Steps
 pub mod Fillings

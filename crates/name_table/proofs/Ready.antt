@@ -8,12 +8,15 @@ use Rattle.name_table.proofs.{Counting.{writable-counted}, Holders.{holders-no_r
 use Rattle.name_table.proofs.Later.{later-without, length-without, names-last, names-without, names_of_entries, room-without, roots-counted, roots-last, roots-left, roots-without, values-counted}
 use Rattle.name_table.proofs.Later.{values-left}
 use Rattle.calc_terms.proofs.SmallLaws.{nobody as none_in}
+use Rattle.name_table.proofs.Apart.{apart-named, apart-without}
+use Rattle.name_table.specs.Held.{AreApart}
 
 -- all but the counts
 pub record IsReady (t : Table) (f : Forest) : Type 0 where
   pub distinct : AreDistinctNames (table_names t)
   pub few : length t.stored ≤ name_limit
   pub roots : AreRoots (entries t) f
+  pub apart : AreApart t.stored
   pub told : ℕ → ℕ
   pub counts : AreCountedBy told f
   pub whole : AllExpressions f
@@ -28,6 +31,7 @@ ready_held t f r =
       distinct = r.distinct;
       few = r.few;
       roots = roots-counted (holders_in t) (entries t) f told r.roots;
+      apart = r.apart;
       counts = counted-are r.told (holders_in t) f r.counts;
       whole = whole-counted (holders_in t) f r.whole;
       writable = writable-counted (holders_in t) f r.writable;
@@ -95,6 +99,7 @@ ready_answer {t = t} {others = others} {f = f} {i = i} held g =
       distinct = held.distinct;
       few = held.few;
       roots = (b.root, b.roots);
+      apart = held.apart;
       told = one_more i (holders_in t);
       counts = b.counts;
       whole = b.whole;
@@ -123,6 +128,7 @@ ready_named {t = t} {others = others} {f = f} {i = i} x held g no_ans room =
       );
       few = omega (arith, length-append rest (entry ∷ []));
       roots = (b.root, roots-last rest entry f (roots-without x t.stored f b.roots) b.root);
+      apart = apart-named x t.stored entry held.apart (holders-no_root i t.stored others held.roots.1 g.ends.clear);
       told = one_more i (holders_in t);
       counts = b.counts;
       whole = b.whole;
@@ -161,6 +167,7 @@ ready_without {t = t} {f = f} x held =
       distinct = (λ c. held.distinct.0 (in_stored (codes "ans") c), distinct-without x t.stored held.distinct.1);
       few = omega arith;
       roots = (held.roots.0, roots-without x t.stored f held.roots.1);
+      apart = apart-without x t.stored held.apart;
       told = holders_in t;
       counts = held.counts;
       whole = held.whole;
@@ -179,6 +186,7 @@ first_held i f g =
       distinct = (none_in (codes "ans"), tt);
       few = omega arith;
       roots = (last_root e, tt);
+      apart = tt;
       counts = subst (AreCountedBy (holders_in (first_table i))) (sym alone_tree) (counts_alone (holders_in (first_table i)) g.tree e.alone g.once (ap (holders_in (first_table i)) e.root ∙ ap (λ (b : Bool). cond b 1 0) (eq-eqb i i refl)));
       whole = subst AllExpressions (sym alone_tree) g.whole;
       writable = subst (λ (x : Forest). AreWritable (plains x)) (sym alone_tree) (subst AreWritable (sym (alone g.tree e.alone)) (g.told.writable, tt));

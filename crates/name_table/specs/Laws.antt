@@ -1,8 +1,8 @@
 -- What tables keep, and what filling gives.
-use Rattle.std.specs.Prelude.{◌≡◌, ℕ, List, None}
+use Rattle.std.specs.Prelude.{◌≡◌, ◌≤◌, ℕ, List, None}
 use Rattle.calc_terms.specs.Trees.{Tree}
-use Rattle.tree_handles.specs.{Expressions.{AllExpressions}, Forest.{Forest, empty, join}, Handed.{Gives}}
-use Rattle.name_table.specs.{Filling.{LacksNames, NamedTree, filled, filling, fills, values}, Held.{HasEntries, IsHeld, held_by}, Storing.{IsKeepable}, Tables.{Table, first_table, table_names}}
+use Rattle.tree_handles.specs.{Expressions.{AllExpressions}, Forest.{Forest, bytes_in, empty, join}, Handed.{Gives}}
+use Rattle.name_table.specs.{Filling.{LacksNames, NamedTree, filled, filling, fills, values}, Held.{AreApart, HasEntries, IsHeld, bytes_held, held_by}, Storing.{IsKeepable}, Tables.{Table, first_table, table_names}}
 
 -- one tree alone is what the table of a first answer holds
 abbrev pub BeginsHeld : Type 0
@@ -31,3 +31,11 @@ HasHeldEntries = (t : Table) (f : Forest) → IsHeld t f → HasEntries t f
 -- trees behind others change no entry
 abbrev pub KeepsEntries : Type 0
 KeepsEntries = (t : Table) (f g : Forest) → HasEntries t f → AllExpressions g → HasEntries t (join f g) × (values t (join f g) ≡ values t f)
+
+-- the stored names hold different trees, and so their bytes are at most those of the forest
+pub record HoldsApart (t : Table) (f : Forest) : Type 0 where
+  pub apart : AreApart t.stored
+  pub within : bytes_held t.stored f ≤ bytes_in f
+
+abbrev pub HoldsEachApart : Type 0
+HoldsEachApart = (t : Table) (f : Forest) → IsHeld t f → HoldsApart t f

@@ -1,5 +1,5 @@
 //! Laws of tables. Each is the contract of a function that does nothing.
-ghost use Rattle.name_table.specs.Laws.{BeginsHeld, HasHeldEntries, HoldsNoMore, KeepsEntries, KeepsValues, FillsWithFilled, FilledLacksNames};
+ghost use Rattle.name_table.specs.Laws.{BeginsHeld, HasHeldEntries, HoldsNoMore, KeepsEntries, HoldsEachApart, KeepsValues, FillsWithFilled, FilledLacksNames};
 
 /// A tree alone is held by the table of which it is the first answer.
 pub fn a_first_answer_is_held()
@@ -36,4 +36,10 @@ pub fn held_trees_have_the_entries()
 /// The entries stand among the trees, and for the same trees, where others stand behind these.
 pub fn entries_stay()
     ensures { KeepsEntries }
+{}
+
+/// Stored names hold different trees, which take together at most the bytes of all.
+#[tactic(auto, using(crate::proofs::Apart::held_apart))]
+pub fn stored_trees_stand_apart()
+    ensures { HoldsEachApart }
 {}

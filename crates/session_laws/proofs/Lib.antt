@@ -9,4 +9,5 @@ pub mod EquationLines
 pub mod EnoughLemmas
 pub mod LargeTrees
 pub mod RoomLemmas
+pub mod StoredAgain
 pub mod Shared

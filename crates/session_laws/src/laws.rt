@@ -5,6 +5,7 @@ ghost use Rattle.breakers.specs.State.{State as Breaker};
 ghost use Rattle.calc_algebra.specs.BadAndEasy.{IsEasy};
 ghost use Rattle.calc_algebra.specs.Rewritings.{Reduces};
 ghost use Rattle.calc_commands.specs.Commands.{IsCommandLine, diff, expand, solve};
+ghost use Rattle.calc_language.specs.Reads.{Stores};
 ghost use Rattle.calc_language.specs.Texts.{text};
 ghost use Rattle.calc_measures.specs.Measures.{bits as bits_of, room as room_of};
 ghost use Rattle.calc_session.specs.Arguments.{ReadsText, bytes_before};
@@ -12,6 +13,7 @@ ghost use Rattle.calc_session.specs.Calculating.{IsReplyToExpression, made_in};
 ghost use Rattle.calc_session.specs.Deriving.{IsReplyToDerivative};
 ghost use Rattle.calc_session.specs.Expanding.{IsReplyToExpansion, expansion_text};
 ghost use Rattle.calc_session.specs.Forms.{form_room};
+ghost use Rattle.calc_session.specs.Naming.{store_line};
 ghost use Rattle.calc_session.specs.Reading.{ReadsTree};
 ghost use Rattle.calc_session.specs.Replies.{Reply, circular, full, not_polynomial, refused, report, shown, stored, undefined};
 ghost use Rattle.calc_session.specs.SolutionsMeant.{AsksToSolve, TellsSolutionsOf};
@@ -29,8 +31,9 @@ ghost use Rattle.linear_solve.specs.Equations.{Equation, nodes_of_sides};
 ghost use Rattle.linear_solve.specs.Fitting.{Misfit};
 ghost use Rattle.linear_solve.specs.RisingNames.{AreNamesOf};
 ghost use Rattle.linear_solve.specs.Solving.{solving};
-ghost use Rattle.name_table.specs.Filling.{fills, depth_limit};
+ghost use Rattle.name_table.specs.Filling.{LacksNames, NamedTree, fills, depth_limit};
 ghost use Rattle.name_table.specs.Held.{IsHeld};
+ghost use Rattle.name_table.specs.Tables.{table_names};
 ghost use Rattle.node_pool.specs.declared.full.Full.{Full};
 ghost use Rattle.poincare_run.specs.Beginnings.{first_moment};
 ghost use Rattle.poincare_run.specs.Options.{options_of};
@@ -43,6 +46,7 @@ ghost use Rattle.session_laws.specs.Enough.{HasBytesFor, HoldsNoSmallTree, IsAns
 ghost use Rattle.session_laws.specs.ExpansionsMeant.{AsksExpansionOf, HaveSameCoefficients, TellsExpansion};
 ghost use Rattle.session_laws.specs.Meant.{HasNoMeaning, HasSmallRadicands, MeanTheSame, MeansNothing, ShowsMeaning};
 ghost use Rattle.session_laws.specs.Slopes.{TellsDerivative};
+ghost use Rattle.session_laws.specs.StoredAgain.{IsStoredAgain};
 
 /// What is reduced to Undef means nothing.
 pub fn undef_has_no_meaning()
@@ -215,4 +219,12 @@ pub fn sessions_answer_their_lines()
         → options_of words ≡ Some options → Chain (first_moment options breakers) lines turns now
         → ReadsFilled now.state line store t → depth t ≤ depth_limit → room_of t ≤ free_bytes now.state → bits_of t ≤ 124
         → ((place : ℕ) → ¬ (TripsWithin (nodes t) now.breakers step.checked place)) → ((x : List ℕ) → reply ≢ refused (circular x)) → IsAnswered reply }
+{}
+
+/// A line of `:names`, whose text reads as the tree and its name, is answered where no name of the table is in the tree: what is
+/// stored then is stored under that name and has every meaning of the tree.
+pub fn told_stores_mean_the_same()
+    ensures { (room bits : Option (Tree → ℕ)) (old : State) (before after : List Breaker) (v : NamedTree) (t : Tree) (x : List ℕ)
+        → Stores (store_line v) v.tree v.name → LacksNames (table_names old.table) v.tree
+        → IsReply room bits old before after (store_line v) (stored t x) → IsStoredAgain v t x }
 {}

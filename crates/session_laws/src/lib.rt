@@ -10,6 +10,6 @@ pub use laws::{
     lines_that_read_are_evaluated, lines_with_room_are_never_full, one_value_has_one_text,
     other_trees_are_not_expanded, polynomials_are_expanded, same_coefficients_same_text,
     sessions_answer_their_lines, sessions_hold_no_small_tree, sessions_with_room_are_never_full,
-    solutions_are_calculated, solutions_mean_what_they_say, undef_has_no_meaning,
-    words_ask_for_options,
+    solutions_are_calculated, solutions_mean_what_they_say, told_stores_mean_the_same,
+    undef_has_no_meaning, words_ask_for_options,
 };

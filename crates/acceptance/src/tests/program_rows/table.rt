@@ -233,6 +233,51 @@ x+1→x = ! circular x
 1/2 = 1/2
 :pool = pool 40/32768 nodes 3 trees 1
 
+:names = no names
+x+1→y = 1+x
+√(8)→r = 2×√(2)
+:names = 1+x→y
+| 2×√(2)→r
+5→x = 5
+:names = 1+x→y
+| 2×√(2)→r
+| 5→x
+y = 6
+7→y = 7
+:names = 2×√(2)→r
+| 5→x
+| 7→y
+:forget r = forgot r
+:names = 5→x
+| 7→y
+:names x = ! command
+1/0→q = undef
+:names = 5→x
+| 7→y
+
+:help = :help [WORD]      these lines, or that of a word with an example
+| :pool             how full the pool is
+| :dump             the bytes of the pool
+| :names            what is stored, in lines that store it again
+| :forget X         what is stored under the name X is forgotten
+| :after K          a line is interrupted after K nodes
+| :layout           the layout of the last answer in one line
+| :draw             the picture of the last answer
+| :diff X LINE      the derivative of the line with respect to the name X
+| :solve EQUATIONS  the values of the names in linear equations
+| :expand LINE      the line as a sum of multiples of products of names
+:help diff = :diff X LINE      the derivative of the line with respect to the name X
+| for example :diff x x^3/3
+:help help = :help [WORD]      these lines, or that of a word with an example
+| for example :help diff
+:help  diff  = :diff X LINE      the derivative of the line with respect to the name X
+| for example :diff x x^3/3
+:help Diff = ! command
+:help diff x = ! command
+:help nothing = ! command
+:help:help = ! command
+:names = no names
+
 :dump = 01 01 00 00 01 00 00 00
 | 00 00 00 00 00 00 00 00
 

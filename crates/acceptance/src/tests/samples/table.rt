@@ -68,6 +68,14 @@ abcdefgh
 | forgot k
 | no k
 
+x+1→y
+5→x
+:names
+| 1+x
+| 5
+| 1+x→y
+| 5→x
+
 √(x)/2
 :layout
 | √(x)/2
@@ -113,6 +121,17 @@ x+1→x
 
 x+1→x
 | ! circular x
+
+:names
+| no names
+
+x+1→y
+√(8)→r
+:names
+| 1+x
+| 2×√(2)
+| 1+x→y
+| 2×√(2)→r
 
 :diff x x^3
 | 3×x^2

@@ -1,8 +1,8 @@
-use Rattle.calc_session.proofs.Shared.{◌≡◌, ◌∙◌, inl, refl, ap, subst, states, IsCommandLine, pool, dump, layout, diff, solve, expand, asked_of, pool_report, dump_of, name_of, Content, CountsRefusal}
+use Rattle.calc_session.proofs.Shared.{◌≡◌, ◌∙◌, inl, refl, ap, subst, arith, states, IsCommandLine, pool, dump, layout, diff, solve, expand, asked_of, pool_report, dump_of, name_of, Content, CountsRefusal}
 use Rattle.calc_session.proofs.Shared.{refusal_of_pool, IsTold, is_to_be_drawn, layout_reply, serial_in, drawn, report, state_in, Command}
 use Rattle.calc_session.proofs.{CalculatingLemmas.{equations_within, expression_within, text_within}, CommandLemmas.{calm_told, written}, CountingLemmas.{counted_as, none_known}}
 use Rattle.calc_session.proofs.{EvaluationLemmas.{none_rose}, TellingLemmas.{tells_as, told_command}}
-use Rattle.calc_commands.specs.Commands.{after as arms}
+use Rattle.calc_commands.specs.{Commands.{after as arms, explain, help, list_names}, Words.{help_report, word_report}}
 use Rattle.calc_session.specs.declared.answers.LineAnswer.TheVariants as answer
 use Rattle.calc_session.proofs.parts.Parts.perform.Goals as goal
 
@@ -126,4 +126,42 @@ returns-in-Expand g c =
       interrupted = told.interrupted;
       counted = rw (c.in-Expand.is) (counted_as (λ r. CountsRefusal r c.args.self.now.work.pool c.calculate-in-Expand.new.self.work.pool) (refusal_of_pool c.calculate-in-Expand.result) (λ lack k. k.is_known) (λ lack k. absurd k) told.counted);
       kept = told.kept;
+    }
+
+pub returns-in-Help : goal.returns-in-Help
+returns-in-Help g c =
+    let before = states g.B.Breaker.state c.args.watch.now in
+    let s = state_in c.args.self.now in
+    let told = written c.args.self.now.text c.write_help.new.text help_report c.write_help.ensures c.requires.empty in
+    record {
+      answers = rw (c.in-Help.is) (told_command g.R.Reducer.room g.R.Reducer.bits s s before before c.args.line.now help answer.Report c.write_help.new.text.bytes refl (ap report told, refl));
+      interrupted = calm_told answer.Report before before (λ place e. cc) (none_rose before);
+      counted = inl (tt, record { size = refl; refusals = refl; last_refused = refl });
+      kept = record { ready = c.requires.kept.ready; held = c.requires.kept.held; room = ap (λ (x : Content). x.capacity) c.write_help.ensures ∙ c.requires.kept.room; served = c.requires.kept.served };
+    }
+
+pub returns-in-Explain : goal.returns-in-Explain
+returns-in-Explain g c =
+    let before = states g.B.Breaker.state c.args.watch.now in
+    let s = state_in c.args.self.now in
+    let told = written c.args.self.now.text c.write_word_help.new.text (word_report c.in-Explain.word) c.write_word_help.ensures c.requires.empty in
+    record {
+      answers = rw (c.in-Explain.is) (told_command g.R.Reducer.room g.R.Reducer.bits s s before before c.args.line.now (explain c.in-Explain.word) answer.Report c.write_word_help.new.text.bytes refl (ap report told, refl));
+      interrupted = calm_told answer.Report before before (λ place e. cc) (none_rose before);
+      counted = inl (tt, record { size = refl; refusals = refl; last_refused = refl });
+      kept = record { ready = c.requires.kept.ready; held = c.requires.kept.held; room = ap (λ (x : Content). x.capacity) c.write_word_help.ensures ∙ c.requires.kept.room; served = c.requires.kept.served };
+    }
+
+pub write_names-requires-clause-room : goal.write_names-requires-clause-room
+write_names-requires-clause-room g c = omega (arith, c.requires.kept.room)
+
+pub returns-in-Names : goal.returns-in-Names
+returns-in-Names g c =
+    let before = states g.B.Breaker.state c.args.watch.now in
+    let s = state_in c.args.self.now in
+    record {
+      answers = rw (c.in-Names.is) (told_command g.R.Reducer.room g.R.Reducer.bits s s before before c.args.line.now list_names answer.Report c.write_names.new.text.bytes refl (ap report c.write_names.ensures.told, refl));
+      interrupted = calm_told answer.Report before before (λ place e. cc) (none_rose before);
+      counted = inl (tt, record { size = refl; refusals = refl; last_refused = refl });
+      kept = record { ready = c.requires.kept.ready; held = c.requires.kept.held; room = c.write_names.ensures.capacity ∙ c.requires.kept.room; served = c.requires.kept.served };
     }
