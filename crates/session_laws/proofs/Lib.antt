@@ -8,5 +8,7 @@ pub mod OneReading
 pub mod EquationLines
 pub mod EnoughLemmas
 pub mod LargeTrees
+pub mod NamedLines
+pub mod HeldTrees
 pub mod RoomLemmas
 pub mod Shared

@@ -84,6 +84,18 @@ pub fn lines_with_room_are_never_full()
         → IsReply room bits old before after line reply → (refusal : Full) → reply ≢ refused (full refusal) }
 {}
 
+/// The pool of a session holds exactly the stored trees, each as often as entries of the table hold it: at its beginning, after each
+/// line that is answered in such a state, and so after all lines of a session that words ask for.
+pub fn held_along_chains()
+    ensures at_first { (size : ℕ) → IsHeld (first_state size).table (trees (first_state size)) }
+    ensures behind_a_line { (room bits : Option (Tree → ℕ)) (old new : State) (before after : List Breaker) (line : List ℕ) (reply : Reply)
+        → IsHeld old.table (trees old) → Step room bits old before line reply new after → IsHeld new.table (trees new) }
+    ensures along { (old new : Moment) (lines : List (List ℕ)) (turns : List Turn)
+        → IsHeld old.state.table (trees old.state) → Chain old lines turns new → IsHeld new.state.table (trees new.state) }
+    ensures from_words { (words : List (List ℕ)) (options : Options) (breakers : List Breaker) (lines : List (List ℕ)) (turns : List Turn) (now : Moment)
+        → options_of words ≡ Some options → Chain (first_moment options breakers) lines turns now → IsHeld now.state.table (trees now.state) }
+{}
+
 /// No session stores a tree that is smaller than the leaf of a name.
 pub fn sessions_hold_no_small_tree()
     ensures at_first { (size : ℕ) → HoldsNoSmallTree (first_state size) }
