@@ -10,5 +10,7 @@ pub mod EnoughLemmas
 pub mod LargeTrees
 pub mod NamedLines
 pub mod HeldTrees
+pub mod NumberFaces
+pub mod TypedAgain
 pub mod RoomLemmas
 pub mod Shared

@@ -3,6 +3,7 @@ ghost use Rattle.std.specs.Prelude.{◌≡◌, ◌≢◌, ◌≤◌, ◌+◌, �
 ghost use Rattle.breakers.specs.Breakers.{TripsWithin as TripsIn};
 ghost use Rattle.breakers.specs.State.{State as Breaker};
 ghost use Rattle.calc_algebra.specs.BadAndEasy.{IsEasy};
+ghost use Rattle.calc_algebra.specs.Numbers.{is_number};
 ghost use Rattle.calc_algebra.specs.Rewritings.{Reduces};
 ghost use Rattle.calc_commands.specs.Commands.{IsCommandLine, diff, expand, solve};
 ghost use Rattle.calc_language.specs.Texts.{text};
@@ -65,6 +66,15 @@ pub fn answers_mean_their_lines()
 pub fn one_value_has_one_text()
     ensures { (a b : State) (line other : List ℕ) (t u : Tree) (p : ShowsMeaning a line t) (q : ShowsMeaning b other u)
         → IsEasy p.tree → IsEasy q.tree → MeanTheSame p.tree q.tree → HasSmallRadicands p.answer → HasSmallRadicands q.answer → text t ≡ text u }
+{}
+
+/// The text of a Number, typed again as a line in any session, is answered by a tree where it is answered, and by itself where
+/// all radicands are below 10^12.
+pub fn a_number_typed_again()
+    ensures itself { (a b : State) (line : List ℕ) (t u : Tree) (p : ShowsMeaning a line t) (q : ShowsMeaning b (text t) u)
+        → is_number p.answer ≡ true → HasSmallRadicands p.answer → HasSmallRadicands q.answer → u ≡ t }
+    ensures a_tree { (room bits : Option (Tree → ℕ)) (a b : State) (before after : List Breaker) (line : List ℕ) (t : Tree) (reply : Reply) (p : ShowsMeaning a line t)
+        → is_number p.answer ≡ true → IsReply room bits b before after (text t) reply → IsAnswered reply → (u : Tree) × (reply ≡ shown u) }
 {}
 
 /// A line that reads as a tree whose name can be stored is answered by what the tree comes to, and by nothing else: what
