@@ -12,5 +12,6 @@ pub mod NamedLines
 pub mod HeldTrees
 pub mod NumberFaces
 pub mod TypedAgain
+pub mod DecidedAnswers
 pub mod RoomLemmas
 pub mod Shared

@@ -2,3 +2,4 @@ pub mod Meant
 pub mod Enough
 pub mod Slopes
 pub mod ExpansionsMeant
+pub mod Decided

@@ -1,20 +1,21 @@
 //! Laws of lines and of whole sessions, each the contract of a function without a body.
-ghost use Rattle.std.specs.Prelude.{◌≡◌, ◌≢◌, ◌≤◌, ◌+◌, ◌↔◌, ℕ, List, Err, None, Some, Option, Contains, length, true, false};
+ghost use Rattle.std.specs.Prelude.{◌≡◌, ◌≢◌, ◌≤◌, ◌+◌, ◌↔◌, ℕ, List, Err, None, Some, Option, Contains, length, Ok, true, false};
 ghost use Rattle.breakers.specs.Breakers.{TripsWithin as TripsIn};
 ghost use Rattle.breakers.specs.State.{State as Breaker};
 ghost use Rattle.calc_algebra.specs.BadAndEasy.{IsEasy};
 ghost use Rattle.calc_algebra.specs.Numbers.{is_number};
 ghost use Rattle.calc_algebra.specs.Rewritings.{Reduces};
-ghost use Rattle.calc_commands.specs.Commands.{IsCommandLine, diff, expand, solve};
+ghost use Rattle.calc_commands.specs.Commands.{IsCommandLine, diff, expand, layout, solve};
 ghost use Rattle.calc_language.specs.Texts.{text};
 ghost use Rattle.calc_measures.specs.Measures.{bits as bits_of, room as room_of};
 ghost use Rattle.calc_session.specs.Arguments.{ReadsText, bytes_before};
 ghost use Rattle.calc_session.specs.Calculating.{IsReplyToExpression, made_in};
 ghost use Rattle.calc_session.specs.Deriving.{IsReplyToDerivative};
+ghost use Rattle.calc_session.specs.Drawing.{rows_in};
 ghost use Rattle.calc_session.specs.Expanding.{IsReplyToExpansion, expansion_text};
 ghost use Rattle.calc_session.specs.Forms.{form_room};
 ghost use Rattle.calc_session.specs.Reading.{ReadsTree};
-ghost use Rattle.calc_session.specs.Replies.{Reply, circular, full, not_polynomial, refused, report, shown, stored, undefined};
+ghost use Rattle.calc_session.specs.Replies.{Reply, circular, full, not_polynomial, refused, report, shown, stored, text_of, undefined};
 ghost use Rattle.calc_session.specs.SolutionsMeant.{AsksToSolve, TellsSolutionsOf};
 ghost use Rattle.calc_session.specs.Solving.{IsReplyToEquations, first_not_linear};
 ghost use Rattle.calc_session.specs.States.{State, first_state, free_bytes, trees};
@@ -40,6 +41,7 @@ ghost use Rattle.poincare_run.specs.Steps.{Chain, LineStep, Moment, Turn};
 ghost use Rattle.poincare_run.specs.declared.words.Options.{Options};
 ghost use Rattle.reduce_port.specs.Bounds.{MayExceed};
 ghost use Rattle.reduce_port.specs.Checks.{TripsWithin};
+ghost use Rattle.session_laws.specs.Decided.{HasPlainValue, IsSettled, last_answer};
 ghost use Rattle.session_laws.specs.Enough.{HasBytesFor, HoldsNoSmallTree, IsAnswered, ReadsFilled};
 ghost use Rattle.session_laws.specs.ExpansionsMeant.{AsksExpansionOf, HaveSameCoefficients, TellsExpansion};
 ghost use Rattle.session_laws.specs.Meant.{HasNoMeaning, HasSmallRadicands, MeanTheSame, MeansNothing, ShowsMeaning};
@@ -75,6 +77,33 @@ pub fn a_number_typed_again()
         → is_number p.answer ≡ true → HasSmallRadicands p.answer → HasSmallRadicands q.answer → u ≡ t }
     ensures a_tree { (room bits : Option (Tree → ℕ)) (a b : State) (before after : List Breaker) (line : List ℕ) (t : Tree) (reply : Reply) (p : ShowsMeaning a line t)
         → is_number p.answer ≡ true → IsReply room bits b before after (text t) reply → IsAnswered reply → (u : Tree) × (reply ≡ shown u) }
+{}
+
+/// Two lines, perhaps in two sessions with other pools, identifiers, breakers and earlier lines, that become the same tree have the
+/// same text: where the tree has a plain value, where it is known to have a value and each radicand is below 10^12 (and then
+/// neither is undefined), and where solutions or an expansion are told.
+pub fn answers_depend_on_the_line()
+    ensures plain { (room bits : Option (Tree → ℕ)) (a b : State) (before after first last : List Breaker) (line other : List ℕ) (store name : Option (List ℕ)) (t : Tree) (reply also : Reply)
+        → ReadsFilled a line store t → ReadsFilled b other name t → HasPlainValue t
+        → IsReply room bits a before after line reply → IsReply room bits b first last other also → IsSettled reply → IsSettled also → text_of reply ≡ text_of also }
+    ensures valued { (a b : State) (line other : List ℕ) (t u : Tree) (p : ShowsMeaning a line t) (q : ShowsMeaning b other u)
+        → p.tree ≡ q.tree → IsEasy p.tree → HasSmallRadicands p.answer → HasSmallRadicands q.answer → text t ≡ text u }
+    ensures never_undefined { (a b : State) (line other : List ℕ) (t : Tree) (p : ShowsMeaning a line t) (q : HasNoMeaning b other)
+        → p.tree ≡ q.tree → ¬ (IsEasy p.tree) }
+    ensures solutions { (room bits : Option (Tree → ℕ)) (a b : State) (before after first last : List Breaker) (line other told also : List ℕ) (es : List Equation)
+        → AsksToSolve a line es → AsksToSolve b other es
+        → IsReply room bits a before after line (report told) → IsReply room bits b first last other (report also) → told ≡ also }
+    ensures expansions { (room bits : Option (Tree → ℕ)) (a b : State) (before after first last : List Breaker) (line other told also : List ℕ) (t : Tree)
+        → AsksExpansionOf a line t → AsksExpansionOf b other t
+        → IsReply room bits a before after line (report told) → IsReply room bits b first last other (report also) → told ≡ also }
+{}
+
+/// Two sessions with the same last answer tell the same layout and draw the same picture, where each finds room.
+pub fn pictures_depend_on_the_answer()
+    ensures layouts { (room bits : Option (Tree → ℕ)) (a b : State) (before after first last : List Breaker) (line other told also : List ℕ)
+        → IsCommandLine line layout → IsCommandLine other layout → last_answer a ≡ last_answer b
+        → IsReply room bits a before after line (report told) → IsReply room bits b first last other (report also) → told ≡ also }
+    ensures pictures { (a b : State) (rows others : List ℕ) → last_answer a ≡ last_answer b → rows_in a ≡ Ok rows → rows_in b ≡ Ok others → rows ≡ others }
 {}
 
 /// A line that reads as a tree whose name can be stored is answered by what the tree comes to, and by nothing else: what
