@@ -1,10 +1,14 @@
 -- Answers that depend on nothing but what the line becomes.
-use Rattle.session_laws.proofs.Shared.{both_ways, ◌≡◌, ◌∙◌, ℕ, List, [], codes, Bool, true, false, Option, Some, None, Result, Ok, Err, refl, sym, ap, subst, AllZip, IsCommandLine, solve, Tree, undef, is_undef, Equation, face, text}
+use Rattle.session_laws.proofs.Shared.{Evaluates, IsAnswered, by_test, number_words, one_number}
+use Rattle.session_laws.proofs.{MeaningLemmas.{one_value}, SmallRoots.{small_number}}
+use Rattle.session_laws.specs.Decided.{ShowsSmallRoots}
+use Rattle.calc_algebra.proofs.ReducedLaws.{undef_words as undef_is}
+use Rattle.session_laws.proofs.Shared.{both_ways, ◌≡◌, ◌∙◌, ℕ, List, codes, Bool, true, false, Option, Some, None, Result, Ok, Err, refl, sym, ap, subst, AllZip, IsCommandLine, solve, Tree, undef, is_undef, Equation, face, text}
 use Rattle.session_laws.proofs.Shared.{Filling, lacks, too_deep, fills, values, bytes_before, all_placed, Full, Reply, Reason, report, refused, AreNamesOf, solution_text, AsksToSolve, IsReplyToEquations, are_read, IsReplyToRead, are_made, IsReplyToSolve, are_linear}
 use Rattle.session_laws.proofs.Shared.{IsSolution, is_told, ReadsEquation, State, free_bytes, trees, IsReply, names_once, split_once, IsReplyToTree, is_not_made, is_made, made_in, Unmade, IsReduction, lacks_bytes, is_answered, IsReplyWith, has_no_value}
-use Rattle.session_laws.proofs.Shared.{holds_its_name, is_shown, is_stored, ReadsFilled, ShowsMeaning, HasNoMeaning, HasSmallRadicands, IsEasy, HasValue, value}
+use Rattle.session_laws.proofs.Shared.{holds_its_name, is_shown, is_stored, ReadsFilled, HasSmallRadicands, IsEasy, value}
 unfoldable use Rattle.linear_solve.specs.Solving.{solving}
-use Rattle.session_laws.proofs.{AskedLines.{commanded_report}, EnoughLemmas.{evaluated, of_filled}, MeaningLemmas.{shown_alike}, OneReading.{become_once, read_once}}
+use Rattle.session_laws.proofs.{AskedLines.{commanded_report}, EnoughLemmas.{evaluated, of_filled}, OneReading.{become_once, read_once}}
 use Rattle.session_laws.specs.Decided.{HasPlainValue, IsSettled, last_answer}
 use Rattle.breakers.specs.State.{State as Breaker}
 use Rattle.calc_commands.specs.Commands.{layout as asks_layout}
@@ -78,16 +82,52 @@ module _ (room bits : Option (Tree → ℕ)) (old : State) (before after : List 
 
 -- ---- values that are known
 
-easy_value : {old : State} {line : List ℕ} {t : Tree} (p : ShowsMeaning old line t) → IsEasy p.tree → HasValue p.tree (value p.answer)
-easy_value p easy = (p.easy easy).value p.defined
+-- one answer evaluates a tree
+one_answer : (t a b : Tree) → Evaluates t a → Evaluates t b → (is_undef a ≡ false → HasSmallRadicands a) → (is_undef b ≡ false → HasSmallRadicands b) → a ≡ b
+one_answer t a b e f small small' =
+    by_test (λ c. is_undef a ≡ c → a ≡ b) (is_undef a)
+    (λ p q. let is : a ≡ undef = undef_is a q in is ∙ sym (f.undefined.1 (e.undefined.0 is)))
+    (λ p q. by_test (λ c. is_undef b ≡ c → a ≡ b) (is_undef b)
+    (λ r s. let is : b ≡ undef = undef_is b s in e.undefined.1 (f.undefined.0 is) ∙ sym is)
+    (λ r s. one_number a b (number_words a (e.number q)) (number_words b (f.number s)) (small q) (small' s) (one_value t (value a) (value b) (e.value q) (f.value s)))
+    refl)
+    refl
 
-pub easy_alike : (a b : State) (line other : List ℕ) (t u : Tree) (p : ShowsMeaning a line t) (q : ShowsMeaning b other u) → p.tree ≡ q.tree → IsEasy p.tree → HasSmallRadicands p.answer → HasSmallRadicands q.answer → t ≡ u
-easy_alike a b line other t u p q same easy small small' =
-    let v = easy_value p easy in
-    shown_alike a b line other t u p q easy (subst IsEasy same easy) (value p.answer, v, subst (λ x. HasValue x (value p.answer)) same v) small small'
+-- a tree is answered so: what is printed is the text of the answer's face
+record AnsweredBy (t : Tree) (reply : Reply) : Type 0 where
+  answer : Tree
+  evaluates : Evaluates t answer
+  printed : text_of reply ≡ Some (text (face answer))
+  small : ShowsSmallRoots reply → is_undef answer ≡ false → HasSmallRadicands answer
 
-pub easy_defined : (a b : State) (line other : List ℕ) (t : Tree) (p : ShowsMeaning a line t) (q : HasNoMeaning b other) → p.tree ≡ q.tree → IsEasy p.tree → ⊥
-easy_defined a b line other t p q same easy = q.none [] tt (value p.answer) (subst (λ x. HasValue x (value p.answer)) same (easy_value p easy))
+answered_with : (t answer : Tree) (store : Option (List ℕ)) (reply : Reply) → Evaluates t answer → IsReplyWith answer store reply → IsAnswered reply → AnsweredBy t reply
+unfolding text_of
+answered_with t answer store reply e (has_no_value d) s = record { answer = answer; evaluates = e; printed = ap (λ u. Some (text (face u))) (sym (undef_is answer d)); small = λ k n. absurd (both_ways (is_undef answer) n d) }
+answered_with t answer store reply e (holds_its_name d m) s = absurd s
+answered_with t answer store reply e (is_shown d) s = record { answer = answer; evaluates = e; printed = refl; small = λ k n. small_number answer (number_words answer (e.number n)) k }
+answered_with t answer store reply e (is_stored d m) s = record { answer = answer; evaluates = e; printed = refl; small = λ k n. small_number answer (number_words answer (e.number n)) k }
+
+module _ (room bits : Option (Tree → ℕ)) (old : State) (before after : List Breaker) (line : List ℕ) (store : Option (List ℕ)) (t : Tree) (reads : ReadsFilled old line store t) (easy : IsEasy t) where
+  answered_reduced : (reply : Reply) → IsReduction room bits (free_bytes old) t before after store reply → IsAnswered reply → AnsweredBy t reply
+  answered_reduced reply (evaluations.is_interrupted h) s = absurd s
+  answered_reduced reply (evaluations.does_not_fit o h) s = absurd s
+  answered_reduced reply (lacks_bytes h) s = absurd s
+  answered_reduced reply (is_answered {answer = r} c a w) s = answered_with t r store reply (a.easy easy) w s
+
+  answered_tree : (reply : Reply) → IsReplyToTree room bits old before after store reads.tree reply → IsAnswered reply → AnsweredBy t reply
+  answered_tree reply (is_not_made m same) s = absurd s
+  answered_tree reply (is_made {left = left} {t = u} m r) s = answered_reduced reply (of_filled room bits old before after line store t reads left u m r) s
+
+  answered_line : (reply : Reply) → IsReply room bits old before after line reply → IsAnswered reply → AnsweredBy t reply
+  answered_line reply h s = answered_tree reply (evaluated room bits old before after line store t reads reply h) s
+
+pub one_text_of : (room bits : Option (Tree → ℕ)) (a b : State) (before after first last : List Breaker) (line other : List ℕ) (store name : Option (List ℕ)) (t : Tree) (reply also : Reply)
+    → ReadsFilled a line store t → ReadsFilled b other name t → IsEasy t → IsReply room bits a before after line reply → IsReply room bits b first last other also
+    → IsAnswered reply → IsAnswered also → ShowsSmallRoots reply → ShowsSmallRoots also → text_of reply ≡ text_of also
+one_text_of room bits a b before after first last line other store name t reply also reads reads' easy h k s s' small small' =
+    let p = answered_line room bits a before after line store t reads easy reply h s in
+    let q = answered_line room bits b first last other name t reads' easy also k s' in
+    p.printed ∙ ap (λ u. Some (text (face u))) (one_answer t p.answer q.answer p.evaluates q.evaluates (p.small small) (q.small small')) ∙ sym q.printed
 
 -- ---- solutions
 

@@ -12,6 +12,8 @@ pub mod NamedLines
 pub mod HeldTrees
 pub mod NumberFaces
 pub mod TypedAgain
+pub mod SmallRoots
 pub mod DecidedAnswers
+pub mod LastAnswers
 pub mod RoomLemmas
 pub mod Shared

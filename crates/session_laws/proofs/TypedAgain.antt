@@ -1,7 +1,9 @@
 -- A Number's text, typed again, is answered by itself.
 use Rattle.session_laws.proofs.Shared.{◌≡◌, ◌∙◌, ℕ, List, [], ◌∷◌, true, false, Option, Some, None, refl, sym, ap, subst, Contains, HasValue, IsEasy, value, Same, face, text, Tree, names, is_undef, filled, NamedTree, values}
-use Rattle.session_laws.proofs.Shared.{number_words, one_number, ShowsMeaning, HasNoMeaning, Becomes, HasSmallRadicands, IsAnswered, Reply, shown, stored, undefined, State, free_bytes, trees, IsReply}
-use Rattle.session_laws.proofs.{HeldTrees.{displays}, MadeTrees.{made_is}, MeaningLemmas.{has_no_meaning, one_value}, NumberFaces.{face_closed, face_easy, face_value, number_named}}
+use Rattle.session_laws.proofs.Shared.{number_words, one_number, ShowsMeaning, HasNoMeaning, Becomes, IsAnswered, Reply, shown, stored, undefined, State, free_bytes, trees, IsReply}
+use Rattle.session_laws.proofs.{HeldTrees.{displays}, MadeTrees.{made_is}, MeaningLemmas.{has_no_meaning, one_value, shows_meaning}, NumberFaces.{face_closed, face_easy, face_value, number_named}}
+use Rattle.session_laws.proofs.SmallRoots.{small_number}
+use Rattle.session_laws.specs.Decided.{HasSmallRoots, ShowsSmallRoots}
 use Rattle.beautify.proofs.FaceTexts.{face_reads}
 use Rattle.breakers.specs.State.{State as Breaker}
 use Rattle.calc_algebra.specs.{Numbers.{is_number}, Reduced.{is_reduced}}
@@ -44,22 +46,22 @@ module _ (a : Tree) (reduced : is_reduced a ≡ true) (defined : is_undef a ≡ 
       let is = (reads_face k.reads.reads.reads).tree_is in
       made_is (free_bytes b) (values b.table (trees b)) k.tree k.left u k.is_made ∙ ap (filled (values b.table (trees b))) is ∙ filled_closed (values b.table (trees b)) (face a) (face_closed a number reduced)
 
-  same_shown : (b : State) (u : Tree) (q : ShowsMeaning b (text (face a)) u) → HasSmallRadicands a → HasSmallRadicands q.answer → u ≡ face a
+  same_shown : (b : State) (u : Tree) (q : ShowsMeaning b (text (face a)) u) → HasSmallRoots (face a) → HasSmallRoots u → u ≡ face a
   same_shown b u q small small' =
       let is = becomes_face b q.tree q.becomes in
       let e = q.easy (subst IsEasy (sym is) (face_easy a number reduced)) in
+      let other = number_words q.answer (e.number q.defined) in
       let same : Same (value q.answer) (value a) = one_value q.tree (value q.answer) (value a) (e.value q.defined) (subst (λ t. HasValue t (value a)) (sym is) (face_value a number reduced)) in
-      q.shown_is ∙ ap face (one_number q.answer a (number_words q.answer (e.number q.defined)) (number_words a number) small' small same)
+      q.shown_is ∙ ap face (one_number q.answer a other (number_words a number) (small_number q.answer other (subst HasSmallRoots q.shown_is small')) (small_number a (number_words a number) small) same)
 
   never_undefined : (b : State) → HasNoMeaning b (text (face a)) → ⊥
   never_undefined b h = h.none [] tt (value a) (subst (λ t. HasValue t (value a)) (sym (becomes_face b h.tree h.becomes)) (face_value a number reduced))
 
-pub shown_again : (a b : State) (line : List ℕ) (t u : Tree) (p : ShowsMeaning a line t) (q : ShowsMeaning b (text t) u) → is_number p.answer ≡ true → HasSmallRadicands p.answer → HasSmallRadicands q.answer → u ≡ t
-shown_again a b line t u p q number small small' =
-    by t p.shown_is q small'
+shown_again : (a b : State) (line : List ℕ) (t u : Tree) (p : ShowsMeaning a line t) (q : ShowsMeaning b (text t) u) → is_number p.answer ≡ true → HasSmallRoots t → HasSmallRoots u → u ≡ t
+shown_again a b line t u p q number small small' = by t p.shown_is q small
   where
-    by : (t : Tree) → t ≡ face p.answer → (q : ShowsMeaning b (text t) u) → HasSmallRadicands q.answer → u ≡ t
-    by t e = subst (λ x. (q : ShowsMeaning b (text x) u) → HasSmallRadicands q.answer → u ≡ x) (sym e) (λ q k. same_shown p.answer p.reduced p.defined number b u q small k)
+    by : (t : Tree) → t ≡ face p.answer → (q : ShowsMeaning b (text t) u) → HasSmallRoots t → u ≡ t
+    by t e = subst (λ x. (q : ShowsMeaning b (text x) u) → HasSmallRoots x → u ≡ x) (sym e) (λ q k. same_shown p.answer p.reduced p.defined number b u q k small')
 
 module _ (room bits : Option (Tree → ℕ)) (a b : State) (before after : List Breaker) (line : List ℕ) (t : Tree) (p : ShowsMeaning a line t) (number : is_number p.answer ≡ true) where
   no_name : (x : List ℕ) → None ≡ Some x → ⊥
@@ -75,3 +77,11 @@ module _ (room bits : Option (Tree → ℕ)) (a b : State) (before after : List 
           no_name x (sym (reads_face p.answer p.reduced p.defined number (subst (λ y. ReadsText (text y) d.tokens (Some x) d.tree) p.shown_is d.reads)).no_store)
   answered_again undefined h k = absurd (never_undefined p.answer p.reduced p.defined number b (subst (λ y. HasNoMeaning b (text y)) p.shown_is (has_no_meaning room bits before after b (text t) h)))
   answered_again _ h k = absurd k
+
+  pub typed_again : (reply : Reply) → IsReply room bits b before after (text t) reply → IsAnswered reply → HasSmallRoots t → ShowsSmallRoots reply → reply ≡ shown t
+  typed_again reply h k small small' = by (answered_again reply h k)
+    where
+      by : (u : Tree) × (reply ≡ shown u) → reply ≡ shown t
+      by (u, e) =
+          let q = shows_meaning room bits before after b (text t) (shown u) u (subst (IsReply room bits b before after (text t)) e h) refl in
+          e ∙ ap shown (shown_again a b line t u p q number small (subst ShowsSmallRoots e small'))

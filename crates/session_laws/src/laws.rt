@@ -41,7 +41,7 @@ ghost use Rattle.poincare_run.specs.Steps.{Chain, LineStep, Moment, Turn};
 ghost use Rattle.poincare_run.specs.declared.words.Options.{Options};
 ghost use Rattle.reduce_port.specs.Bounds.{MayExceed};
 ghost use Rattle.reduce_port.specs.Checks.{TripsWithin};
-ghost use Rattle.session_laws.specs.Decided.{HasPlainValue, IsSettled, last_answer};
+ghost use Rattle.session_laws.specs.Decided.{HasPlainValue, HasSmallRoots, IsSettled, ShowsSmallRoots, last_answer};
 ghost use Rattle.session_laws.specs.Enough.{HasBytesFor, HoldsNoSmallTree, IsAnswered, ReadsFilled};
 ghost use Rattle.session_laws.specs.ExpansionsMeant.{AsksExpansionOf, HaveSameCoefficients, TellsExpansion};
 ghost use Rattle.session_laws.specs.Meant.{HasNoMeaning, HasSmallRadicands, MeanTheSame, MeansNothing, ShowsMeaning};
@@ -71,31 +71,38 @@ pub fn one_value_has_one_text()
 {}
 
 /// The text of a Number, typed again as a line in any session, is answered by a tree where it is answered, and by itself where
-/// all radicands are below 10^12.
+/// each root that is shown is one of a number below 10^12.
 pub fn a_number_typed_again()
-    ensures itself { (a b : State) (line : List ℕ) (t u : Tree) (p : ShowsMeaning a line t) (q : ShowsMeaning b (text t) u)
-        → is_number p.answer ≡ true → HasSmallRadicands p.answer → HasSmallRadicands q.answer → u ≡ t }
     ensures a_tree { (room bits : Option (Tree → ℕ)) (a b : State) (before after : List Breaker) (line : List ℕ) (t : Tree) (reply : Reply) (p : ShowsMeaning a line t)
         → is_number p.answer ≡ true → IsReply room bits b before after (text t) reply → IsAnswered reply → (u : Tree) × (reply ≡ shown u) }
+    ensures itself { (room bits : Option (Tree → ℕ)) (a b : State) (before after : List Breaker) (line : List ℕ) (t : Tree) (reply : Reply) (p : ShowsMeaning a line t)
+        → is_number p.answer ≡ true → IsReply room bits b before after (text t) reply → IsAnswered reply → HasSmallRoots t → ShowsSmallRoots reply → reply ≡ shown t }
 {}
 
 /// Two lines, perhaps in two sessions with other pools, identifiers, breakers and earlier lines, that become the same tree have the
-/// same text: where the tree has a plain value, where it is known to have a value and each radicand is below 10^12 (and then
-/// neither is undefined), and where solutions or an expansion are told.
+/// same text: where the tree has a plain value, where it is known whether it has a value and each root that is shown is one of a
+/// number below 10^12, and where solutions or an expansion are told.
 pub fn answers_depend_on_the_line()
     ensures plain { (room bits : Option (Tree → ℕ)) (a b : State) (before after first last : List Breaker) (line other : List ℕ) (store name : Option (List ℕ)) (t : Tree) (reply also : Reply)
         → ReadsFilled a line store t → ReadsFilled b other name t → HasPlainValue t
         → IsReply room bits a before after line reply → IsReply room bits b first last other also → IsSettled reply → IsSettled also → text_of reply ≡ text_of also }
-    ensures valued { (a b : State) (line other : List ℕ) (t u : Tree) (p : ShowsMeaning a line t) (q : ShowsMeaning b other u)
-        → p.tree ≡ q.tree → IsEasy p.tree → HasSmallRadicands p.answer → HasSmallRadicands q.answer → text t ≡ text u }
-    ensures never_undefined { (a b : State) (line other : List ℕ) (t : Tree) (p : ShowsMeaning a line t) (q : HasNoMeaning b other)
-        → p.tree ≡ q.tree → ¬ (IsEasy p.tree) }
+    ensures valued { (room bits : Option (Tree → ℕ)) (a b : State) (before after first last : List Breaker) (line other : List ℕ) (store name : Option (List ℕ)) (t : Tree) (reply also : Reply)
+        → ReadsFilled a line store t → ReadsFilled b other name t → IsEasy t → IsReply room bits a before after line reply → IsReply room bits b first last other also
+        → IsAnswered reply → IsAnswered also → ShowsSmallRoots reply → ShowsSmallRoots also → text_of reply ≡ text_of also }
     ensures solutions { (room bits : Option (Tree → ℕ)) (a b : State) (before after first last : List Breaker) (line other told also : List ℕ) (es : List Equation)
         → AsksToSolve a line es → AsksToSolve b other es
         → IsReply room bits a before after line (report told) → IsReply room bits b first last other (report also) → told ≡ also }
     ensures expansions { (room bits : Option (Tree → ℕ)) (a b : State) (before after first last : List Breaker) (line other told also : List ℕ) (t : Tree)
         → AsksExpansionOf a line t → AsksExpansionOf b other t
         → IsReply room bits a before after line (report told) → IsReply room bits b first last other (report also) → told ≡ also }
+{}
+
+/// A tree that is shown or stored is the last answer then.
+pub fn answers_become_the_last()
+    ensures shown { (room bits : Option (Tree → ℕ)) (old new : State) (before after : List Breaker) (line : List ℕ) (t : Tree)
+        → Step room bits old before line (shown t) new after → last_answer new ≡ t }
+    ensures stored { (room bits : Option (Tree → ℕ)) (old new : State) (before after : List Breaker) (line : List ℕ) (t : Tree) (x : List ℕ)
+        → Step room bits old before line (stored t x) new after → last_answer new ≡ t }
 {}
 
 /// Two sessions with the same last answer tell the same layout and draw the same picture, where each finds room.

@@ -1,4 +1,4 @@
-use Rattle.session_laws.proofs.{Shared.{◌∙◌, ap, sym, text}, DecidedAnswers.{are_told, easy_alike, easy_defined, settled_text, told_once}, ExpandedLines.{told_of}}
+use Rattle.session_laws.proofs.{Shared.{◌∙◌, sym}, DecidedAnswers.{are_told, one_text_of, settled_text, told_once}, ExpandedLines.{told_of}}
 use Rattle.session_laws.proofs.laws.answers_depend_on_the_line.Goals as goal
 
 pub returns-clause-plain : goal.returns-clause-plain
@@ -6,10 +6,7 @@ returns-clause-plain c = λ room bits a b before after first last line other sto
     settled_text room bits a before after line store t reads known reply h s ∙ sym (settled_text room bits b first last other name t reads_too known also k s')
 
 pub returns-clause-valued : goal.returns-clause-valued
-returns-clause-valued c = λ a b line other t u p q same easy small small'. ap text (easy_alike a b line other t u p q same easy small small')
-
-pub returns-clause-never_undefined : goal.returns-clause-never_undefined
-returns-clause-never_undefined c = easy_defined
+returns-clause-valued c = one_text_of
 
 pub returns-clause-solutions : goal.returns-clause-solutions
 returns-clause-solutions c = λ room bits a b before after first last line other told also es asks asks_too h k.
