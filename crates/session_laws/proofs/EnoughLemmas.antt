@@ -41,11 +41,11 @@ module _ (room bits : Option (Tree → ℕ)) (old : State) (before after : List 
   lacks_no_bytes : HasBytesFor old t → (refusal : Full) → made_in old reads.tree ≡ lacks refusal → ⊥
   lacks_no_bytes h refusal e = made_has_room (free_bytes old) (values old.table (trees old)) reads.tree (finds_room h) refusal e
 
-  evaluated : (reply : Reply) → IsReply room bits old before after line reply → IsReplyToTree room bits old before after store reads.tree reply
+  pub evaluated : (reply : Reply) → IsReply room bits old before after line reply → IsReplyToTree room bits old before after store reads.tree reply
   evaluated reply h = line_evaluated room bits old before after line reads.reads h
 
   -- its reduction is that of the filled tree
-  of_filled : {reply : Reply} (left : ℕ) (u : Tree) → made (free_bytes old) (values old.table (trees old)) reads.tree ≡ fills left u → IsReduction room bits (free_bytes old) u before after store reply → IsReduction room bits (free_bytes old) t before after store reply
+  pub of_filled : {reply : Reply} (left : ℕ) (u : Tree) → made (free_bytes old) (values old.table (trees old)) reads.tree ≡ fills left u → IsReduction room bits (free_bytes old) u before after store reply → IsReduction room bits (free_bytes old) t before after store reply
   of_filled {reply} left u m r = subst (λ w. IsReduction room bits (free_bytes old) w before after store reply) (made_is (free_bytes old) (values old.table (trees old)) reads.tree left u m ∙ sym reads.filled_is) r
 
   module _ (bytes : HasBytesFor old t) (roomy : ¬ (MayExceed room t (free_bytes old))) where

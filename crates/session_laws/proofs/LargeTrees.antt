@@ -61,7 +61,7 @@ root_listed i [] h = absurd cc
 root_listed i (n ∷ ns) h =
     by_test (λ b. cond b true (has_root i (rest_trees n.children (forest_of ns))) ≡ true → cond b true (has i ns) ≡ true) (eqb n.id i) (λ e k. refl) (λ e k. root_listed i ns (root_behind i n.children (forest_of ns) k)) h
 
-not_root : (i : ℕ) (ns : List Node) → has i ns ≡ false → has_root i (forest_of ns) ≡ false
+pub not_root : (i : ℕ) (ns : List Node) → has i ns ≡ false → has_root i (forest_of ns) ≡ false
 not_root i ns h = grind (arith, root_listed)
 
 root_there : (f : Forest) (t : Tree) → plains f ≡ more t none → (holds (root_id f) f ≡ true) × (plain (root_tree (root_id f) f) ≡ t)

@@ -8,6 +8,13 @@ pub mod OneReading
 pub mod EquationLines
 pub mod EnoughLemmas
 pub mod LargeTrees
+pub mod NamedLines
+pub mod HeldTrees
+pub mod NumberFaces
+pub mod TypedAgain
+pub mod SmallRoots
+pub mod DecidedAnswers
+pub mod LastAnswers
 pub mod RoomLemmas
 pub mod StoredAgain
 pub mod Shared

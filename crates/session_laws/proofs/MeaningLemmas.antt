@@ -81,7 +81,7 @@ module _ (room bits : Option (Tree → ℕ)) (before after : List Breaker) where
 
 -- ---- two lines with one value
 
-one_value : (t : Tree) (v w : Surd) → HasValue t v → HasValue t w → Same v w
+pub one_value : (t : Tree) (v w : Surd) → HasValue t v → HasValue t w → Same v w
 one_value t v w h k = Agree-Same (one_meaning [] tt t v w h k)
 
 pub shown_alike : (a b : State) (line other : List ℕ) (t u : Tree) (p : ShowsMeaning a line t) (q : ShowsMeaning b other u) → IsEasy p.tree → IsEasy q.tree → MeanTheSame p.tree q.tree → HasSmallRadicands p.answer → HasSmallRadicands q.answer → t ≡ u

@@ -3,3 +3,4 @@ pub mod Enough
 pub mod Slopes
 pub mod ExpansionsMeant
 pub mod StoredAgain
+pub mod Decided

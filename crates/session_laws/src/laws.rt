@@ -1,21 +1,23 @@
 //! Laws of lines and of whole sessions, each the contract of a function without a body.
-ghost use Rattle.std.specs.Prelude.{◌≡◌, ◌≢◌, ◌≤◌, ◌+◌, ◌↔◌, ℕ, List, Err, None, Some, Option, Contains, length, true, false};
+ghost use Rattle.std.specs.Prelude.{◌≡◌, ◌≢◌, ◌≤◌, ◌+◌, ◌↔◌, ℕ, List, Err, None, Some, Option, Contains, length, Ok, true, false};
 ghost use Rattle.breakers.specs.Breakers.{TripsWithin as TripsIn};
 ghost use Rattle.breakers.specs.State.{State as Breaker};
 ghost use Rattle.calc_algebra.specs.BadAndEasy.{IsEasy};
+ghost use Rattle.calc_algebra.specs.Numbers.{is_number};
 ghost use Rattle.calc_algebra.specs.Rewritings.{Reduces};
-ghost use Rattle.calc_commands.specs.Commands.{IsCommandLine, diff, expand, solve};
+ghost use Rattle.calc_commands.specs.Commands.{IsCommandLine, diff, expand, layout, solve};
 ghost use Rattle.calc_language.specs.Reads.{Stores};
 ghost use Rattle.calc_language.specs.Texts.{text};
 ghost use Rattle.calc_measures.specs.Measures.{bits as bits_of, room as room_of};
 ghost use Rattle.calc_session.specs.Arguments.{ReadsText, bytes_before};
 ghost use Rattle.calc_session.specs.Calculating.{IsReplyToExpression, made_in};
 ghost use Rattle.calc_session.specs.Deriving.{IsReplyToDerivative};
+ghost use Rattle.calc_session.specs.Drawing.{rows_in};
 ghost use Rattle.calc_session.specs.Expanding.{IsReplyToExpansion, expansion_text};
 ghost use Rattle.calc_session.specs.Forms.{form_room};
 ghost use Rattle.calc_session.specs.Naming.{store_line};
 ghost use Rattle.calc_session.specs.Reading.{ReadsTree};
-ghost use Rattle.calc_session.specs.Replies.{Reply, circular, full, not_polynomial, refused, report, shown, stored, undefined};
+ghost use Rattle.calc_session.specs.Replies.{Reply, circular, full, not_polynomial, refused, report, shown, stored, text_of, undefined};
 ghost use Rattle.calc_session.specs.SolutionsMeant.{AsksToSolve, TellsSolutionsOf};
 ghost use Rattle.calc_session.specs.Solving.{IsReplyToEquations, first_not_linear};
 ghost use Rattle.calc_session.specs.States.{State, first_state, free_bytes, trees};
@@ -42,6 +44,7 @@ ghost use Rattle.poincare_run.specs.Steps.{Chain, LineStep, Moment, Turn};
 ghost use Rattle.poincare_run.specs.declared.words.Options.{Options};
 ghost use Rattle.reduce_port.specs.Bounds.{MayExceed};
 ghost use Rattle.reduce_port.specs.Checks.{TripsWithin};
+ghost use Rattle.session_laws.specs.Decided.{HasPlainValue, HasSmallRoots, IsSettled, ShowsSmallRoots, last_answer};
 ghost use Rattle.session_laws.specs.Enough.{HasBytesFor, HoldsNoSmallTree, IsAnswered, ReadsFilled};
 ghost use Rattle.session_laws.specs.ExpansionsMeant.{AsksExpansionOf, HaveSameCoefficients, TellsExpansion};
 ghost use Rattle.session_laws.specs.Meant.{HasNoMeaning, HasSmallRadicands, MeanTheSame, MeansNothing, ShowsMeaning};
@@ -71,6 +74,49 @@ pub fn one_value_has_one_text()
         → IsEasy p.tree → IsEasy q.tree → MeanTheSame p.tree q.tree → HasSmallRadicands p.answer → HasSmallRadicands q.answer → text t ≡ text u }
 {}
 
+/// The text of a Number, typed again as a line in any session, is answered by a tree where it is answered, and by itself where
+/// each root that is shown is one of a number below 10^12.
+pub fn a_number_typed_again()
+    ensures a_tree { (room bits : Option (Tree → ℕ)) (a b : State) (before after : List Breaker) (line : List ℕ) (t : Tree) (reply : Reply) (p : ShowsMeaning a line t)
+        → is_number p.answer ≡ true → IsReply room bits b before after (text t) reply → IsAnswered reply → (u : Tree) × (reply ≡ shown u) }
+    ensures itself { (room bits : Option (Tree → ℕ)) (a b : State) (before after : List Breaker) (line : List ℕ) (t : Tree) (reply : Reply) (p : ShowsMeaning a line t)
+        → is_number p.answer ≡ true → IsReply room bits b before after (text t) reply → IsAnswered reply → HasSmallRoots t → ShowsSmallRoots reply → reply ≡ shown t }
+{}
+
+/// Two lines, perhaps in two sessions with other pools, identifiers, breakers and earlier lines, that become the same tree have the
+/// same text: where the tree has a plain value, where it is known whether it has a value and each root that is shown is one of a
+/// number below 10^12, and where solutions or an expansion are told.
+pub fn answers_depend_on_the_line()
+    ensures plain { (room bits : Option (Tree → ℕ)) (a b : State) (before after first last : List Breaker) (line other : List ℕ) (store name : Option (List ℕ)) (t : Tree) (reply also : Reply)
+        → ReadsFilled a line store t → ReadsFilled b other name t → HasPlainValue t
+        → IsReply room bits a before after line reply → IsReply room bits b first last other also → IsSettled reply → IsSettled also → text_of reply ≡ text_of also }
+    ensures valued { (room bits : Option (Tree → ℕ)) (a b : State) (before after first last : List Breaker) (line other : List ℕ) (store name : Option (List ℕ)) (t : Tree) (reply also : Reply)
+        → ReadsFilled a line store t → ReadsFilled b other name t → IsEasy t → IsReply room bits a before after line reply → IsReply room bits b first last other also
+        → IsAnswered reply → IsAnswered also → ShowsSmallRoots reply → ShowsSmallRoots also → text_of reply ≡ text_of also }
+    ensures solutions { (room bits : Option (Tree → ℕ)) (a b : State) (before after first last : List Breaker) (line other told also : List ℕ) (es : List Equation)
+        → AsksToSolve a line es → AsksToSolve b other es
+        → IsReply room bits a before after line (report told) → IsReply room bits b first last other (report also) → told ≡ also }
+    ensures expansions { (room bits : Option (Tree → ℕ)) (a b : State) (before after first last : List Breaker) (line other told also : List ℕ) (t : Tree)
+        → AsksExpansionOf a line t → AsksExpansionOf b other t
+        → IsReply room bits a before after line (report told) → IsReply room bits b first last other (report also) → told ≡ also }
+{}
+
+/// A tree that is shown or stored is the last answer then.
+pub fn answers_become_the_last()
+    ensures shown { (room bits : Option (Tree → ℕ)) (old new : State) (before after : List Breaker) (line : List ℕ) (t : Tree)
+        → Step room bits old before line (shown t) new after → last_answer new ≡ t }
+    ensures stored { (room bits : Option (Tree → ℕ)) (old new : State) (before after : List Breaker) (line : List ℕ) (t : Tree) (x : List ℕ)
+        → Step room bits old before line (stored t x) new after → last_answer new ≡ t }
+{}
+
+/// Two sessions with the same last answer tell the same layout and draw the same picture, where each finds room.
+pub fn pictures_depend_on_the_answer()
+    ensures layouts { (room bits : Option (Tree → ℕ)) (a b : State) (before after first last : List Breaker) (line other told also : List ℕ)
+        → IsCommandLine line layout → IsCommandLine other layout → last_answer a ≡ last_answer b
+        → IsReply room bits a before after line (report told) → IsReply room bits b first last other (report also) → told ≡ also }
+    ensures pictures { (a b : State) (rows others : List ℕ) → last_answer a ≡ last_answer b → rows_in a ≡ Ok rows → rows_in b ≡ Ok others → rows ≡ others }
+{}
+
 /// A line that reads as a tree whose name can be stored is answered by what the tree comes to, and by nothing else: what
 /// is built and filled finds no room or is too deep, or the filled tree's reduction is interrupted, overflows or finds no
 /// room by its cause, or there is an answer.
@@ -86,6 +132,18 @@ pub fn lines_with_room_are_never_full()
     ensures { (room bits : Option (Tree → ℕ)) (old : State) (before after : List Breaker) (line : List ℕ) (reply : Reply) (store : Option (List ℕ)) (t : Tree)
         → ReadsFilled old line store t → HasBytesFor old t → ¬ (MayExceed room t (free_bytes old))
         → IsReply room bits old before after line reply → (refusal : Full) → reply ≢ refused (full refusal) }
+{}
+
+/// The pool of a session holds exactly the stored trees, each as often as entries of the table hold it: at its beginning, after each
+/// line that is answered in such a state, and so after all lines of a session that words ask for.
+pub fn held_along_chains()
+    ensures at_first { (size : ℕ) → IsHeld (first_state size).table (trees (first_state size)) }
+    ensures behind_a_line { (room bits : Option (Tree → ℕ)) (old new : State) (before after : List Breaker) (line : List ℕ) (reply : Reply)
+        → IsHeld old.table (trees old) → Step room bits old before line reply new after → IsHeld new.table (trees new) }
+    ensures along { (old new : Moment) (lines : List (List ℕ)) (turns : List Turn)
+        → IsHeld old.state.table (trees old.state) → Chain old lines turns new → IsHeld new.state.table (trees new.state) }
+    ensures from_words { (words : List (List ℕ)) (options : Options) (breakers : List Breaker) (lines : List (List ℕ)) (turns : List Turn) (now : Moment)
+        → options_of words ≡ Some options → Chain (first_moment options breakers) lines turns now → IsHeld now.state.table (trees now.state) }
 {}
 
 /// No session stores a tree that is smaller than the leaf of a name.
