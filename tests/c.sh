@@ -188,6 +188,7 @@ if has python3; then
     else
         lacks "the comparison with the program" "$program is not built: ./poincare builds it"
     fi
+    tried "the module for Python" $limited "$root/tests/module.py" "$folder/program"
     tried "sessions through the library" "$root/tests/sessions.py" "$folder/program"
     tried "samples through the library" "$root/tests/samples.py" "$folder/program"
 else

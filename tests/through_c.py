@@ -13,11 +13,9 @@ import importlib
 import importlib.util
 import os
 import pathlib
-import pty
 import re
 import resource
 import shutil
-import signal
 import sys
 import tempfile
 import threading
@@ -25,6 +23,7 @@ import time
 
 from asked import TOP, Lacking, every, run, written_by as written
 from program_rows import BYTES, REFUSED, USAGE, tables
+from terminal import Terminal
 
 PYTHON = TOP / "python"
 sys.path[:0] = [str(PYTHON), str(TOP / "bench")]
@@ -256,41 +255,6 @@ def check_missing():
         wrong = {**plain, "POINCARE_LIBRARY": str(TOP / "c" / "poincare.h")}
         status, out, err = written(command, "1\n", **{**how, "env": wrong})
         return unbuilt and (status, out) == (1, "") and "poincare.h" in err and "Traceback" not in err
-
-
-class Terminal:
-    """The prompt at a terminal: what is typed, and what is shown."""
-
-    def __init__(self, home, *words):
-        self.child, self.end = pty.fork()
-        if self.child == 0:
-            # A script that runs in the background may have it ignored, and a program at a terminal has not.
-            signal.signal(signal.SIGINT, signal.SIG_DFL)
-            os.chdir(PYTHON)
-            os.environ.update(HOME=home, TERM="dumb")
-            os.execv(sys.executable, [sys.executable, "-m", "poincare", *words])
-        self.shown = ""
-        self.before = ""
-
-    def wait_for(self, text, seconds=20):
-        """Reads until this is shown behind what was waited for before; whether it is."""
-        os.set_blocking(self.end, False)
-        until = time.monotonic() + seconds
-        while text not in self.shown and time.monotonic() < until:
-            with contextlib.suppress(BlockingIOError, OSError):
-                self.shown += os.read(self.end, 4096).decode(errors="replace")
-            time.sleep(0.01)
-        self.before, found, behind = self.shown.partition(text)
-        self.shown = behind if found else self.before
-        return found != ""
-
-    def type(self, text):
-        os.write(self.end, text.encode())
-
-    def status(self):
-        status = os.waitstatus_to_exitcode(os.waitpid(self.child, 0)[1])
-        os.close(self.end)
-        return status
 
 
 def check_prompt():

@@ -14,11 +14,13 @@ What a line may be says docs/LANGUAGE.md. The module stands on the library for C
 
 import ctypes
 import enum
+import mmap
+import operator
 import threading
 from collections.abc import Callable
 from dataclasses import dataclass
 from types import TracebackType
-from typing import NamedTuple
+from typing import NamedTuple, NoReturn
 
 from . import _library
 from ._library import LibraryMissing, Slot, library
@@ -26,6 +28,10 @@ from ._library import LibraryMissing, Slot, library
 __all__ = ["Answer", "Kind", "LibraryMissing", "Pool", "PoolFull", "Refusal", "Session", "answers"]
 
 DEFAULT_POOL = 32768
+
+# How much room `answers` has for what it writes: so much, or so many times its text.
+ANSWERS_ROOM = 1 << 26
+ANSWERS_TIMES = 64
 
 
 class Kind(enum.Enum):
@@ -92,7 +98,11 @@ class PoolFull(Exception):
 
 
 def _bytes_of(line: str | bytes) -> bytes:
-    return line.encode("utf-8", "surrogateescape") if isinstance(line, str) else bytes(line)
+    if isinstance(line, str):
+        return line.encode("utf-8", "surrogateescape")
+    if isinstance(line, bytes | bytearray | memoryview):
+        return bytes(line)
+    raise TypeError(f"a line is a str or bytes, and not {type(line).__name__}")
 
 
 def _without_end(line: bytes) -> bytes:
@@ -100,9 +110,23 @@ def _without_end(line: bytes) -> bytes:
     return line.removesuffix(b"\n").removesuffix(b"\r")
 
 
-def _check_pool(size: int) -> None:
-    if size not in range(64, 524_281, 8):
-        raise ValueError(f"a pool has a multiple of 8 bytes, from 64 to 524280, and not {size}")
+def _pool_of(size: int) -> int:
+    pool = operator.index(size)
+    if pool not in range(64, 524_281, 8):
+        raise ValueError(f"a pool has a multiple of 8 bytes, from 64 to 524280, and not {pool}")
+    return pool
+
+
+def _checks_of(count: int) -> int:
+    checks = operator.index(count)
+    if not 0 <= checks < 1 << 64:
+        raise ValueError(f"a count of checks is not negative and below 2^64, and not {checks}")
+    return checks
+
+
+def _pages(size: int) -> mmap.mmap:
+    """Memory for so many bytes. The system gives a page of it once something is written there."""
+    return mmap.mmap(-1, size, flags=mmap.MAP_PRIVATE | mmap.MAP_ANONYMOUS)
 
 
 class Session:
@@ -118,7 +142,7 @@ class Session:
         Raises ValueError for another size, MemoryError where there is no memory, and LibraryMissing where the library
         is not built.
         """
-        _check_pool(pool)
+        size = _pool_of(pool)
         calls = library()
         self._calls = calls
         self._thread = threading.get_ident()
@@ -130,7 +154,7 @@ class Session:
         self._out = ctypes.create_string_buffer(1024)
         calls.poincare_session_init(self._session.place)
         calls.poincare_stopper_init(self._stopper.place)
-        if calls.poincare_open(self._session.place, pool) != _library.DONE:
+        if calls.poincare_open(self._session.place, size) != _library.DONE:
             raise MemoryError("there is no memory for a session")
         if calls.poincare_stopper_open(self._stopper.place, self._session.place) != _library.DONE:
             calls.poincare_close(self._session.place)
@@ -147,10 +171,8 @@ class Session:
         line = _without_end(_bytes_of(text))
         if checks is None:
             code = self._calls.poincare_line(place, line, len(line))
-        elif not 0 <= checks < 1 << 64:
-            raise ValueError(f"a count of checks is not negative and below 2^64, and not {checks}")
         else:
-            code = self._calls.poincare_line_within(place, line, len(line), checks)
+            code = self._calls.poincare_line_within(place, line, len(line), _checks_of(checks))
         told = self._written(self._calls.poincare_text)[1]
         if code > _library.REFUSED:
             return Answer(Kind.REFUSED, told, Refusal(code - _library.REFUSED))
@@ -208,6 +230,9 @@ class Session:
     ) -> None:
         self.close()
 
+    def __reduce__(self) -> NoReturn:
+        raise TypeError("a session is neither copied nor pickled")
+
     def __del__(self) -> None:
         # A session that is dropped on another thread keeps its memory, since it may be closed on its own alone.
         if getattr(self, "_is_open", False) and threading.get_ident() == self._thread:
@@ -232,13 +257,25 @@ class Session:
 
 
 def answers(text: str | bytes, pool: int = DEFAULT_POOL) -> str:
-    """What the program writes for a whole input, in a session of its own: the text of each line, and a newline."""
-    _check_pool(pool)
-    lines, count = _bytes_of(text), ctypes.c_size_t(4096)
-    code = _library.NO_ROOM
-    while code == _library.NO_ROOM:
-        out = ctypes.create_string_buffer(max(1, count.value))
-        code = library().poincare_answers(pool, lines, len(lines), out, len(out), ctypes.byref(count))
+    """What the program writes for a whole input, in a session of its own: the text of each line, and a newline.
+
+    The lines are answered once. Only where the answers have more than 64 MiB, and more than 64 times the bytes of the
+    text, or where the system has no room for so many, are they answered a second time.
+    """
+    size, lines, count = _pool_of(pool), _bytes_of(text), ctypes.c_size_t(4096)
+    try:
+        out = _pages(max(ANSWERS_ROOM, ANSWERS_TIMES * len(lines)))
+    except OSError:
+        out = _pages(count.value)
+    code = _answers(size, lines, out, count)
+    if code == _library.NO_ROOM:
+        out = _pages(count.value)
+        code = _answers(size, lines, out, count)
     if code == _library.NO_MEMORY:
         raise MemoryError("there is no memory for a session")
-    return out.raw[: count.value].decode()
+    return out[: count.value].decode()
+
+
+def _answers(size: int, lines: bytes, out: mmap.mmap, count: ctypes.c_size_t) -> int:
+    place = ctypes.addressof(ctypes.c_char.from_buffer(out))
+    return library().poincare_answers(size, lines, len(lines), place, len(out), ctypes.byref(count))

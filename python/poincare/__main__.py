@@ -3,11 +3,12 @@
     python -m poincare [--pool N] [--draw]
 
 Lines are edited and kept in a history, in ~/.poincare_history, where Python has `readline`. Ctrl-C interrupts the line
-that runs, and Ctrl-D ends. Where the input is no terminal there is no prompt, the answers are those of the program, and
-Ctrl-C ends it.
+that runs, and Ctrl-D ends. The words `help` and `quit` are for the prompt: names of these letters stand in parentheses.
+Where the input is no terminal there is no prompt, the answers are those of the program, and Ctrl-C ends it.
 """
 
 import argparse
+import locale
 import os
 import signal
 import sys
@@ -18,15 +19,35 @@ from . import DEFAULT_POOL, Kind, LibraryMissing, PoolFull, Session
 PROMPT = "> "
 HISTORY = os.path.expanduser("~/.poincare_history")
 MOST_LINES = 1000
+HELP = """\
+A line is answered as it stands: 1/(√(2)+√(3)), x+1→y, 0.1+0.2. For √( and → you may type sqrt( and ->.
+ans is the last answer, and :draw draws it. :diff x LINE, :solve EQUATIONS and :expand LINE calculate.
+The arrow keys bring lines back, Ctrl-C interrupts the line that runs, and quit or Ctrl-D ends.
+"""
 
 
-def read_history() -> None:
-    """Begins with the lines of earlier sessions, and has those of this one kept at the end."""
+def speak_utf8() -> None:
+    """Has `readline` read UTF-8, whatever the locale is: it asks the environment for it at each line."""
+    try:
+        locale.setlocale(locale.LC_CTYPE, "")
+        encoding = locale.nl_langinfo(locale.CODESET)
+    except locale.Error:
+        encoding = ""
+    if encoding != "UTF-8":
+        os.environ["LC_ALL"] = "C.UTF-8"
+
+
+def edit_lines() -> None:
+    """Has lines edited, beginning with those of earlier sessions, and has them kept at the end."""
+    speak_utf8()
     try:
         import atexit
         import readline
     except ImportError:
         return
+    # Where there is no locale with UTF-8 at all, its bytes are still read and shown.
+    for setting in ("convert-meta off", "input-meta on", "output-meta on"):
+        readline.parse_and_bind(f"set {setting}")
     try:
         readline.read_history_file(HISTORY)
     except FileNotFoundError:
@@ -54,8 +75,11 @@ def picture(session: Session) -> str:
         return f"{full}\n"
 
 
-def told(session: Session, line: str, draws: bool) -> str:
+def told(session: Session, line: str, draws: bool, prompts: bool) -> str:
     """What is printed for a line."""
+    if prompts and line.strip() == "help":
+        commands = session.line(":help")
+        return f"{HELP}{commands.text}\n" if commands.kind is Kind.REPORT else HELP
     answer = session.line(line)
     if answer.kind is Kind.BLANK:
         return ""
@@ -77,7 +101,9 @@ def converse(worker: ThreadPoolExecutor, session: Session, prompt: str, draws: b
         except KeyboardInterrupt:
             print()
             continue
-        running = worker.submit(told, session, line, draws)
+        if prompt and line.strip() == "quit":
+            return
+        running = worker.submit(told, session, line, draws, prompt != "")
         text = None
         while text is None:
             try:
@@ -100,7 +126,7 @@ def main() -> int:
     prompt = ""
     if sys.stdin.isatty():
         prompt = PROMPT
-        read_history()
+        edit_lines()
     else:
         signal.signal(signal.SIGINT, signal.SIG_DFL)
     for stream in (sys.stdin, sys.stdout):

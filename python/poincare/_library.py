@@ -37,7 +37,7 @@ CALLS = {
     "poincare_stop": ([PLACE], CODE),
     "poincare_clear": ([PLACE], CODE),
     "poincare_stopper_close": ([PLACE], CODE),
-    "poincare_answers": ([ctypes.c_uint32, BYTES, SIZE, BYTES, SIZE, ctypes.POINTER(SIZE)], CODE),
+    "poincare_answers": ([ctypes.c_uint32, BYTES, SIZE, PLACE, SIZE, ctypes.POINTER(SIZE)], CODE),
 }
 
 
