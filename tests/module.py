@@ -6,19 +6,31 @@
 PROGRAM is the program, or tests/c/program.c over the library. The module loads what POINCARE_LIBRARY names, or what
 `make -C c` built. tests/through_c.py compares the answers of the module with the program's.
 """
+import asyncio
+import contextlib
 import copy
+import gc
 import importlib
 import importlib.util
+import os
 import pathlib
 import pickle
+import signal
 import sys
 import tempfile
+import threading
+import time
+import warnings
+from concurrent.futures import ThreadPoolExecutor
 
 from asked import PROGRAM, Lacking, run, written_by
 from terminal import PYTHON, Terminal
 
 sys.path.insert(0, str(PYTHON))
 poincare = importlib.import_module("poincare")
+
+# Lines of which the second takes some tenths of a second in the greatest pool: powers of a sum of eight roots.
+SLOW = ["+".join(f"√({prime})" for prime in (2, 3, 5, 7, 11, 13, 17, 19)) + "→t", "+".join(["t^12"] * 30)]
 
 
 def raised_by(call, *words):
@@ -74,6 +86,151 @@ def check_answers_once():
     return len(told) > 2_000_000 and told == second == wanted and (times, more) == (1, 2)
 
 
+def noted_calls(use):
+    """What `use` gives, and the threads on which the calls of each session were made, by the slot of the session."""
+    library, threads, originals = poincare.library(), {}, {}
+
+    def noting(call):
+        def noted(place, *words):
+            threads.setdefault(place, []).append(threading.get_ident())
+            return call(place, *words)
+
+        return noted
+
+    for name in ("open", "line", "line_within", "text", "draw", "pool", "close"):
+        originals[name] = getattr(library, f"poincare_{name}")
+        setattr(library, f"poincare_{name}", noting(originals[name]))
+    try:
+        return use(), threads
+    finally:
+        for name, call in originals.items():
+            setattr(library, f"poincare_{name}", call)
+
+
+def check_threads():
+    """Eight threads ask one session at once, and each gets its own answers; the library is asked on one thread, which ends."""
+    before = threading.active_count()
+
+    def ask(session, number):
+        held = [session.line(f"{number}→n{number}").text == str(number)]
+        for other in range(100):
+            held.append(session.line(f"{number}×x+{other}×x+n{number}").text == expected(number, number + other))
+            held.append(session.line("1+2+3", checks=3).refusal is poincare.Refusal.INTERRUPTED)
+        return all(held)
+
+    def expected(number, times):
+        return f"{number}+{times}×x"
+
+    def use():
+        with poincare.Session() as session, ThreadPoolExecutor(8) as pool:
+            held = list(pool.map(lambda number: ask(session, number), range(2, 10)))
+            return all(held) and pool.submit(session.picture).result() != "" and session.pool.used > 0
+
+    held, threads = noted_calls(use)
+    asked = [set(it) for it in threads.values()]
+    return held and len(asked) == 1 and len(asked[0]) == 1 and threading.get_ident() not in asked[0] and threading.active_count() == before
+
+
+def check_tasks():
+    """`asyncio.to_thread` asks a session, and a session that was opened in one thread is closed in another."""
+
+    async def ask(session):
+        told = await asyncio.gather(*(asyncio.to_thread(session.line, f"{number}+x") for number in range(1, 50)))
+        return [it.text for it in told] == [f"{number}+x" for number in range(1, 50)]
+
+    with ThreadPoolExecutor(1) as pool:
+        session = pool.submit(poincare.Session).result()
+    held = asyncio.run(ask(session))
+    with ThreadPoolExecutor(4) as pool:
+        list(pool.map(lambda _: session.close(), range(4)))
+        late = [pool.submit(raised_by, session.line, "1").result() for _ in range(3)]
+    return held and session.closed and late == [ValueError] * 3
+
+
+def check_dropped():
+    """A session that is dropped on another thread gives its memory back, on its own thread, and a ResourceWarning tells of it."""
+
+    def use():
+        held = [poincare.Session()]
+        held[0].line("1/3→y")
+        thread = threading.Thread(target=held.clear)
+        with warnings.catch_warnings(record=True) as told:
+            warnings.simplefilter("always")
+            thread.start()
+            thread.join()
+            gc.collect()
+        return [it.category for it in told]
+
+    before = threading.active_count()
+    (told, ended), threads = noted_calls(lambda: (use(), until(lambda: threading.active_count() == before)))
+    asked = list(threads.values())
+    # Opening, a line, its text, and closing.
+    return told == [ResourceWarning] and ended and [len(it) for it in asked] == [4] and len(set(asked[0])) == 1
+
+
+def until(holds, seconds=20):
+    """Waits until something holds; whether it does."""
+    end = time.monotonic() + seconds
+    while not holds() and time.monotonic() < end:
+        time.sleep(0.01)
+    return holds()
+
+
+@contextlib.contextmanager
+def alarm(handler, seconds):
+    """Has a signal's handler called after so many seconds, on the main thread."""
+    before = signal.signal(signal.SIGALRM, lambda number, frame: handler())
+    signal.setitimer(signal.ITIMER_REAL, seconds)
+    try:
+        yield
+    finally:
+        signal.setitimer(signal.ITIMER_REAL, 0)
+        signal.signal(signal.SIGALRM, before)
+
+
+def check_handlers():
+    """A stop in a signal's handler on the main thread interrupts the line that runs there, and not the one after it. A handler
+    that raises ends the line, too."""
+
+    def interrupt():
+        raise KeyboardInterrupt
+
+    with poincare.Session(524280) as session:
+        session.line(SLOW[0])
+        begun = time.monotonic()
+        whole = session.line(SLOW[1])
+        seconds = time.monotonic() - begun
+        with alarm(session.stop, seconds / 10):
+            begun = time.monotonic()
+            stopped = session.line(SLOW[1])
+            held = [stopped.refusal is poincare.Refusal.INTERRUPTED, time.monotonic() - begun < seconds / 2]
+        held += [session.line("1+1").text == "2", session.line("√(2)+√(8)").text == "3×√(2)"]
+        with alarm(interrupt, seconds / 10):
+            begun = time.monotonic()
+            try:
+                session.line(SLOW[1])
+            except KeyboardInterrupt:
+                held += [time.monotonic() - begun < seconds / 2]
+        held += [session.line("ans").text == "3×√(2)", session.line("1+1").text == "2"]
+        with alarm(lambda: held.append(session.line("1/2+1/3").text == "5/6"), seconds / 10):
+            held += [session.line(SLOW[1]) == whole]
+    return len(held) == 9 and all(held)
+
+
+def check_forks():
+    """A process that is forked has no session of its parent's, and says so at once; the parent's goes on."""
+    with poincare.Session() as session:
+        child = os.fork()
+        if child == 0:
+            with warnings.catch_warnings():
+                warnings.simplefilter("error")
+                refused = raised_by(session.line, "1") is RuntimeError
+                session.stop()
+                del session
+                os._exit(0 if refused else 1)
+        return os.waitstatus_to_exitcode(os.waitpid(child, 0)[1]) == 0 and session.line("1+1").text == "2"
+
+
 def check_locales():
     """At the prompt a root is read, shown and taken back whole, whatever the locale is, and also where it is not installed."""
     if not importlib.util.find_spec("readline"):
@@ -109,7 +266,8 @@ def check_words_of_the_prompt():
     return all(held) and piped == (0, "help\nquit\n2\n", "")
 
 
-CHECKS = [check_types, check_copies, check_answers_once, check_locales, check_words_of_the_prompt]
+CHECKS = [check_types, check_copies, check_answers_once, check_threads, check_tasks, check_dropped, check_handlers, check_forks,
+          check_locales, check_words_of_the_prompt]
 
 if __name__ == "__main__":
     sys.exit(run(CHECKS))

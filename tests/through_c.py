@@ -133,24 +133,14 @@ def raises(error, call, *words):
     return True
 
 
-def in_thread(call):
-    """Whether a call raises RuntimeError in another thread."""
-    found = []
-    thread = threading.Thread(target=lambda: found.append(raises(RuntimeError, call)))
-    thread.start()
-    thread.join()
-    return found == [True]
-
-
 def check_errors():
-    """Sizes of pools, sessions that are closed, other threads and pictures without room are refused by errors."""
+    """Sizes of pools, sessions that are closed and pictures without room are refused by errors."""
     sizes = [0, 63, 65, 524281, 524288, -8, 1 << 40]
     full = poincare.Session(200)
     full.line("a+b+c+d+e")
     session = poincare.Session(524280)
     held = [raises(ValueError, poincare.Session, size) and raises(ValueError, poincare.answers, "1", size) for size in sizes]
     held += [raises(poincare.PoolFull, full.picture), full.line("ans").text == "a+b+c+d+e"]
-    held += [in_thread(lambda: session.line("1")), in_thread(session.close), in_thread(session.picture)]
     held += [raises(ValueError, session.line, "1", -1), raises(ValueError, session.line, "1", 1 << 64)]
     held += [str(session.line("1")) == "1", not session.closed]
     session.close()

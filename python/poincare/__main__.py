@@ -8,11 +8,12 @@ Where the input is no terminal there is no prompt, the answers are those of the 
 """
 
 import argparse
+import contextlib
 import locale
 import os
 import signal
 import sys
-from concurrent.futures import ThreadPoolExecutor
+from collections.abc import Iterator
 
 from . import DEFAULT_POOL, Kind, LibraryMissing, PoolFull, Session
 
@@ -75,11 +76,14 @@ def picture(session: Session) -> str:
         return f"{full}\n"
 
 
-def told(session: Session, line: str, draws: bool, prompts: bool) -> str:
+def help_text(session: Session) -> str:
+    """What is told of the prompt, and of the commands where the library tells of them."""
+    commands = session.line(":help")
+    return f"{HELP}{commands.text}\n" if commands.kind is Kind.REPORT else HELP
+
+
+def told(session: Session, line: str, draws: bool) -> str:
     """What is printed for a line."""
-    if prompts and line.strip() == "help":
-        commands = session.line(":help")
-        return f"{HELP}{commands.text}\n" if commands.kind is Kind.REPORT else HELP
     answer = session.line(line)
     if answer.kind is Kind.BLANK:
         return ""
@@ -89,33 +93,42 @@ def told(session: Session, line: str, draws: bool, prompts: bool) -> str:
     return f"{answer.text}\n{picture(session) if drawn else ''}"
 
 
-def converse(worker: ThreadPoolExecutor, session: Session, prompt: str, draws: bool) -> None:
-    """Answers lines until they end. The session runs on a thread of its own, so that this one hears Ctrl-C."""
+@contextlib.contextmanager
+def interrupted_by_control_c(session: Session) -> Iterator[None]:
+    """Has Ctrl-C interrupt the line that runs, and no line after it."""
+    before = signal.signal(signal.SIGINT, lambda number, frame: session.stop())
+    try:
+        yield
+    finally:
+        signal.signal(signal.SIGINT, before)
+        session.clear()
+
+
+def converse(session: Session, draws: bool) -> None:
+    """Answers the lines that are typed, until they end."""
     while True:
         try:
-            line = input(prompt)
-        except EOFError:
-            if prompt:
-                print()
-            return
-        except KeyboardInterrupt:
-            print()
-            continue
-        if prompt and line.strip() == "quit":
-            return
-        running = worker.submit(told, session, line, draws, prompt != "")
-        text = None
-        while text is None:
-            try:
-                text = running.result()
-            except KeyboardInterrupt:
-                session.stop()
-        session.clear()
-        try:
+            line = input(PROMPT)
+            if line.strip() == "quit":
+                return
+            with interrupted_by_control_c(session):
+                text = help_text(session) if line.strip() == "help" else told(session, line, draws)
             sys.stdout.write(text)
             sys.stdout.flush()
+        except EOFError:
+            print()
+            return
         except KeyboardInterrupt:
             print()
+
+
+def answer_input(session: Session, draws: bool) -> None:
+    """Answers the lines of an input that is no terminal."""
+    signal.signal(signal.SIGINT, signal.SIG_DFL)
+    with contextlib.suppress(EOFError):
+        while True:
+            sys.stdout.write(told(session, input(), draws))
+            sys.stdout.flush()
 
 
 def main() -> int:
@@ -123,24 +136,18 @@ def main() -> int:
     words.add_argument("--pool", type=int, default=DEFAULT_POOL, metavar="N", help="bytes of the pool")
     words.add_argument("--draw", action="store_true", help="draws each answer below its text")
     given = words.parse_args()
-    prompt = ""
-    if sys.stdin.isatty():
-        prompt = PROMPT
+    prompts = sys.stdin.isatty()
+    if prompts:
         edit_lines()
-    else:
-        signal.signal(signal.SIGINT, signal.SIG_DFL)
     for stream in (sys.stdin, sys.stdout):
         stream.reconfigure(encoding="utf-8", errors="surrogateescape")
-    with ThreadPoolExecutor(1) as worker:
-        try:
-            session = worker.submit(Session, given.pool).result()
-        except (LibraryMissing, ValueError, MemoryError) as error:
-            print(error, file=sys.stderr)
-            return 2 if isinstance(error, ValueError) else 1
-        try:
-            converse(worker, session, prompt, given.draw)
-        finally:
-            worker.submit(session.close).result()
+    try:
+        session = Session(given.pool)
+    except (LibraryMissing, ValueError, MemoryError) as error:
+        print(error, file=sys.stderr)
+        return 2 if isinstance(error, ValueError) else 1
+    with session:
+        (converse if prompts else answer_input)(session, given.draw)
     return 0
 
 
