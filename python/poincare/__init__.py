@@ -29,6 +29,8 @@ from ._library import LibraryMissing, library
 
 __all__ = ["Answer", "Kind", "LibraryMissing", "Pool", "PoolFull", "Refusal", "Session", "answers"]
 
+__version__ = "1.0.0"
+
 DEFAULT_POOL = 32768
 
 # How much room `answers` has for what it writes: so much, or so many times its text.
