@@ -266,8 +266,38 @@ def check_words_of_the_prompt():
     return all(held) and piped == (0, "help\nquit\n2\n", "")
 
 
+def check_hints():
+    """At a terminal a line with `sin(` gets a note that it is a name, and the answer is as it is; a pipe gets none."""
+    note = "note: {} read as {}; there are no functions but the root"
+    rows = [
+        ("2sin(x+1)", note.format("sin is", "a name")),
+        ("ln (2)→y", note.format("ln is", "a name")),
+        ("cos(x)^2+Sin(x)^2", note.format("cos and Sin are", "names")),
+        (":expand abs(x)×abs(y)+exp(1)", note.format("abs and exp are", "names")),
+        ("sqrt(8)+sine(2)+x2sin(3)+sin2(4)+sin", ""),
+        ("sin(", ""),
+        ("", ""),
+    ]
+    with tempfile.TemporaryDirectory() as home, poincare.Session() as session:
+        terminal = Terminal(home)
+        held = [terminal.wait_for("> ")]
+        for line, told in rows:
+            answer = session.line(line)
+            terminal.type(line + "\n")
+            ends = terminal.wait_for("\n> ")
+            shown = terminal.before.replace("\r", "").split("\n")[1:]
+            held.append(ends and shown == [it for it in (answer.text, told) if it])
+            if not held[-1]:
+                print("in", line, shown, answer.text, told)
+        terminal.type("quit\n")
+        held.append(terminal.status() == 0)
+        lines = "".join(f"{line}\n" for line, _ in rows)
+        piped = written_by([sys.executable, "-m", "poincare"], lines, cwd=PYTHON)[1]
+    return all(held) and piped == poincare.answers(lines) and "note" not in piped
+
+
 CHECKS = [check_types, check_copies, check_answers_once, check_threads, check_tasks, check_dropped, check_handlers, check_forks,
-          check_locales, check_words_of_the_prompt]
+          check_locales, check_words_of_the_prompt, check_hints]
 
 if __name__ == "__main__":
     sys.exit(run(CHECKS))

@@ -16,15 +16,12 @@ import sys
 from collections.abc import Iterator
 
 from . import DEFAULT_POOL, Kind, LibraryMissing, PoolFull, Session
+from ._guide import help_text, note_on
 
 PROMPT = "> "
 HISTORY = os.path.expanduser("~/.poincare_history")
 MOST_LINES = 1000
-HELP = """\
-A line is answered as it stands: 1/(√(2)+√(3)), x+1→y, 0.1+0.2. For √( and → you may type sqrt( and ->.
-ans is the last answer, and :draw draws it. :diff x LINE, :solve EQUATIONS and :expand LINE calculate.
-The arrow keys bring lines back, Ctrl-C interrupts the line that runs, and quit or Ctrl-D ends.
-"""
+KEYS = "The arrow keys bring lines back, Ctrl-C interrupts the line that runs, and quit or Ctrl-D ends.\n"
 
 
 def speak_utf8() -> None:
@@ -76,13 +73,7 @@ def picture(session: Session) -> str:
         return f"{full}\n"
 
 
-def help_text(session: Session) -> str:
-    """What is told of the prompt, and of the commands where the library tells of them."""
-    commands = session.line(":help")
-    return f"{HELP}{commands.text}\n" if commands.kind is Kind.REPORT else HELP
-
-
-def told(session: Session, line: str, draws: bool) -> str:
+def told(session: Session, line: str, draws: bool, hints: bool = False) -> str:
     """What is printed for a line."""
     answer = session.line(line)
     if answer.kind is Kind.BLANK:
@@ -90,7 +81,7 @@ def told(session: Session, line: str, draws: bool) -> str:
     if answer.kind is Kind.DRAW:
         return picture(session)
     drawn = draws and answer.kind in (Kind.SHOWN, Kind.STORED)
-    return f"{answer.text}\n{picture(session) if drawn else ''}"
+    return f"{answer.text}\n{note_on(line, answer) if hints else ''}{picture(session) if drawn else ''}"
 
 
 @contextlib.contextmanager
@@ -112,7 +103,7 @@ def converse(session: Session, draws: bool) -> None:
             if line.strip() == "quit":
                 return
             with interrupted_by_control_c(session):
-                text = help_text(session) if line.strip() == "help" else told(session, line, draws)
+                text = help_text(session) + KEYS if line.strip() == "help" else told(session, line, draws, hints=True)
             sys.stdout.write(text)
             sys.stdout.flush()
         except EOFError:
