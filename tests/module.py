@@ -257,7 +257,7 @@ def check_words_of_the_prompt():
         terminal = Terminal(home)
         held = [terminal.wait_for("> ")]
         terminal.type("help\n")
-        held += [terminal.wait_for("sqrt("), terminal.wait_for("quit or Ctrl-D ends"), terminal.wait_for("> ")]
+        held += [terminal.wait_for("sqrt("), terminal.wait_for("quit or Ctrl-D ends."), terminal.wait_for("> ")]
         terminal.type("(quit)+1\n")
         held += [terminal.wait_for("1+quit"), terminal.wait_for("> ")]
         terminal.type(" quit \n")

@@ -1,12 +1,13 @@
 #!/bin/sh
-# Tries the package for Python: the wheel, installed in a fresh environment without a network.
+# Tries the package for Python, a wheel that is installed in a fresh environment without a network, and the kernel for
+# Jupyter.
 #
 #     tests/python.sh [PROGRAM]
 #
 # PROGRAM is not asked; it is there so that each script takes it. The archive is that of the crate poincare_c, or what ARCHIVE
-# names. PYTHON names a Python with Debian's python3-venv, python3-pip, python3-build, python3-setuptools and python3-wheel;
-# else python3 is taken, or that of the system. What is not installed is said, and what needs it counts as neither passed
-# nor failed.
+# names. PYTHON names a Python with what Debian has as python3-venv, python3-pip, python3-build, python3-setuptools and
+# python3-wheel, and for the kernel python3-ipykernel and python3-nbconvert; else python3 is taken, or that of the system.
+# What is not installed is said, and what needs it counts as neither passed nor failed.
 root=$(cd "$(dirname "$0")/.." && pwd)
 ARCHIVE=${ARCHIVE:-$root/crates/poincare_c/out/libpoincare_c.a}
 export ARCHIVE
@@ -89,5 +90,12 @@ if [ -n "$python" ]; then
     tried "the package is removed" is_removed
 else
     lacks "the package" "no Python has venv, pip, build, setuptools and wheel"
+fi
+python=$(python_with ipykernel jupyter_client nbconvert nbformat)
+if [ -n "$python" ]; then
+    make -s -C "$root/c" OUT="$out" "$out/libpoincare.so" >/dev/null
+    tried "the kernel for Jupyter" env POINCARE_LIBRARY="$out/libpoincare.so" "$python" "$root/tests/notebook.py"
+else
+    lacks "the kernel for Jupyter" "no Python has ipykernel, jupyter_client and nbconvert"
 fi
 ends

@@ -21,7 +21,7 @@ from ._guide import help_text, note_on
 PROMPT = "> "
 HISTORY = os.path.expanduser("~/.poincare_history")
 MOST_LINES = 1000
-KEYS = "The arrow keys bring lines back, Ctrl-C interrupts the line that runs, and quit or Ctrl-D ends.\n"
+KEYS = "Arrow keys bring lines back, Ctrl-C interrupts, quit or Ctrl-D ends.\n"
 
 
 def speak_utf8() -> None:

@@ -5,8 +5,9 @@ import re
 from . import Answer, Kind, Session
 
 HELP = """\
-A line is answered as it stands: 1/(√(2)+√(3)), x+1→y, 0.1+0.2. For √( and → you may type sqrt( and ->.
-ans is the last answer, and :draw draws it. :diff x LINE, :solve EQUATIONS and :expand LINE calculate.
+A line is answered as it stands: 1/(√(2)+√(3)), x+1→y, 0.1+0.2.
+For √( and → you may type sqrt( and ->. ans is the last answer.
+:draw draws it. :diff x LINE, :solve EQUATIONS and :expand LINE calculate.
 """
 
 COMMANDS = (":after", ":diff", ":draw", ":dump", ":expand", ":forget", ":layout", ":pool", ":solve")
