@@ -217,6 +217,27 @@ def check_handlers():
     return len(held) == 9 and all(held)
 
 
+def check_asking_handlers():
+    """A handler that asks the session, whenever it comes, and threads that close it at once, leave nobody waiting."""
+    told = []
+    with poincare.Session() as session:
+        before = signal.signal(signal.SIGALRM, lambda number, frame: told.append(session.line("1/2+1/3").text))
+        signal.setitimer(signal.ITIMER_REAL, 0.001, 0.001)
+        try:
+            end = time.monotonic() + 3
+            held = [session.line(f"{number}+x").text == f"{number}+x" for number in range(1, 2000) if time.monotonic() < end]
+        finally:
+            signal.setitimer(signal.ITIMER_REAL, 0)
+            signal.signal(signal.SIGALRM, before)
+    with ThreadPoolExecutor(8) as pool:
+        for _ in range(100):
+            session = poincare.Session(64)
+            calls = [pool.submit(session.close) for _ in range(4)] + [pool.submit(raised_by, session.line, "1") for _ in range(4)]
+            held += [session.closed for it in calls[:4] if it.result() is None]
+            held += [it.result() in (None, ValueError) for it in calls[4:]]
+    return all(held) and len(told) > 10 and set(told) == {"5/6"}
+
+
 def check_forks():
     """A process that is forked has no session of its parent's, and says so at once; the parent's goes on."""
     with poincare.Session() as session:
@@ -296,8 +317,8 @@ def check_hints():
     return all(held) and piped == poincare.answers(lines) and "note" not in piped
 
 
-CHECKS = [check_types, check_copies, check_answers_once, check_threads, check_tasks, check_dropped, check_handlers, check_forks,
-          check_locales, check_words_of_the_prompt, check_hints]
+CHECKS = [check_types, check_copies, check_answers_once, check_threads, check_tasks, check_dropped, check_handlers,
+          check_asking_handlers, check_forks, check_locales, check_words_of_the_prompt, check_hints]
 
 if __name__ == "__main__":
     sys.exit(run(CHECKS))

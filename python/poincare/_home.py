@@ -4,11 +4,15 @@ The library wants each session to be asked on the thread that opened it. So a se
 all its calls, one after another in the order in which they were asked for. Any thread may ask, and waits for the answer.
 """
 
+import contextlib
 import os
 import queue
 import threading
 from collections.abc import Callable
 from typing import Any
+
+# After so many seconds who waits looks whether the thread is still there.
+SECONDS = 1.0
 
 
 class Call:
@@ -29,13 +33,25 @@ class Call:
             self._error = error
         self._made.release()
 
-    def outcome(self) -> Any:
-        """What the function gives or raises, once it is made."""
-        self._made.acquire()
+    def refuse(self) -> None:
+        self._error = ValueError("the session is closed")
+        self._made.release()
+
+    def outcome(self, is_served: Callable[[], bool]) -> Any:
+        """What the function gives or raises, once it is made; a ValueError where nobody makes it any more."""
+        if not self._is_made(is_served):
+            raise ValueError("the session is closed")
         error, self._error = self._error, None
         if error is not None:
             raise error
         return self._result
+
+    def _is_made(self, is_served: Callable[[], bool]) -> bool:
+        """Waits until the call is made or nobody is there who would make it."""
+        while not self._made.acquire(timeout=SECONDS):
+            if not is_served():
+                return self._made.acquire(blocking=False)
+        return True
 
 
 class Home:
@@ -44,7 +60,7 @@ class Home:
     def __init__(self, stop: Callable[[], None], clear: Callable[[], None]) -> None:
         """`stop` interrupts the call that is being made, and `clear` takes that back where it came too late."""
         self._stop, self._clear = stop, clear
-        # A signal's handler may come between any two steps, and ask for more on the same thread.
+        # Of what runs and is dropped. A signal's handler may come between any two steps of the same thread.
         self._lock = threading.RLock()
         self._calls: queue.SimpleQueue[tuple[Call, bool]] = queue.SimpleQueue()
         self._running: Call | None = None
@@ -81,18 +97,19 @@ class Home:
             raise RuntimeError("a session is not asked while its own thread collects what was dropped")
         try:
             self._put(call, last)
-            return call.outcome()
+            return call.outcome(self._thread.is_alive)
         except BaseException:
             if not last:
                 self._drop(call)
             raise
 
     def _put(self, call: Call, last: bool) -> None:
-        with self._lock:
-            if self._is_ended:
-                raise ValueError("the session is closed")
-            self._is_ended = last
-            self._calls.put((call, last))
+        # No lock is held: a signal's handler that asks and waits would hold it until the thread has made its call.
+        if self._is_ended:
+            raise ValueError("the session is closed")
+        if last:
+            self._is_ended = True
+        self._calls.put((call, last))
 
     def _drop(self, call: Call) -> None:
         """Nobody waits for the call any more."""
@@ -108,6 +125,9 @@ class Home:
             self._make(call)
             # What the call knows is not kept while the next one is waited for.
             del call
+        with contextlib.suppress(queue.Empty):
+            while True:
+                self._calls.get_nowait()[0].refuse()
 
     def _make(self, call: Call) -> None:
         with self._lock:
