@@ -164,6 +164,8 @@ class Session:
         line that is refused changes nothing, so it may be asked again with more.
         """
         line = _without_end(_bytes_of(text))
+        code: int
+        told: str
         code, told = self._home.ask(self._held.line, line, None if checks is None else _checks_of(checks))
         if code > _library.REFUSED:
             return Answer(Kind.REFUSED, told, Refusal(code - _library.REFUSED))
@@ -171,6 +173,8 @@ class Session:
 
     def picture(self) -> str:
         """The last answer, drawn: rows, each ended by a newline. Raises PoolFull where it finds no room in the pool."""
+        code: int
+        rows: str
         code, rows = self._home.ask(self._held.picture)
         if code == _library.FULL:
             raise PoolFull(rows.removesuffix("\n"))
@@ -247,4 +251,5 @@ def answers(text: str | bytes, pool: int = DEFAULT_POOL) -> str:
 
 def _answers(size: int, lines: bytes, out: mmap.mmap, count: ctypes.c_size_t) -> int:
     place = ctypes.addressof(ctypes.c_char.from_buffer(out))
-    return library().poincare_answers(size, lines, len(lines), place, len(out), ctypes.byref(count))
+    code: int = library().poincare_answers(size, lines, len(lines), place, len(out), ctypes.byref(count))
+    return code

@@ -9,6 +9,7 @@ Where the input is no terminal there is no prompt, the answers are those of the 
 
 import argparse
 import contextlib
+import io
 import locale
 import os
 import signal
@@ -131,6 +132,7 @@ def main() -> int:
     if prompts:
         edit_lines()
     for stream in (sys.stdin, sys.stdout):
+        assert isinstance(stream, io.TextIOWrapper)
         stream.reconfigure(encoding="utf-8", errors="surrogateescape")
     try:
         session = Session(given.pool)
