@@ -15,7 +15,7 @@
  *         poincare_close(&session);
  *     }
  *
- * The whole is linked with heap.c, or with other definitions of its three functions. Memory is taken by poincare_open
+ * The header needs C11 or C++11. The whole is linked with heap.c, or with other definitions of its three functions. Memory is taken by poincare_open
  * and poincare_answers alone; a line takes none, whatever it is, and neither does a stopper.
  *
  * What the caller owes, and nothing checks:
@@ -40,6 +40,16 @@
 #include <stddef.h>
 #include <stdint.h>
 
+/* The version of the header, and as 10,000 times its first number, 100 times the second, and the third. */
+#define POINCARE_VERSION "1.0.0"
+#define POINCARE_VERSION_NUMBER 10000
+
+/* Sizes of a pool, in bytes: that of the program, the least and the greatest; and the most bytes of a line. */
+#define POINCARE_DEFAULT_POOL 32768
+#define POINCARE_LEAST_POOL 64
+#define POINCARE_GREATEST_POOL 524280
+#define POINCARE_LONGEST_LINE 1024
+
 #ifdef __cplusplus
 #define POINCARE_ALIGNED alignas(16)
 extern "C" {
@@ -56,6 +66,10 @@ typedef struct poincare_session {
 typedef struct poincare_stopper {
     POINCARE_ALIGNED unsigned char place[64];
 } poincare_stopper;
+
+/* The first value of a slot, as in `static poincare_session session = POINCARE_NEW;`. It takes the place of
+ * poincare_session_init or poincare_stopper_init: what these write is the same, which is tested for this library. */
+#define POINCARE_NEW {{0}}
 
 /* What a call answers. */
 enum {
@@ -145,7 +159,7 @@ uint32_t poincare_line_within(poincare_session *session, const char *line, size_
  * has. It may be asked for again, as with more room. There is none after opening, after a blank line, and after
  * POINCARE_DRAW or a call of poincare_draw; then count is 0.
  * POINCARE_DONE, or POINCARE_NO_ROOM. */
-uint32_t poincare_text(poincare_session *session, char *out, size_t room, size_t *count);
+uint32_t poincare_text(const poincare_session *session, char *out, size_t room, size_t *count);
 
 /* Writes the picture of the last answer, each row with a newline, and sets count to how many bytes it has. Nothing in the
  * session changes, but that there is no text any more. Where its layout finds no room in the pool, the line
@@ -154,7 +168,7 @@ uint32_t poincare_text(poincare_session *session, char *out, size_t room, size_t
 uint32_t poincare_draw(poincare_session *session, char *out, size_t room, size_t *count);
 
 /* Tells how many bytes of the pool are in use, and how many are free. */
-uint32_t poincare_pool(poincare_session *session, uint32_t *used, uint32_t *left);
+uint32_t poincare_pool(const poincare_session *session, uint32_t *used, uint32_t *left);
 
 /*
  * Stoppers. Each call but poincare_stopper_open answers POINCARE_NOT_OPENED or POINCARE_CLOSED where the slot is not open.

@@ -25,6 +25,7 @@ import time
 from pathlib import Path
 
 PROGRAM = "poincare"
+TARGET = "x86_64-unknown-linux-gnu"
 SOURCES = ("src", "specs", "proofs")
 # The most memory that a proof takes, in bytes.
 LANE_BYTES = 3_000_000_000
@@ -43,8 +44,8 @@ def say(words):
 class Crate:
     """A crate, the crates of the repository that it names, and those of the kit."""
 
-    def __init__(self, root, name, named, crates):
-        self.folder, self.name = root / "crates" / name, name
+    def __init__(self, root, name, named, crates, is_archive=False):
+        self.folder, self.name, self.is_archive = root / "crates" / name, name, is_archive
         self.below = [it for it in named if it in crates]
         self.of_kit = ["std", *[it for it in named if it not in crates]]
         self.is_program = (self.folder / "src" / "main.rt").is_file()
@@ -65,23 +66,24 @@ class Crate:
         return made.hexdigest()
 
 
-def read_crates(root):
-    """The crates that the program stands on, itself included, each behind those that it names."""
-    named = {}
+def read_crates(root, goal=PROGRAM):
+    """The crates that the goal stands on, itself included, each after those that it names."""
+    named, archives = {}, set()
     for line in (root / "crates.txt").read_text().splitlines():
-        found = re.match(r"([a-z0-9_]+)(?: staticlib)?:(.*)", line)
+        found = re.match(r"([a-z0-9_]+)( staticlib)?:(.*)", line)
         if found:
-            named[found[1]] = found[2].split()
+            named[found[1]] = found[3].split()
+            archives.update([found[1]] if found[2] else [])
     crates = {}
 
     def visit(name):
         if name not in crates:
-            crate = Crate(root, name, named[name], named)
+            crate = Crate(root, name, named[name], named, name in archives)
             for it in crate.below:
                 visit(it)
             crates[name] = crate
 
-    visit(PROGRAM)
+    visit(goal)
     return crates
 
 
@@ -102,12 +104,15 @@ def count_lanes():
 class Kit:
     """The kit's prover and its linker, and what they made of this checkout."""
 
-    def __init__(self, kit, built):
-        self.folder, self.built = kit, built
+    def __init__(self, kit, built, target=TARGET):
+        self.folder, self.built, self.target = kit, built, target
         self.version = (kit / "KIT-ID").read_text() if (kit / "KIT-ID").is_file() else ""
 
     def library(self, name):
         return self.built / f"{name}.rlib"
+
+    def archive(self, crate):
+        return self.built / f"lib{crate.name}.a"
 
     def words(self, crate, jobs):
         root = "src/main.rt" if crate.is_program else "src/lib.rt"
@@ -120,13 +125,16 @@ class Kit:
         return [*words, "--jobs", str(jobs)]
 
     def build(self, crate, jobs, called):
-        """Proves a crate, and writes its library or, of the program, what `link` takes."""
-        to = ["--toolchain", f"{self.folder}/toolchain", "-o", self.built / "main.o"]
-        to = to if crate.is_program else ["--statements", "-o", self.library(crate.name)]
+        """Proves a crate, and writes its library, its archive or, of the program, what `link` takes."""
+        to = ["--statements", "-o", self.library(crate.name)]
+        if crate.is_program:
+            to = ["--toolchain", f"{self.folder}/toolchain", "-o", self.built / "main.o"]
+        if crate.is_archive:
+            to = ["--toolchain", f"{self.folder}/toolchain", "--crate-type", "staticlib", "--target", self.target, "-o", self.archive(crate)]
         return called([self.folder / "bin" / "rattle", "build", *self.words(crate, jobs), *to], crate.folder)
 
     def link(self, program, called):
-        words = ["--target", "x86_64-unknown-linux-gnu", "--toolchain", self.folder / "toolchain", "-o", program, self.built / "main.o"]
+        words = ["--target", TARGET, "--toolchain", self.folder / "toolchain", "-o", program, self.built / "main.o"]
         words += [self.folder / "c" / it for it in ("libos_c.a", "liblibc_c.a")]
         return called([self.folder / "bin" / "rattle-link", *words], program.parent)
 
@@ -134,9 +142,9 @@ class Kit:
 class Build:
     """What is left to prove, what is under way and what is ready, shared by the lanes."""
 
-    def __init__(self, root, kit, program, log):
+    def __init__(self, root, kit, program, log, goal=PROGRAM):
         self.kit, self.program, self.log = kit, program, log
-        self.crates, self.lanes = read_crates(root), count_lanes()
+        self.crates, self.lanes = read_crates(root, goal), count_lanes()
         self.waiting, self.work_of = work_waiting(self.crates), {name: it.work() for name, it in self.crates.items()}
         self.sums, self.ready, self.under_way, self.failed = {}, set(), {}, []
         for it in self.crates.values():
@@ -164,6 +172,10 @@ class Build:
                 os.killpg(it.pid, signal.SIGKILL)
         os._exit(128 + number)
 
+    def stop_at_signals(self):
+        for it in (signal.SIGTERM, signal.SIGINT, signal.SIGHUP):
+            signal.signal(it, self.stop)
+
     def is_kept(self, crate):
         kept = self.kit.built / f"{crate.name}.sum"
         return kept.is_file() and kept.read_text() == self.sums[crate.name]
@@ -177,7 +189,7 @@ class Build:
             status = self.kit.build(crate, 1, self.call)
         if crate.is_program and not status:
             status = self.kit.link(self.program, self.call)
-        if not status and not crate.is_program:
+        if not status and not crate.is_program and not crate.is_archive:
             (self.kit.built / f"{crate.name}.sum").write_text(self.sums[crate.name])
         return status
 
@@ -267,8 +279,7 @@ def build(root, program, noted, kit):
     say(f"the program is proved and built, which takes about a quarter of an hour on four processors; the log is {log}")
     made = Build(root, Kit(kit, built), program, log)
     note_sources(root, made.crates, noted)
-    for it in (signal.SIGTERM, signal.SIGINT, signal.SIGHUP):
-        signal.signal(it, made.stop)
+    made.stop_at_signals()
     if not made.run():
         say(f"not proved: {' '.join(made.failed)}; see {log}")
         return False
@@ -277,22 +288,37 @@ def build(root, program, noted, kit):
     return True
 
 
-def main(root, *words):
-    root = Path(root).resolve()
-    program = root / "crates" / PROGRAM / "out" / PROGRAM
-    noted = program.parent / "sources"
+def find_kit():
+    """Where the kit is, or None."""
     rt = shutil.which("rt")
     if not rt:
         say("the command rt is missing, which proves and builds the program; it is part of Rattle's kit")
-        return 1
-    program.parent.mkdir(parents=True, exist_ok=True)
-    with open(program.parent / "lock", "w") as lock:
+        return None
+    return Path(rt).resolve().parent.parent
+
+
+@contextlib.contextmanager
+def alone(folder):
+    """Waits until no other start proves and builds in this folder, and holds others off."""
+    folder.mkdir(parents=True, exist_ok=True)
+    with open(folder / "lock", "w") as lock:
         try:
             fcntl.flock(lock, fcntl.LOCK_EX | fcntl.LOCK_NB)
         except BlockingIOError:
             say("another start in this folder proves and builds the program; waiting for it")
             fcntl.flock(lock, fcntl.LOCK_EX)
-        if not is_built(root, program, noted) and not build(root, program, noted, Path(rt).resolve().parent.parent):
+        yield
+
+
+def main(root, *words):
+    root = Path(root).resolve()
+    program = root / "crates" / PROGRAM / "out" / PROGRAM
+    noted = program.parent / "sources"
+    kit = find_kit()
+    if not kit:
+        return 1
+    with alone(program.parent):
+        if not is_built(root, program, noted) and not build(root, program, noted, kit):
             return 1
     os.execv(program, [str(program), *words])
 

@@ -4,7 +4,7 @@
 #     tests/c.sh [PROGRAM]
 #
 # Its argument is the program, with which the library is compared. The archive is that of the crate poincare_c, or what
-# ARCHIVE names; where there is none, the kit's command rt builds it. What the script needs and this machine lacks is said,
+# ARCHIVE names; where there is none, the kit's command rt builds it. CROSS_ARCHIVE names one for 64-bit ARM. What the script needs and this machine lacks is said,
 # and counts as neither passed nor failed. The last line says how many checks passed and failed; the status is 1 where one
 # failed.
 root=$(cd "$(dirname "$0")/.." && pwd)
@@ -12,53 +12,12 @@ program=${1:-$root/crates/poincare/out/poincare}
 own=$root/crates/poincare_c/out/libpoincare_c.a
 ARCHIVE=${ARCHIVE:-$own}
 export ARCHIVE
-folder=$(mktemp -d) || exit 1
-trap 'rm -rf "$folder"' EXIT
-trap 'exit 1' HUP INT TERM
-passed=0
-failed=0
+. "$root/tests/tried.sh"
+version=$(cat "$root/VERSION")
+cross=aarch64-linux-gnu
+crossed=${CROSS_ARCHIVE:-$root/crates/poincare_c/out/libpoincare_c-$cross.a}
 strict="-std=c11 -Wall -Wextra -pedantic -Werror"
 limited="timeout 900"
-
-has() {
-    command -v "$1" >/dev/null
-}
-
-# lacks WHAT NEED: says that a part is not run
-lacks() {
-    echo "not run: $1: $2"
-}
-
-# ends: the counts so far, and the status
-ends() {
-    echo "$passed passed, $failed failed"
-    [ "$failed" = 0 ]
-    exit
-}
-
-# tried NAME COMMAND..: whether the command passes. Where its last line says how many passed and failed, these are added.
-tried() {
-    name=$1
-    shift
-    "$@" >"$folder/said" 2>&1
-    status=$?
-    counts=$(tail -n 1 "$folder/said" | sed -n 's/^\([0-9]*\) passed, \([0-9]*\) failed$/\1 \2/p')
-    right=1
-    wrong=0
-    if [ -n "$counts" ]; then
-        right=${counts% *}
-        wrong=${counts#* }
-        grep '^not run' "$folder/said"
-    fi
-    if [ "$status" != 0 ]; then
-        [ -n "$counts" ] || right=0
-        [ "$wrong" != 0 ] || wrong=1
-        echo "failed: $name, status $status"
-        tail -n 20 "$folder/said"
-    fi
-    passed=$((passed + right))
-    failed=$((failed + wrong))
-}
 
 # compiled COMPILER WORD..: compiles the C side without a warning
 compiled() {
@@ -96,15 +55,27 @@ tells_hundred() {
     $limited "$@" <"$root/tests/hundred-lines.txt" >"$folder/told" && diff "$folder/told" "$root/tests/hundred-answers.txt"
 }
 
-# What is installed is found by pkg-config, or by its path, and works.
+# is_installed PREFIX LIBDIR: what is installed there is found by pkg-config, or by its path, and works; it has the version, and
+# all of it is taken away again
 is_installed() {
-    make -s -C "$root/c" OUT="$out" PREFIX="$folder/installed" install || return 1
-    words="-I$folder/installed/include -L$folder/installed/lib -lpoincare"
+    places="PREFIX=$1 LIBDIR=$2"
+    make -s -C "$root/c" OUT="$out" $places install || return 1
+    words="-I$1/include -L$2 -lpoincare"
     if has pkg-config; then
-        words=$(PKG_CONFIG_PATH=$folder/installed/lib/pkgconfig pkg-config --cflags --libs poincare) || return 1
+        words=$(PKG_CONFIG_PATH=$2/pkgconfig pkg-config --cflags --libs poincare) || return 1
+        [ "$(PKG_CONFIG_PATH=$2/pkgconfig pkg-config --modversion poincare)" = "$version" ] || return 1
     fi
-    ${CC:-gcc} -std=c11 -o "$folder/installed/example" "$root/c/example.c" $words -pthread || return 1
-    tells_example env LD_LIBRARY_PATH="$folder/installed/lib" "$folder/installed/example"
+    ${CC:-gcc} -std=c11 -o "$folder/example.installed" "$root/c/example.c" $words -pthread || return 1
+    tells_example env LD_LIBRARY_PATH="$2" "$folder/example.installed" || return 1
+    objdump -p "$2/libpoincare.so.$version" | grep -q "SONAME *libpoincare.so.${version%%.*}$" || return 1
+    make -s -C "$root/c" OUT="$out" $places uninstall || return 1
+    [ -z "$(find "$1" ! -type d)" ]
+}
+
+# The example, built for 64-bit ARM, is run by qemu.
+runs_crossed() {
+    make -s -C "$root/c" CROSS="$cross" OUT="$folder/crossed" ARCHIVE="$crossed" || return 1
+    tells_example qemu-aarch64 -L "/usr/$cross" "$folder/crossed/example"
 }
 
 if ! has "${CC:-gcc}" || ! has make; then
@@ -137,7 +108,8 @@ for compiler in gcc clang; do
 done
 tried "make" make -s -C "$root/c" OUT="$out"
 tried "symbols" has_symbols
-tried "install" is_installed
+tried "install" is_installed "$folder/installed" "$folder/installed/lib"
+tried "install to LIBDIR" is_installed "$folder/elsewhere" "$folder/elsewhere/lib/of-a-processor"
 tried "the tests are built" built "" -O2
 for compiler in g++ clang++; do
     if has $compiler; then
@@ -188,10 +160,18 @@ if has python3; then
     else
         lacks "the comparison with the program" "$program is not built: ./poincare builds it"
     fi
+    tried "the module for Python" $limited "$root/tests/module.py" "$folder/program"
     tried "sessions through the library" "$root/tests/sessions.py" "$folder/program"
     tried "samples through the library" "$root/tests/samples.py" "$folder/program"
 else
     lacks "rows, the module and the samples" "python3"
+fi
+if ! has $cross-gcc || ! has qemu-aarch64; then
+    lacks "64-bit ARM" "$cross-gcc and qemu-aarch64"
+elif [ ! -f "$crossed" ]; then
+    lacks "64-bit ARM" "$crossed is not built: make -C c CROSS=$cross builds it"
+else
+    tried "64-bit ARM" runs_crossed
 fi
 tried "little stack" "$root/tests/stack.sh" "$folder/program"
 ends

@@ -106,6 +106,7 @@ def main():
         folder = pathlib.Path(name)
         # A copy is built: nothing is left in the checkout, and two runs at once are not in each other's way.
         shutil.copytree(TOP / "c", folder / "c", ignore=shutil.ignore_patterns("out"))
+        shutil.copy(TOP / "VERSION", folder)
         os.symlink(TOP / "python", folder / "python")
         os.environ.setdefault("ARCHIVE", str(TOP / "crates" / "poincare_c" / "out" / "libpoincare_c.a"))
         os.environ.setdefault("POINCARE_LIBRARY", str(folder / "c" / "out" / "libpoincare.so"))

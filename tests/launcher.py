@@ -25,11 +25,12 @@ for word; do
     case $last in
         --crate-name) name=$word ;;
         --extern) case $word in *=*/out/libraries/*) [ "$(cat "${word#*=}")" = whole ] || exit 2 ;; esac ;;
+        --target) target=" for $word" ;;
         -o) to=$word ;;
     esac
     last=$word
 done
-echo "build $name" >>"$CALLS"
+echo "build $name$target" >>"$CALLS"
 echo part >"$to"
 if [ -e src/wrong ]; then
     echo "$name is wrong"
@@ -283,6 +284,30 @@ def interrupted_start_is_carried_on(at):
     assert [it for it in at.called()[before:] if it.startswith("build ")] == ["build right", "build poincare"], at.called()
 
 
+def archive_takes_what_is_proved(at):
+    source = at.source("poincare_c")
+    source.parent.mkdir(parents=True)
+    source.write_text("//\n")
+    with (at.folder / "crates.txt").open("a") as crates:
+        crates.write("poincare_c staticlib: left beside\n")
+    at.start()
+    for system, target in {"": "x86_64-unknown-linux-gnu", "aarch64-linux-gnu": "aarch64-unknown-linux-gnu"}.items():
+        before = len(at.called())
+        words = [sys.executable, str(at.folder / "launcher" / "archive.py"), str(at.folder), *([system] if system else [])]
+        done = subprocess.run(words, env=at.words, capture_output=True, text=True, timeout=60)
+        made = source.parent.parent / "out" / f"libpoincare_c{system and '-' + system}.a"
+        assert done.returncode == 0 and made.read_text() == "whole\n", done
+        begun = [it for it in at.called()[before:] if it.startswith("build ")]
+        # What the program stands on is proved, and `beside` once for both.
+        assert begun == [*([] if system else ["build beside"]), f"build poincare_c for {target}"], begun
+
+
+def archive_for_another_system_is_refused(at):
+    words = [sys.executable, str(at.folder / "launcher" / "archive.py"), str(at.folder), "sparc"]
+    done = subprocess.run(words, env=at.words, capture_output=True, text=True, timeout=60)
+    assert done.returncode == 2 and "no archive is made for sparc" in done.stderr and not at.called(), done
+
+
 TESTS = [
     first_start_builds,
     second_start_only_runs,
@@ -299,6 +324,8 @@ TESTS = [
     other_folder_serves,
     two_starts_build_once,
     interrupted_start_is_carried_on,
+    archive_takes_what_is_proved,
+    archive_for_another_system_is_refused,
 ]
 
 

@@ -13,11 +13,9 @@ import importlib
 import importlib.util
 import os
 import pathlib
-import pty
 import re
 import resource
 import shutil
-import signal
 import sys
 import tempfile
 import threading
@@ -25,6 +23,7 @@ import time
 
 from asked import TOP, Lacking, every, run, written_by as written
 from program_rows import BYTES, REFUSED, USAGE, tables
+from terminal import Terminal
 
 PYTHON = TOP / "python"
 sys.path[:0] = [str(PYTHON), str(TOP / "bench")]
@@ -134,24 +133,14 @@ def raises(error, call, *words):
     return True
 
 
-def in_thread(call):
-    """Whether a call raises RuntimeError in another thread."""
-    found = []
-    thread = threading.Thread(target=lambda: found.append(raises(RuntimeError, call)))
-    thread.start()
-    thread.join()
-    return found == [True]
-
-
 def check_errors():
-    """Sizes of pools, sessions that are closed, other threads and pictures without room are refused by errors."""
+    """Sizes of pools, sessions that are closed and pictures without room are refused by errors."""
     sizes = [0, 63, 65, 524281, 524288, -8, 1 << 40]
     full = poincare.Session(200)
     full.line("a+b+c+d+e")
     session = poincare.Session(524280)
     held = [raises(ValueError, poincare.Session, size) and raises(ValueError, poincare.answers, "1", size) for size in sizes]
     held += [raises(poincare.PoolFull, full.picture), full.line("ans").text == "a+b+c+d+e"]
-    held += [in_thread(lambda: session.line("1")), in_thread(session.close), in_thread(session.picture)]
     held += [raises(ValueError, session.line, "1", -1), raises(ValueError, session.line, "1", 1 << 64)]
     held += [str(session.line("1")) == "1", not session.closed]
     session.close()
@@ -256,41 +245,6 @@ def check_missing():
         wrong = {**plain, "POINCARE_LIBRARY": str(TOP / "c" / "poincare.h")}
         status, out, err = written(command, "1\n", **{**how, "env": wrong})
         return unbuilt and (status, out) == (1, "") and "poincare.h" in err and "Traceback" not in err
-
-
-class Terminal:
-    """The prompt at a terminal: what is typed, and what is shown."""
-
-    def __init__(self, home, *words):
-        self.child, self.end = pty.fork()
-        if self.child == 0:
-            # A script that runs in the background may have it ignored, and a program at a terminal has not.
-            signal.signal(signal.SIGINT, signal.SIG_DFL)
-            os.chdir(PYTHON)
-            os.environ.update(HOME=home, TERM="dumb")
-            os.execv(sys.executable, [sys.executable, "-m", "poincare", *words])
-        self.shown = ""
-        self.before = ""
-
-    def wait_for(self, text, seconds=20):
-        """Reads until this is shown behind what was waited for before; whether it is."""
-        os.set_blocking(self.end, False)
-        until = time.monotonic() + seconds
-        while text not in self.shown and time.monotonic() < until:
-            with contextlib.suppress(BlockingIOError, OSError):
-                self.shown += os.read(self.end, 4096).decode(errors="replace")
-            time.sleep(0.01)
-        self.before, found, behind = self.shown.partition(text)
-        self.shown = behind if found else self.before
-        return found != ""
-
-    def type(self, text):
-        os.write(self.end, text.encode())
-
-    def status(self):
-        status = os.waitstatus_to_exitcode(os.waitpid(self.child, 0)[1])
-        os.close(self.end)
-        return status
 
 
 def check_prompt():

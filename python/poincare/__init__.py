@@ -12,20 +12,30 @@
 What a line may be says docs/LANGUAGE.md. The module stands on the library for C, which `make -C c` builds.
 """
 
+import contextlib
 import ctypes
 import enum
-import threading
-from collections.abc import Callable
+import mmap
+import operator
+import warnings
 from dataclasses import dataclass
 from types import TracebackType
-from typing import NamedTuple
+from typing import NamedTuple, NoReturn
 
 from . import _library
-from ._library import LibraryMissing, Slot, library
+from ._held import Held
+from ._home import Home
+from ._library import LibraryMissing, library
 
 __all__ = ["Answer", "Kind", "LibraryMissing", "Pool", "PoolFull", "Refusal", "Session", "answers"]
 
+__version__ = "1.0.0"
+
 DEFAULT_POOL = 32768
+
+# How much room `answers` has for what it writes: so much, or so many times its text.
+ANSWERS_ROOM = 1 << 26
+ANSWERS_TIMES = 64
 
 
 class Kind(enum.Enum):
@@ -92,7 +102,11 @@ class PoolFull(Exception):
 
 
 def _bytes_of(line: str | bytes) -> bytes:
-    return line.encode("utf-8", "surrogateescape") if isinstance(line, str) else bytes(line)
+    if isinstance(line, str):
+        return line.encode("utf-8", "surrogateescape")
+    if isinstance(line, bytes | bytearray | memoryview):
+        return bytes(line)
+    raise TypeError(f"a line is a str or bytes, and not {type(line).__name__}")
 
 
 def _without_end(line: bytes) -> bytes:
@@ -100,42 +114,48 @@ def _without_end(line: bytes) -> bytes:
     return line.removesuffix(b"\n").removesuffix(b"\r")
 
 
-def _check_pool(size: int) -> None:
-    if size not in range(64, 524_281, 8):
-        raise ValueError(f"a pool has a multiple of 8 bytes, from 64 to 524280, and not {size}")
+def _pool_of(size: int) -> int:
+    pool = operator.index(size)
+    if pool not in range(64, 524_281, 8):
+        raise ValueError(f"a pool has a multiple of 8 bytes, from 64 to 524280, and not {pool}")
+    return pool
+
+
+def _checks_of(count: int) -> int:
+    checks = operator.index(count)
+    if not 0 <= checks < 1 << 64:
+        raise ValueError(f"a count of checks is not negative and below 2^64, and not {checks}")
+    return checks
+
+
+def _pages(size: int) -> mmap.mmap:
+    """Memory for so many bytes. The system gives a page of it once something is written there."""
+    return mmap.mmap(-1, size, flags=mmap.MAP_PRIVATE | mmap.MAP_ANONYMOUS)
 
 
 class Session:
     """A session: a pool with the last answer and the stored names.
 
-    It stays on the thread that opened it, but for `stop` and `clear`, which any thread may call. It is a context manager,
-    and `close` gives its memory back.
+    Any thread may ask it. It answers one line at a time, on a thread of its own, and so do `asyncio.to_thread` and pools of
+    threads work. It is a context manager; `close` gives its memory back. A process that is forked has none of the sessions
+    that were opened before.
     """
 
     def __init__(self, pool: int = DEFAULT_POOL) -> None:
         """Opens a session whose pool has so many bytes, a multiple of 8 from 64 to 524,280.
 
-        Raises ValueError for another size, MemoryError where there is no memory, and LibraryMissing where the library
-        is not built.
+        Raises ValueError for another size, MemoryError where there is no memory, RuntimeError where there is no thread, and
+        LibraryMissing where the library is not built.
         """
-        _check_pool(pool)
-        calls = library()
-        self._calls = calls
-        self._thread = threading.get_ident()
-        self._is_open = False
-        # Between `stop` and `close`: a stopper is asked by one call at a time, also where a signal's handler stops the session.
-        self._lock = threading.RLock()
-        self._session = Slot(calls.poincare_session_size(), calls.poincare_session_align())
-        self._stopper = Slot(calls.poincare_stopper_size(), calls.poincare_stopper_align())
-        self._out = ctypes.create_string_buffer(1024)
-        calls.poincare_session_init(self._session.place)
-        calls.poincare_stopper_init(self._stopper.place)
-        if calls.poincare_open(self._session.place, pool) != _library.DONE:
-            raise MemoryError("there is no memory for a session")
-        if calls.poincare_stopper_open(self._stopper.place, self._session.place) != _library.DONE:
-            calls.poincare_close(self._session.place)
-            raise MemoryError("there is no memory for what stops a session")
-        self._is_open = True
+        size = _pool_of(pool)
+        held = Held()
+        home = Home(held.stop, held.clear)
+        try:
+            home.ask(held.open, size)
+        except BaseException:
+            home.post_last(held.close)
+            raise
+        self._held, self._home = held, home
 
     def line(self, text: str | bytes, checks: int | None = None) -> Answer:
         """Answers a line. A newline at its end is cut, and so is a carriage return before that.
@@ -143,22 +163,19 @@ class Session:
         With `checks` it is interrupted where it needs more than so many; there is one for each node that is reduced. A
         line that is refused changes nothing, so it may be asked again with more.
         """
-        place = self._place()
         line = _without_end(_bytes_of(text))
-        if checks is None:
-            code = self._calls.poincare_line(place, line, len(line))
-        elif not 0 <= checks < 1 << 64:
-            raise ValueError(f"a count of checks is not negative and below 2^64, and not {checks}")
-        else:
-            code = self._calls.poincare_line_within(place, line, len(line), checks)
-        told = self._written(self._calls.poincare_text)[1]
+        code: int
+        told: str
+        code, told = self._home.ask(self._held.line, line, None if checks is None else _checks_of(checks))
         if code > _library.REFUSED:
             return Answer(Kind.REFUSED, told, Refusal(code - _library.REFUSED))
         return Answer(Kind(code), told)
 
     def picture(self) -> str:
         """The last answer, drawn: rows, each ended by a newline. Raises PoolFull where it finds no room in the pool."""
-        code, rows = self._written(self._calls.poincare_draw)
+        code: int
+        rows: str
+        code, rows = self._home.ask(self._held.picture)
         if code == _library.FULL:
             raise PoolFull(rows.removesuffix("\n"))
         return rows
@@ -166,41 +183,35 @@ class Session:
     @property
     def pool(self) -> Pool:
         """How many bytes of the pool are in use, and how many are free."""
-        used, left = ctypes.c_uint32(), ctypes.c_uint32()
-        self._calls.poincare_pool(self._place(), ctypes.byref(used), ctypes.byref(left))
-        return Pool(used.value, left.value)
+        return Pool(*self._home.ask(self._held.pool))
 
     def stop(self) -> None:
         """Interrupts the line that runs at its next check, or else the next line that makes one.
 
-        Any thread may call it, and in a session that is closed it does nothing. The node that is being reduced is ended
-        first; the longest that is known takes 30 ms with the default pool, and 0.7 s with the greatest.
+        Any thread may call it, and a signal's handler; in a session that is closed it does nothing. The node that is being
+        reduced is ended first; the longest that is known takes 30 ms with the default pool, and 0.7 s with the greatest.
         """
-        with self._lock:
-            self._calls.poincare_stop(self._stopper.place)
+        self._held.stop()
 
     def clear(self) -> None:
-        """Takes back what `stop` asked for, where no line has met it. Any thread may call it."""
-        with self._lock:
-            self._calls.poincare_clear(self._stopper.place)
+        """Takes back what `stop` asked for, where no line has met it."""
+        self._held.clear()
 
     def close(self) -> None:
-        """Gives the memory of the session back. A session that is closed stays as it is."""
-        if not self._is_open:
-            return
-        place = self._place()
-        with self._lock:
-            self._is_open = False
-            self._calls.poincare_stopper_close(self._stopper.place)
-            self._calls.poincare_close(place)
+        """Gives the memory of the session back, after the lines that were asked before. A session that is closed stays as it
+        is."""
+        if not self.closed:
+            with contextlib.suppress(ValueError):
+                self._home.ask_last(self._held.close)
 
     @property
     def closed(self) -> bool:
         """Whether the session is closed."""
-        return not self._is_open
+        return self._home.is_ended
 
     def __enter__(self) -> "Session":
-        self._place()
+        if self.closed:
+            raise ValueError("the session is closed")
         return self
 
     def __exit__(
@@ -208,37 +219,37 @@ class Session:
     ) -> None:
         self.close()
 
+    def __reduce__(self) -> NoReturn:
+        raise TypeError("a session is neither copied nor pickled")
+
     def __del__(self) -> None:
-        # A session that is dropped on another thread keeps its memory, since it may be closed on its own alone.
-        if getattr(self, "_is_open", False) and threading.get_ident() == self._thread:
-            self.close()
-
-    def _place(self) -> int:
-        """The slot of the session, which has to be open and is asked on its own thread."""
-        if threading.get_ident() != self._thread:
-            raise RuntimeError("a session is asked on the thread that opened it; other threads may stop it")
-        if not self._is_open:
-            raise ValueError("the session is closed")
-        return self._session.place
-
-    def _written(self, call: Callable[..., int]) -> tuple[int, str]:
-        """What a call writes, with its code; where there is not room for all of it, the call is made again."""
-        place, count = self._place(), ctypes.c_size_t()
-        code = call(place, self._out, len(self._out), ctypes.byref(count))
-        if count.value > len(self._out):
-            self._out = ctypes.create_string_buffer(count.value)
-            code = call(place, self._out, len(self._out), ctypes.byref(count))
-        return code, self._out.raw[: count.value].decode()
+        # One that was not opened has no home.
+        if hasattr(self, "_home") and not self.closed:
+            warnings.warn(f"a session was dropped and not closed: {self!r}", ResourceWarning, source=self)
+            self._home.post_last(self._held.close)
 
 
 def answers(text: str | bytes, pool: int = DEFAULT_POOL) -> str:
-    """What the program writes for a whole input, in a session of its own: the text of each line, and a newline."""
-    _check_pool(pool)
-    lines, count = _bytes_of(text), ctypes.c_size_t(4096)
-    code = _library.NO_ROOM
-    while code == _library.NO_ROOM:
-        out = ctypes.create_string_buffer(max(1, count.value))
-        code = library().poincare_answers(pool, lines, len(lines), out, len(out), ctypes.byref(count))
+    """What the program writes for a whole input, in a session of its own: the text of each line, and a newline.
+
+    The lines are answered once. Only where the answers have more than 64 MiB, and more than 64 times the bytes of the
+    text, or where the system has no room for so many, are they answered a second time.
+    """
+    size, lines, count = _pool_of(pool), _bytes_of(text), ctypes.c_size_t(4096)
+    try:
+        out = _pages(max(ANSWERS_ROOM, ANSWERS_TIMES * len(lines)))
+    except OSError:
+        out = _pages(count.value)
+    code = _answers(size, lines, out, count)
+    if code == _library.NO_ROOM:
+        out = _pages(count.value)
+        code = _answers(size, lines, out, count)
     if code == _library.NO_MEMORY:
         raise MemoryError("there is no memory for a session")
-    return out.raw[: count.value].decode()
+    return out[: count.value].decode()
+
+
+def _answers(size: int, lines: bytes, out: mmap.mmap, count: ctypes.c_size_t) -> int:
+    place = ctypes.addressof(ctypes.c_char.from_buffer(out))
+    code: int = library().poincare_answers(size, lines, len(lines), place, len(out), ctypes.byref(count))
+    return code

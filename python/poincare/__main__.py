@@ -3,30 +3,50 @@
     python -m poincare [--pool N] [--draw]
 
 Lines are edited and kept in a history, in ~/.poincare_history, where Python has `readline`. Ctrl-C interrupts the line
-that runs, and Ctrl-D ends. Where the input is no terminal there is no prompt, the answers are those of the program, and
-Ctrl-C ends it.
+that runs, and Ctrl-D ends. The words `help` and `quit` are for the prompt: names of these letters stand in parentheses.
+Where the input is no terminal there is no prompt, the answers are those of the program, and Ctrl-C ends it.
 """
 
 import argparse
+import contextlib
+import io
+import locale
 import os
 import signal
 import sys
-from concurrent.futures import ThreadPoolExecutor
+from collections.abc import Iterator
 
 from . import DEFAULT_POOL, Kind, LibraryMissing, PoolFull, Session
+from ._guide import help_text, note_on
 
 PROMPT = "> "
 HISTORY = os.path.expanduser("~/.poincare_history")
 MOST_LINES = 1000
+KEYS = "Arrow keys bring lines back, Ctrl-C interrupts, quit or Ctrl-D ends.\n"
 
 
-def read_history() -> None:
-    """Begins with the lines of earlier sessions, and has those of this one kept at the end."""
+def speak_utf8() -> None:
+    """Has `readline` read UTF-8, whatever the locale is: it asks the environment for it at each line."""
+    try:
+        locale.setlocale(locale.LC_CTYPE, "")
+        encoding = locale.nl_langinfo(locale.CODESET)
+    except locale.Error:
+        encoding = ""
+    if encoding != "UTF-8":
+        os.environ["LC_ALL"] = "C.UTF-8"
+
+
+def edit_lines() -> None:
+    """Has lines edited, beginning with those of earlier sessions, and has them kept at the end."""
+    speak_utf8()
     try:
         import atexit
         import readline
     except ImportError:
         return
+    # Where there is no locale with UTF-8 at all, its bytes are still read and shown.
+    for setting in ("convert-meta off", "input-meta on", "output-meta on"):
+        readline.parse_and_bind(f"set {setting}")
     try:
         readline.read_history_file(HISTORY)
     except FileNotFoundError:
@@ -54,7 +74,7 @@ def picture(session: Session) -> str:
         return f"{full}\n"
 
 
-def told(session: Session, line: str, draws: bool) -> str:
+def told(session: Session, line: str, draws: bool, hints: bool = False) -> str:
     """What is printed for a line."""
     answer = session.line(line)
     if answer.kind is Kind.BLANK:
@@ -62,34 +82,45 @@ def told(session: Session, line: str, draws: bool) -> str:
     if answer.kind is Kind.DRAW:
         return picture(session)
     drawn = draws and answer.kind in (Kind.SHOWN, Kind.STORED)
-    return f"{answer.text}\n{picture(session) if drawn else ''}"
+    return f"{answer.text}\n{note_on(line, answer) if hints else ''}{picture(session) if drawn else ''}"
 
 
-def converse(worker: ThreadPoolExecutor, session: Session, prompt: str, draws: bool) -> None:
-    """Answers lines until they end. The session runs on a thread of its own, so that this one hears Ctrl-C."""
+@contextlib.contextmanager
+def interrupted_by_control_c(session: Session) -> Iterator[None]:
+    """Has Ctrl-C interrupt the line that runs, and no line after it."""
+    before = signal.signal(signal.SIGINT, lambda number, frame: session.stop())
+    try:
+        yield
+    finally:
+        signal.signal(signal.SIGINT, before)
+        session.clear()
+
+
+def converse(session: Session, draws: bool) -> None:
+    """Answers the lines that are typed, until they end."""
     while True:
         try:
-            line = input(prompt)
+            line = input(PROMPT)
+            if line.strip() == "quit":
+                return
+            with interrupted_by_control_c(session):
+                text = help_text(session) + KEYS if line.strip() == "help" else told(session, line, draws, hints=True)
+            sys.stdout.write(text)
+            sys.stdout.flush()
         except EOFError:
-            if prompt:
-                print()
+            print()
             return
         except KeyboardInterrupt:
             print()
-            continue
-        running = worker.submit(told, session, line, draws)
-        text = None
-        while text is None:
-            try:
-                text = running.result()
-            except KeyboardInterrupt:
-                session.stop()
-        session.clear()
-        try:
-            sys.stdout.write(text)
+
+
+def answer_input(session: Session, draws: bool) -> None:
+    """Answers the lines of an input that is no terminal."""
+    signal.signal(signal.SIGINT, signal.SIG_DFL)
+    with contextlib.suppress(EOFError):
+        while True:
+            sys.stdout.write(told(session, input(), draws))
             sys.stdout.flush()
-        except KeyboardInterrupt:
-            print()
 
 
 def main() -> int:
@@ -97,24 +128,19 @@ def main() -> int:
     words.add_argument("--pool", type=int, default=DEFAULT_POOL, metavar="N", help="bytes of the pool")
     words.add_argument("--draw", action="store_true", help="draws each answer below its text")
     given = words.parse_args()
-    prompt = ""
-    if sys.stdin.isatty():
-        prompt = PROMPT
-        read_history()
-    else:
-        signal.signal(signal.SIGINT, signal.SIG_DFL)
+    prompts = sys.stdin.isatty()
+    if prompts:
+        edit_lines()
     for stream in (sys.stdin, sys.stdout):
+        assert isinstance(stream, io.TextIOWrapper)
         stream.reconfigure(encoding="utf-8", errors="surrogateescape")
-    with ThreadPoolExecutor(1) as worker:
-        try:
-            session = worker.submit(Session, given.pool).result()
-        except (LibraryMissing, ValueError, MemoryError) as error:
-            print(error, file=sys.stderr)
-            return 2 if isinstance(error, ValueError) else 1
-        try:
-            converse(worker, session, prompt, given.draw)
-        finally:
-            worker.submit(session.close).result()
+    try:
+        session = Session(given.pool)
+    except (LibraryMissing, ValueError, MemoryError) as error:
+        print(error, file=sys.stderr)
+        return 2 if isinstance(error, ValueError) else 1
+    with session:
+        (converse if prompts else answer_input)(session, given.draw)
     return 0
 
 

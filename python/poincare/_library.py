@@ -13,7 +13,9 @@ NO_ROOM = 200
 BAD_POOL = 201
 NO_MEMORY = 202
 
-BUILT = pathlib.Path(__file__).resolve().parents[2] / "c" / "out" / "libpoincare.so"
+HERE = pathlib.Path(__file__).resolve().parent
+PACKED = HERE / "libpoincare.so"
+BUILT = HERE.parents[1] / "c" / "out" / "libpoincare.so"
 
 CODE, SIZE = ctypes.c_uint32, ctypes.c_size_t
 PLACE, BYTES = ctypes.c_void_p, ctypes.c_char_p
@@ -37,7 +39,7 @@ CALLS = {
     "poincare_stop": ([PLACE], CODE),
     "poincare_clear": ([PLACE], CODE),
     "poincare_stopper_close": ([PLACE], CODE),
-    "poincare_answers": ([ctypes.c_uint32, BYTES, SIZE, BYTES, SIZE, ctypes.POINTER(SIZE)], CODE),
+    "poincare_answers": ([ctypes.c_uint32, BYTES, SIZE, PLACE, SIZE, ctypes.POINTER(SIZE)], CODE),
 }
 
 
@@ -46,9 +48,10 @@ class LibraryMissing(ImportError):
 
 
 def place_of_library() -> str:
-    """Where the shared object is: what POINCARE_LIBRARY names, or what `make -C c` built, or what is installed."""
-    named = os.environ.get("POINCARE_LIBRARY")
-    place = named or (str(BUILT) if BUILT.exists() else find_library("poincare"))
+    """Where the shared object is: what POINCARE_LIBRARY names, or what the package has inside, or what `make -C c` built, or
+    what is installed."""
+    built = next((str(it) for it in (PACKED, BUILT) if it.exists()), None)
+    place = os.environ.get("POINCARE_LIBRARY") or built or find_library("poincare")
     if not place:
         raise LibraryMissing(
             f"libpoincare.so is not built: there is no {BUILT}, and none is installed. "

@@ -129,15 +129,18 @@ static struct bytes generated(uint64_t number) {
     return bytes;
 }
 
+static uint32_t tells(poincare_session *session, bool picture, char *out, size_t room, size_t *count) {
+    return picture ? poincare_draw(session, out, room, count) : poincare_text(session, out, room, count);
+}
+
 /* Adds what poincare_text or poincare_draw tells to the output; with too little room it is asked again with enough. */
 static void add_told(poincare_session *session, bool picture, struct bytes *out) {
-    uint32_t (*tells)(poincare_session *, char *, size_t, size_t *) = picture ? poincare_draw : poincare_text;
     size_t count = 0, left = out->room - out->length;
 
-    uint32_t code = tells(session, out->at + out->length, left, &count);
+    uint32_t code = tells(session, picture, out->at + out->length, left, &count);
     if (code == POINCARE_NO_ROOM || (code == POINCARE_FULL && count > left)) {
         make_room(out, 2 * out->length + count);
-        code = tells(session, out->at + out->length, out->room - out->length, &count);
+        code = tells(session, picture, out->at + out->length, out->room - out->length, &count);
     }
     if (code != POINCARE_DONE && !(picture && code == POINCARE_FULL))
         fail("the code of a text or a picture");

@@ -5,6 +5,7 @@
 #include "check.h"
 
 #include <stdint.h>
+#include <string.h>
 
 enum { GUARD = 0x5A };
 
@@ -38,6 +39,40 @@ static void check_sizes_of_slots(void) {
     CHECK(poincare_stopper_size() <= sizeof stopper);
     CHECK(_Alignof(poincare_session) % poincare_session_align() == 0);
     CHECK(_Alignof(poincare_stopper) % poincare_stopper_align() == 0);
+}
+
+/* What POINCARE_NEW makes is what the calls write, byte by byte, and needs no call before it is opened. */
+static void check_new(void) {
+    static poincare_session fresh = POINCARE_NEW;
+    static poincare_stopper still = POINCARE_NEW;
+    static const char line[] = "1/3+1/6";
+
+    memset(&session, GUARD, sizeof session);
+    memset(&stopper, GUARD, sizeof stopper);
+    poincare_session_init(&session);
+    poincare_stopper_init(&stopper);
+    CHECK(memcmp(&session, &fresh, poincare_session_size()) == 0);
+    CHECK(memcmp(&stopper, &still, poincare_stopper_size()) == 0);
+    CHECK(poincare_close(&fresh) == POINCARE_NOT_OPENED && poincare_stop(&still) == POINCARE_NOT_OPENED);
+    CHECK(poincare_open(&fresh, POINCARE_DEFAULT_POOL) == POINCARE_DONE);
+    CHECK(poincare_stopper_open(&still, &fresh) == POINCARE_DONE && poincare_stopper_close(&still) == POINCARE_DONE);
+    CHECK(poincare_line(&fresh, line, sizeof line - 1) == POINCARE_SHOWN);
+    CHECK(poincare_close(&fresh) == POINCARE_DONE);
+}
+
+/* The sizes that the header names are the last ones that are taken. */
+static void check_limits(void) {
+    char line[POINCARE_LONGEST_LINE + 1];
+
+    memset(line, '1', sizeof line);
+    poincare_session_init(&session);
+    CHECK(poincare_open(&session, POINCARE_LEAST_POOL - 8) == POINCARE_BAD_POOL);
+    CHECK(poincare_open(&session, POINCARE_GREATEST_POOL + 8) == POINCARE_BAD_POOL);
+    CHECK(poincare_open(&session, POINCARE_GREATEST_POOL) == POINCARE_DONE);
+    CHECK(poincare_line(&session, line, POINCARE_LONGEST_LINE) == POINCARE_NUMBER);
+    CHECK(poincare_line(&session, line, POINCARE_LONGEST_LINE + 1) == POINCARE_LONG);
+    CHECK(poincare_close(&session) == POINCARE_DONE);
+    CHECK(poincare_session_size() <= sizeof session);
 }
 
 /* A slot from its beginning to its second end. */
@@ -189,6 +224,10 @@ static void check_lines(void) {
     CHECK(poincare_close(&session) == POINCARE_DONE);
 }
 
+static uint32_t text_of(poincare_session *from, char *out, size_t room, size_t *count) {
+    return poincare_text(from, out, room, count);
+}
+
 /* Whether a call that writes `wanted` does so with each room up to one byte more than that. */
 static void check_room(uint32_t call(poincare_session *, char *, size_t, size_t *), const char *line, uint32_t whole,
                        const char *wanted) {
@@ -220,10 +259,10 @@ static void check_rooms(void) {
     poincare_session_init(&session);
     CHECK(poincare_open(&session, 200) == POINCARE_DONE);
     CHECK(poincare_text(&session, text, 0, &count) == POINCARE_DONE && count == 0);
-    check_room(poincare_text, "√(8)+√(2)", POINCARE_DONE, "3×√(2)");
-    check_room(poincare_text, "2+", POINCARE_DONE, "! syntax");
-    check_room(poincare_text, "", POINCARE_DONE, "");
-    check_room(poincare_text, ":draw", POINCARE_DONE, "");
+    check_room(text_of, "√(8)+√(2)", POINCARE_DONE, "3×√(2)");
+    check_room(text_of, "2+", POINCARE_DONE, "! syntax");
+    check_room(text_of, "", POINCARE_DONE, "");
+    check_room(text_of, ":draw", POINCARE_DONE, "");
     check_room(poincare_draw, "1/2", POINCARE_DONE, "1\n-\n2\n");
     CHECK(poincare_text(&session, text, sizeof text, &count) == POINCARE_DONE && count == 0);
     check_room(poincare_draw, "a+b+c+d+e", POINCARE_FULL, "! full needed 8 free 0\n");
@@ -307,6 +346,8 @@ static void check_stops(void) {
 
 int main(void) {
     check_sizes_of_slots();
+    check_new();
+    check_limits();
     check_slots();
     check_pools();
     check_codes();
