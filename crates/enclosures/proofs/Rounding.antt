@@ -30,13 +30,13 @@ signed_product q p a e = rw e (record { parts_are = omega (arith, ints) })
 opposite_product : (q : ℤ) (m a : ℕ) → q ≡ negsuc m → IsDifference (q *ℤ pos a) 0 (suc m * a)
 opposite_product q m a e = rw e (record { parts_are = omega (arith, ints, (down_times m (pos a)).parts_are) })
 
-opposite : (x : ℕ) → IsDifference (neg_ℤ (pos x)) 0 x
+pub opposite : (x : ℕ) → IsDifference (neg_ℤ (pos x)) 0 x
 opposite x = record { parts_are = omega (arith, ints) }
 
-less : (z : ℤ) (p n e : ℕ) → IsDifference z p n → IsDifference (z -ℤ pos e) p (n + e)
+pub less : (z : ℤ) (p n e : ℕ) → IsDifference z p n → IsDifference (z -ℤ pos e) p (n + e)
 less z p n e d = record { parts_are = omega (arith, ints, d.parts_are) }
 
-more : (z : ℤ) (p n e : ℕ) → IsDifference z p n → IsDifference (z +ℤ pos e) (p + e) n
+pub more : (z : ℤ) (p n e : ℕ) → IsDifference z p n → IsDifference (z +ℤ pos e) (p + e) n
 more z p n e d = record { parts_are = omega (arith, ints, d.parts_are) }
 
 -- one term above 0, by the bounds of its scaled root

@@ -1,10 +1,10 @@
 //! Laws of enclosures, each the contract of a function without a body.
-ghost use Rattle.std.specs.Prelude.{◌≡◌, ◌≤◌, ◌<◌, ◌+◌, ◌*◌, ℕ, ℤ, pos, negsuc, suc, neg_ℤ, ◌+ℤ◌, ◌-ℤ◌, List, [], ◌∷◌};
-ghost use Rattle.calc_terms.specs.Fractions.{Fraction, lowest, times, quotient};
+ghost use Rattle.std.specs.Prelude.{◌≡◌, ◌≤◌, ◌<◌, ◌+◌, ◌*◌, ℕ, ℤ, pos, negsuc, suc, neg_ℤ, ◌+ℤ◌, ◌-ℤ◌, List, [], ◌∷◌, ◌⊎◌};
+ghost use Rattle.calc_terms.specs.Fractions.{Fraction, lowest, times, quotient, zero_fraction};
 ghost use Rattle.enclosures.specs.Order.{AtMost};
 ghost use Rattle.calc_algebra.specs.Surds.{Term};
 ghost use Rattle.enclosures.specs.Enclosures.{Bounds, AreBounds, AreEnclosed, lower, upper, least, most};
-ghost use Rattle.enclosures.specs.Rounding.{Covers, IsRounded};
+ghost use Rattle.enclosures.specs.Rounding.{Covers, IsAt, IsClose, IsNear, IsNegative, IsPositive, IsRounded, doubt, middle};
 
 /// Two enclosures of one sum meet: what one says that it is at least is at most what the other says that it is at most.
 pub fn enclosures_meet()
@@ -47,4 +47,29 @@ pub fn totals_round()
         → 2 * total * scale + unit ≡ 2 * n * unit + 2 * f → slack * scale ≤ f → f + slack * scale < unit → IsRounded v scale (pos n) }
     ensures below { (v : List Term) (bs : List Bounds) (total slack unit scale n f : ℕ) → 0 < unit → 0 < scale → Covers v bs (neg_ℤ (pos total)) slack unit
         → 2 * total * scale + unit ≡ 2 * n * unit + 2 * f → slack * scale ≤ f → f + slack * scale < unit → IsRounded v scale (neg_ℤ (pos n)) }
+{}
+
+/// A total leaves a value open that is within its slack, where twice the slack is within the doubt.
+pub fn totals_are_near()
+    ensures near { (v : List Term) (bs : List Bounds) (total : ℤ) (slack unit : ℕ) (x : Fraction) → 0 < unit → Covers v bs total slack unit → AtMost (quotient (2 * slack) unit) (doubt v)
+        → AtMost (lowest (total -ℤ pos slack) unit) x → AtMost x (lowest (total +ℤ pos slack) unit) → IsNear v x }
+    // The middle of two decimals is within the slack of a total that is at least 0, and of one that is at most 0.
+    ensures above { (v : List Term) (bs : List Bounds) (total slack unit scale n : ℕ) → 0 < unit → 0 < scale → Covers v bs (pos total) slack unit → AtMost (quotient (2 * slack) unit) (doubt v)
+        → 2 * total * scale ≤ (2 * n + 1) * unit + 2 * slack * scale → (2 * n + 1) * unit ≤ 2 * total * scale + 2 * slack * scale → IsClose v scale }
+    ensures below { (v : List Term) (bs : List Bounds) (total slack unit scale n : ℕ) → 0 < unit → 0 < scale → Covers v bs (neg_ℤ (pos total)) slack unit → AtMost (quotient (2 * slack) unit) (doubt v)
+        → 2 * total * scale ≤ (2 * n + 1) * unit + 2 * slack * scale → (2 * n + 1) * unit ≤ 2 * total * scale + 2 * slack * scale → IsClose v scale }
+{}
+
+/// What is above 0 comes to a, what is below to b: the sign of the difference where it is more than the slack.
+pub fn totals_tell_signs()
+    ensures positive { (v : List Term) (bs : List Bounds) (a b slack unit : ℕ) → 0 < unit → Covers v bs (pos a -ℤ pos b) slack unit → b + slack < a → IsPositive v }
+    ensures negative { (v : List Term) (bs : List Bounds) (a b slack unit : ℕ) → 0 < unit → Covers v bs (pos a -ℤ pos b) slack unit → a + slack < b → IsNegative v }
+    ensures left_open { (v : List Term) (bs : List Bounds) (a b slack unit : ℕ) → 0 < unit → Covers v bs (pos a -ℤ pos b) slack unit → AtMost (quotient (2 * slack) unit) (doubt v)
+        → a ≤ b + slack → b ≤ a + slack → IsNear v zero_fraction }
+{}
+
+/// A value has one rounded value, or it is the middle of two neighbours.
+pub fn one_decimal()
+    ensures { (v : List Term) (scale : ℕ) (m n : ℤ) → 0 < scale → IsRounded v scale m → IsRounded v scale n
+        → (m ≡ n) ⊎ ((n ≡ m +ℤ pos 1) × IsAt v (middle m scale)) ⊎ ((m ≡ n +ℤ pos 1) × IsAt v (middle n scale)) }
 {}
