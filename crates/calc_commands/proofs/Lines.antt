@@ -3,9 +3,10 @@ use Rattle.calc_commands.proofs.Shared.{by_test, ◌≡◌, ◌∙◌, ℕ, ◌<
 use Rattle.calc_commands.proofs.Shared.{append-nil, is_in, bytes_eq-Decides, ltb, eqb-true, ne_eqb, bytes_eq, ◌||◌, not, codes, IfSome, IsNone, option_map, option_and_then, is_name, is_name_byte}
 use Rattle.calc_commands.proofs.Shared.{spelled, is_blank, leading_run, Asked, pool, dump, draw, layout, forget, after, diff, solve, expand, asked_of, begins_dark, Has, IsTextBehind, HasText}
 use Rattle.calc_commands.proofs.Shared.{IsCommandLine, asks_pool, asks_dump, asks_draw, asks_layout, asks_forget, asks_after, asks_diff, asks_solve, asks_expand, value_of, are_blanks, behind_colon}
+use Rattle.calc_commands.proofs.Shared.{asks_decimals, asks_sign, decimals, sign, most_places, places_and_text, asked_to_round, ◌≤◌, le-leb}
 use Rattle.calc_commands.proofs.Shared.{argument_of, word_and_rest, text_behind, name_and_text, asked_alone, asked_for, asked_to_derive, asked_in, Command, run_whole, run_all, run_stops, stops}
 use Rattle.calc_commands.proofs.{Shared.{run_of}, Values.{not_digits}, Runs.{all-append, all_other, first_of_all}}
-use Rattle.std.proofs.Common.{eqb}
+use Rattle.std.proofs.{Common.{eqb, leb}, lemmas.Bool.{leb-true}}
 use Rattle.calc_commands.specs.declared.parts.Class.TheVariants as class
 
 -- ---- bytes
@@ -93,6 +94,11 @@ stops_at_blank p f (b ∷ gap) text a l = f b (first_of_all is_blank b gap a)
 
 name_found : (name gap text : List ℕ) → is_name name ≡ true → IsTextBehind gap text → name_and_text (name ++ (gap ++ text)) ≡ Some (name, text)
 name_found name gap text n h = grind (arith, run_of, dark_name, stops_at_blank, no_dark, text_found)
+
+places_found : (digits gap text : List ℕ) (places : ℕ) → value_of digits ≡ Some places → places ≤ most_places → IsTextBehind gap text → places_and_text (digits ++ (gap ++ text)) ≡ Some (places, text)
+places_found digits gap text places v l h =
+    let run : leading_run (is_in class.Dark) (digits ++ (gap ++ text)) ≡ (digits, gap ++ text) = run_of (is_in class.Dark) digits (gap ++ text) (dark_digits digits places v) (stops_at_blank (is_in class.Dark) no_dark gap text h.blank h.some) in
+    rw (run, v, le-leb places most_places l, text_found gap text h) refl
 
 -- ---- and what is found is there
 
@@ -182,6 +188,41 @@ name_there bytes name text h =
           behind = text_there rest text (e ∙ ap Some same.1);
         }
 
+placed : (m n : ℕ) (a b : List ℕ) → ◌≡◌ {A = Option (ℕ × List ℕ)} (Some (m, a)) (Some (n, b)) → (m ≡ n) × (a ≡ b)
+placed m n a b e = let same : ◌≡◌ {A = ℕ × List ℕ} (m, a) (n, b) = cc in (ap (λ (p : ℕ × List ℕ). p.0) same, ap (λ (p : ℕ × List ℕ). p.1) same)
+
+record ArePlacesAndText (bytes : List ℕ) (places : ℕ) (text : List ℕ) : Type 0 where
+  digits : List ℕ
+  rest : List ℕ
+  whole : bytes ≡ digits ++ rest
+  counted : value_of digits ≡ Some places
+  few : places ≤ most_places
+  behind : IsText rest text
+
+places_there : (bytes : List ℕ) (places : ℕ) (text : List ℕ) → places_and_text bytes ≡ Some (places, text) → ArePlacesAndText bytes places text
+places_there bytes places text h = let run = leading_run (is_in class.Dark) bytes in counted run.0 run.1 (run_whole (is_in class.Dark) bytes) (value_of run.0) refl h
+  where
+    behind_them : (digits rest : List ℕ) → digits ++ rest ≡ bytes → (n : ℕ) → value_of digits ≡ Some n → n ≤ most_places → (found : Option (List ℕ)) → text_behind rest ≡ found
+        → option_map {U = ℕ × List ℕ} (λ behind. (n, behind)) found ≡ Some (places, text) → ArePlacesAndText bytes places text
+    behind_them digits rest w n v l None e q = absurd cc
+    behind_them digits rest w n v l (Some behind) e q =
+        let same = placed n places behind text q in
+        record {
+          digits = digits;
+          rest = rest;
+          whole = sym w;
+          counted = v ∙ ap Some same.0;
+          few = subst (λ m. m ≤ most_places) same.0 l;
+          behind = text_there rest text (e ∙ ap Some same.1);
+        }
+
+    counted : (digits rest : List ℕ) → digits ++ rest ≡ bytes → (n : Option ℕ) → value_of digits ≡ n
+        → option_and_then {U = ℕ × List ℕ} (λ m. cond (leb m most_places) (option_map (λ behind. (m, behind)) (text_behind rest)) None) n ≡ Some (places, text) → ArePlacesAndText bytes places text
+    counted digits rest w None v q = absurd cc
+    counted digits rest w (Some n) v q =
+        by_test (λ t. leb n most_places ≡ t → cond t (option_map {U = ℕ × List ℕ} (λ behind. (n, behind)) (text_behind rest)) None ≡ Some (places, text) → ArePlacesAndText bytes places text) (leb n most_places)
+        (λ z l k. behind_them digits rest w n v (leb-true n most_places l) (text_behind rest) refl k) (λ z l k. absurd cc) refl q
+
 -- ---- what is asked for
 
 asks : {line : List ℕ} {a b : Asked} → IsCommandLine line a → Some a ≡ Some b → IsCommandLine line b
@@ -238,21 +279,44 @@ diff_sound line word rest q w h k = by (text_behind rest) refl k
     by None e k = absurd cc
     by (Some bytes) e k = named bytes e (name_and_text bytes) refl k
 
+sign_sound : (line word rest : List ℕ) (q : Asked) → bytes_eq word (codes "sign") ≡ true → HasWord line word rest → (found : Option (List ℕ)) → text_behind rest ≡ found → option_map sign found ≡ Some q → IsCommandLine line q
+sign_sound line word rest q w h None e k = absurd cc
+sign_sound line word rest q w h (Some text) e k = asks (asks_sign (text_sound (codes "sign") w h (text_there rest text e))) k
+
+decimals_there : (line word rest : List ℕ) (places : ℕ) (text : List ℕ) → bytes_eq word (codes "decimal") ≡ true → HasWord line word rest → (bytes : List ℕ) → IsText rest bytes → ArePlacesAndText bytes places text
+    → IsCommandLine line (decimals places text)
+decimals_there line word rest places text w h bytes x y =
+    asks_decimals y.digits (subst (HasText line (codes "decimal")) (y.whole ∙ ap (λ b. y.digits ++ b) y.behind.whole) (text_sound (codes "decimal") w h x)) y.counted y.few y.behind.behind
+
+decimals_sound : (line word rest : List ℕ) (q : Asked) → bytes_eq word (codes "decimal") ≡ true → HasWord line word rest → asked_to_round rest ≡ Some q → IsCommandLine line q
+decimals_sound line word rest q w h k = by (text_behind rest) refl k
+  where
+    counted : (bytes : List ℕ) → text_behind rest ≡ Some bytes → (found : Option (ℕ × List ℕ)) → places_and_text bytes ≡ found → option_map (λ p. decimals p.0 p.1) found ≡ Some q → IsCommandLine line q
+    counted bytes e None f k = absurd cc
+    counted bytes e (Some (places, text)) f k = asks (decimals_there line word rest places text w h bytes (text_there rest bytes e) (places_there bytes places text f)) k
+
+    by : (found : Option (List ℕ)) → text_behind rest ≡ found → option_map (λ p. decimals p.0 p.1) (option_and_then places_and_text found) ≡ Some q → IsCommandLine line q
+    by None e k = absurd cc
+    by (Some bytes) e k = counted bytes e (places_and_text bytes) refl k
+
 plain_sound : (line word rest : List ℕ) (q : Asked) → HasWord line word rest → (found : Option (List ℕ)) → argument_of rest ≡ found → option_and_then (asked_for word) found ≡ Some q → IsCommandLine line q
 plain_sound line word rest q h None e k = absurd cc
 plain_sound line word rest q h (Some argument) e k = argument_sound line word argument q (there line word rest argument h e) k
 
+-- a word that is tested for, and what follows where it is another
+tested : (line word : List ℕ) (q : Asked) (wanted : List ℕ) {this other : Option Asked} → (bytes_eq word wanted ≡ true → this ≡ Some q → IsCommandLine line q) → (other ≡ Some q → IsCommandLine line q)
+    → cond (bytes_eq word wanted) this other ≡ Some q → IsCommandLine line q
+tested line word q wanted {this = this} {other = other} f g e =
+    by_test (λ t. bytes_eq word wanted ≡ t → cond t this other ≡ Some q → IsCommandLine line q) (bytes_eq word wanted) (λ z p k. f p k) (λ z p k. g k) refl e
+
 sound : (line word rest : List ℕ) (q : Asked) → HasWord line word rest → asked_in word rest ≡ Some q → IsCommandLine line q
-sound line word rest q h e =
-    by_test (λ t. bytes_eq word (codes "diff") ≡ t → cond t (asked_to_derive rest) (cond (bytes_eq word (codes "solve")) (option_map solve (text_behind rest)) expand_or_plain) ≡ Some q → IsCommandLine line q)
-    (bytes_eq word (codes "diff")) (λ z p k. diff_sound line word rest q p h k)
-    (λ z p k. by_test (λ t. bytes_eq word (codes "solve") ≡ t → cond t (option_map solve (text_behind rest)) expand_or_plain ≡ Some q → IsCommandLine line q)
-    (bytes_eq word (codes "solve")) (λ z p k. solve_sound line word rest q p h (text_behind rest) refl k)
-    (λ z p k. by_test (λ t. bytes_eq word (codes "expand") ≡ t → cond t (option_map expand (text_behind rest)) (option_and_then (asked_for word) (argument_of rest)) ≡ Some q → IsCommandLine line q)
-    (bytes_eq word (codes "expand")) (λ z p k. expand_sound line word rest q p h (text_behind rest) refl k) (λ z p k. plain_sound line word rest q h (argument_of rest) refl k) refl k) refl k) refl e
-  where
-    expand_or_plain : Option Asked
-    expand_or_plain = cond (bytes_eq word (codes "expand")) (option_map expand (text_behind rest)) (option_and_then (asked_for word) (argument_of rest))
+sound line word rest q h =
+    tested line word q (codes "diff") (λ p. diff_sound line word rest q p h)
+    (tested line word q (codes "solve") (λ p. solve_sound line word rest q p h (text_behind rest) refl)
+    (tested line word q (codes "expand") (λ p. expand_sound line word rest q p h (text_behind rest) refl)
+    (tested line word q (codes "decimal") (λ p. decimals_sound line word rest q p h)
+    (tested line word q (codes "sign") (λ p. sign_sound line word rest q p h (text_behind rest) refl)
+    (plain_sound line word rest q h (argument_of rest) refl)))))
 
 record IsFound (line : List ℕ) (q : Asked) : Type 0 where
   word : List ℕ
@@ -290,6 +354,9 @@ complete line (diff name text) (asks_diff {gap = gap} h n b) =
     found_before line (codes "diff") (name ++ (gap ++ text)) (diff name text) h refl (λ rest e. ap (λ found. option_map (λ p. diff p.0 p.1) (option_and_then name_and_text found)) e ∙ ap (option_map (λ p. diff p.0 p.1)) (name_found name gap text n b))
 complete line (solve text) (asks_solve h) = found_before line (codes "solve") text (solve text) h refl (λ rest e. ap (option_map solve) e)
 complete line (expand text) (asks_expand h) = found_before line (codes "expand") text (expand text) h refl (λ rest e. ap (option_map expand) e)
+complete line (decimals places text) (asks_decimals digits {gap = gap} h v l b) =
+    found_before line (codes "decimal") (digits ++ (gap ++ text)) (decimals places text) h refl (λ rest e. ap (λ found. option_map (λ p. decimals p.0 p.1) (option_and_then places_and_text found)) e ∙ ap (option_map (λ p. decimals p.0 p.1)) (places_found digits gap text places v l b))
+complete line (sign text) (asks_sign h) = found_before line (codes "sign") text (sign text) h refl (λ rest e. ap (option_map sign) e)
 
 -- a line with these parts asks for what they ask for
 asks_for : (line word rest : List ℕ) (q : Asked) → word_and_rest line ≡ Some (word, rest) → IsCommandLine line q → asked_in word rest ≡ Some q

@@ -5,7 +5,7 @@ use Rattle.calc_terms.specs.Name.{is_name}
 use Rattle.calc_language.specs.Tokens.{is_blank, leading_run}
 use Rattle.calc_commands.specs.declared.parts.Class.{Class}
 use Rattle.calc_commands.specs.declared.parts.Class.TheVariants as class
-use Rattle.calc_commands.specs.{Commands.{Asked, pool, dump, draw, layout, forget, after, diff, solve, expand}, Numbers.{value_of}}
+use Rattle.calc_commands.specs.{Commands.{Asked, pool, dump, draw, layout, forget, after, diff, solve, expand, decimals, sign, most_places}, Numbers.{value_of}}
 
 -- a byte is of a class
 abbrev pub is_in : Class → ℕ → Bool
@@ -39,6 +39,12 @@ text_behind rest = let run = leading_run is_blank rest in if (length run.0 == 0)
 abbrev pub name_and_text : List ℕ → Option (List ℕ × List ℕ)
 name_and_text text = let run = leading_run (is_in class.Dark) text in if is_name run.0 then option_map (λ behind. (run.0, behind)) (text_behind run.1) else None
 
+-- how many places are told, and the text behind that number
+abbrev pub places_and_text : List ℕ → Option (ℕ × List ℕ)
+places_and_text text =
+    let run = leading_run (is_in class.Dark) text in
+    option_and_then (λ places. if nat_le places most_places then option_map (λ behind. (places, behind)) (text_behind run.1) else None) (value_of run.0)
+
 -- what a word asks for
 abbrev pub asked_alone : List ℕ → Option Asked
 asked_alone word =
@@ -54,8 +60,12 @@ asked_for word argument =
 abbrev pub asked_to_derive : List ℕ → Option Asked
 asked_to_derive rest = option_map (λ found. diff found.0 found.1) (option_and_then name_and_text (text_behind rest))
 
+abbrev pub asked_to_round : List ℕ → Option Asked
+asked_to_round rest = option_map (λ found. decimals found.0 found.1) (option_and_then places_and_text (text_behind rest))
+
 -- what a word and what stands behind it ask for
 abbrev pub asked_in : List ℕ → List ℕ → Option Asked
 asked_in word rest =
     if bytes_eq word (codes "diff") then asked_to_derive rest else if bytes_eq word (codes "solve") then option_map solve (text_behind rest)
-    else if bytes_eq word (codes "expand") then option_map expand (text_behind rest) else option_and_then (asked_for word) (argument_of rest)
+    else if bytes_eq word (codes "expand") then option_map expand (text_behind rest) else if bytes_eq word (codes "decimal") then asked_to_round rest
+    else if bytes_eq word (codes "sign") then option_map sign (text_behind rest) else option_and_then (asked_for word) (argument_of rest)

@@ -2,10 +2,10 @@
 ghost use Rattle.std.specs.Prelude.{◌≡◌, ◌↔◌, IfSome, IsNone, Some, None};
 ghost use Rattle.std.specs.Option.{option_map};
 ghost use Rattle.calc_commands.specs.Commands.{Asked, IsCommandLine, asked_of, is_command as begins_with_colon};
-ghost use Rattle.calc_commands.specs.Parsing.{asked_for, asked_alone, asked_in, asked_to_derive as derivative_asked_in};
+ghost use Rattle.calc_commands.specs.Parsing.{asked_for, asked_alone, asked_in, asked_to_derive as derivative_asked_in, asked_to_round as decimals_asked_in};
 
 use crate::numbers::read_number;
-use crate::parts::{argument, name_and_text, text_behind, word_and_rest};
+use crate::parts::{argument, name_and_text, places_and_text, text_behind, word_and_rest};
 use calc_terms::Name;
 use calc_tokens::is_blank;
 
@@ -30,6 +30,10 @@ pub enum Command<'a> {
     Solve(&'a [u8]),
     /// The expanded form of an expression.
     Expand(&'a [u8]),
+    /// The decimal of an expression, with at most so many places.
+    Decimal(u32, &'a [u8]),
+    /// Whether an expression is above 0, below 0, or 0.
+    Sign(&'a [u8]),
 }
 
 /// Whether the first byte that is no blank is `:`.
@@ -67,6 +71,12 @@ fn asked<'a>(word: &'a [u8], rest: &'a [u8]) -> Option<Command<'a>>
     if word == b"expand".as_slice() {
         return Some(Command::Expand(text_behind(rest)?));
     }
+    if word == b"decimal".as_slice() {
+        return asked_to_round(rest);
+    }
+    if word == b"sign".as_slice() {
+        return Some(Command::Sign(text_behind(rest)?));
+    }
     asked_with(word, argument(rest)?)
 }
 
@@ -76,6 +86,14 @@ fn asked_to_derive(rest: &[u8]) -> Option<Command<'_>>
 {
     let (name, text) = name_and_text(text_behind(rest)?)?;
     Some(Command::Diff(name, text))
+}
+
+/// What stands behind `decimal` asks for.
+fn asked_to_round(rest: &[u8]) -> Option<Command<'_>>
+    ensures { option_map asked_of result ≡ decimals_asked_in rest.now }
+{
+    let (places, text) = places_and_text(text_behind(rest)?)?;
+    Some(Command::Decimal(places, text))
 }
 
 /// What a word with its argument asks for.

@@ -14,5 +14,5 @@ pub use dump::write_dump;
 pub use equations::{EQUATION_LIMIT, EquationRange, SplitFault, split_equations};
 pub use laws::{command_lines_ask_once, dumps_are_short};
 pub use numbers::{read_number, write_count};
-pub use parts::are_blanks;
+pub use parts::{PLACES_LIMIT, are_blanks};
 pub use reports::{write_after, write_forgot, write_no_breaker, write_pool_report, write_unknown};
