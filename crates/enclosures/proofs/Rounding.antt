@@ -12,7 +12,7 @@ pub root_bounds : (r s bits : ℕ) → s * s ≤ r * 4 ^ bits → r * 4 ^ bits <
 root_bounds r s bits h k e p = record { positive = p; below = rw (← e) h; above = rw (← e) (omega (arith, k)) }
 
 -- a term of whole parts over a unit
-term_value : (q : Fraction) (a u : ℕ) → 0 < u → times q (quotient a u) ≡ lowest (q.num *ℤ pos a) (q.den * u)
+pub term_value : (q : Fraction) (a u : ℕ) → 0 < u → times q (quotient a u) ≡ lowest (q.num *ℤ pos a) (q.den * u)
 term_value q a u hu = ap (λ z. times z (quotient a u)) (lowest_parts q) ∙ times_lowest q.num (pos a) q.den u (den_pos q) hu
 
 -- what is divided loses less than p/d + 2
@@ -24,10 +24,10 @@ high_part p s d u x y h k =
     let l : p * (s + 1) ≤ (x + (y + 2)) * d = omega (arith, h, k) in
     omega (arith, mul-le-mul_right u l)
 
-signed_product : (q : ℤ) (p a : ℕ) → q ≡ pos p → IsDifference (q *ℤ pos a) (p * a) 0
+pub signed_product : (q : ℤ) (p a : ℕ) → q ≡ pos p → IsDifference (q *ℤ pos a) (p * a) 0
 signed_product q p a e = rw e (record { parts_are = omega (arith, ints) })
 
-opposite_product : (q : ℤ) (m a : ℕ) → q ≡ negsuc m → IsDifference (q *ℤ pos a) 0 (suc m * a)
+pub opposite_product : (q : ℤ) (m a : ℕ) → q ≡ negsuc m → IsDifference (q *ℤ pos a) 0 (suc m * a)
 opposite_product q m a e = rw e (record { parts_are = omega (arith, ints, (down_times m (pos a)).parts_are) })
 
 pub opposite : (x : ℕ) → IsDifference (neg_ℤ (pos x)) 0 x

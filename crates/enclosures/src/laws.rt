@@ -1,10 +1,12 @@
 //! Laws of enclosures, each the contract of a function without a body.
-ghost use Rattle.std.specs.Prelude.{◌≡◌, ◌≤◌, ◌<◌, ◌+◌, ◌*◌, ℕ, ℤ, pos, negsuc, suc, neg_ℤ, ◌+ℤ◌, ◌-ℤ◌, List, [], ◌∷◌, ◌⊎◌};
+ghost use Rattle.std.specs.Prelude.{◌≡◌, ◌≤◌, ◌<◌, ◌+◌, ◌*◌, ℕ, ℤ, pos, negsuc, suc, neg_ℤ, ◌+ℤ◌, ◌-ℤ◌, List, [], ◌∷◌, ◌⊎◌, ◌^◌, true, false};
 ghost use Rattle.calc_terms.specs.Fractions.{Fraction, lowest, times, quotient, zero_fraction};
 ghost use Rattle.enclosures.specs.Order.{AtMost};
 ghost use Rattle.calc_algebra.specs.Surds.{Term};
 ghost use Rattle.enclosures.specs.Enclosures.{Bounds, AreBounds, AreEnclosed, lower, upper, least, most};
-ghost use Rattle.enclosures.specs.Rounding.{Covers, IsAt, IsClose, IsNear, IsNegative, IsPositive, IsRounded, doubt, middle};
+ghost use Rattle.enclosures.specs.Rounding.{Covers, IsAt, IsClose, IsNear, IsNegative, IsPositive, IsRounded, AreNarrow, count_roots, doubt, middle};
+ghost use Rattle.calc_algebra.specs.Numbers.{is_number, value};
+ghost use Rattle.calc_terms.specs.Trees.{Tree, is_num};
 
 /// Two enclosures of one sum meet: what one says that it is at least is at most what the other says that it is at most.
 pub fn enclosures_meet()
@@ -72,4 +74,9 @@ pub fn totals_tell_signs()
 pub fn one_decimal()
     ensures { (v : List Term) (scale : ℕ) (m n : ℤ) → 0 < scale → IsRounded v scale m → IsRounded v scale n
         → (m ≡ n) ⊎ ((n ≡ m +ℤ pos 1) × IsAt v (middle m scale)) ⊎ ((m ≡ n +ℤ pos 1) × IsAt v (middle n scale)) }
+{}
+
+/// A Number of at most one root, which is no rational, is never left open.
+pub fn one_root_is_told()
+    ensures { (t : Tree) (scale : ℕ) → is_number t ≡ true → is_num t ≡ false → count_roots (value t) ≤ 1 → AreNarrow (value t) → 0 < scale → scale ≤ 2 ^ 127 → IsClose (value t) scale → ⊥ }
 {}
