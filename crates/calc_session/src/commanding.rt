@@ -17,6 +17,7 @@ ghost use Rattle.calc_session.specs.Kept.{IsKept, state_in};
 
 use crate::differentiating::Derivative;
 use crate::drawing::write_layout;
+use crate::estimating::{DecimalPlaces, NumberSign};
 use crate::evaluating::refused;
 use crate::expanding::Expansion;
 use crate::parts::Parts;
@@ -97,6 +98,12 @@ impl Parts {
             }
             Command::Solve(equations) => self.solve(line, equations, watch),
             Command::Expand(expression) => self.calculate(&Expansion, line, expression, watch),
+            Command::Decimal(places, expression) => {
+                self.calculate(&DecimalPlaces { places, reducer }, line, expression, watch)
+            }
+            Command::Sign(expression) => {
+                self.calculate(&NumberSign { reducer }, line, expression, watch)
+            }
         }
     }
 
