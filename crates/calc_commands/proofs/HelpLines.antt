@@ -21,6 +21,8 @@ row word.Draw = record { short = omega arith; printable = refl }
 row word.Diff = record { short = omega arith; printable = refl }
 row word.Solve = record { short = omega arith; printable = refl }
 row word.Expand = record { short = omega arith; printable = refl }
+row word.Decimal = record { short = omega arith; printable = refl }
+row word.Sign = record { short = omega arith; printable = refl }
 
 -- ---- each word is in the table
 
@@ -36,6 +38,8 @@ in_table word.Draw = (7, omega arith, refl)
 in_table word.Diff = (8, omega arith, refl)
 in_table word.Solve = (9, omega arith, refl)
 in_table word.Expand = (10, omega arith, refl)
+in_table word.Decimal = (11, omega arith, refl)
+in_table word.Sign = (12, omega arith, refl)
 
 pub help_fits : (length all_words ≤ 24) × ((w : Word) → IsRow (help_line w))
 help_fits = (omega arith, row)

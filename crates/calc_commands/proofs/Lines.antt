@@ -8,7 +8,8 @@ use Rattle.calc_commands.specs.declared.words.Word.{Word}
 use Rattle.calc_commands.specs.declared.words.Word.TheVariants as word
 use Rattle.calc_commands.proofs.Shared.{argument_of, word_and_rest, text_behind, name_and_text, asked_alone, asked_for, asked_to_derive, asked_in, Command, run_whole, run_all, run_stops, stops}
 use Rattle.calc_commands.proofs.{Shared.{run_of}, Values.{no_digits, not_digits}, Runs.{all-append, all_other, first_of_all}}
-use Rattle.std.proofs.Common.{eqb}
+use Rattle.std.proofs.{Common.{eqb, leb}, lemmas.Bool.{leb-true}}
+use Rattle.calc_commands.proofs.Shared.{asks_decimals, asks_sign, decimals, sign, most_places, places_and_text, asked_to_round, ◌≤◌, le-leb}
 use Rattle.calc_commands.specs.declared.parts.Class.TheVariants as class
 
 -- ---- bytes
@@ -96,6 +97,11 @@ stops_at_blank p f (b ∷ gap) text a l = f b (first_of_all is_blank b gap a)
 
 name_found : (name gap text : List ℕ) → is_name name ≡ true → IsTextBehind gap text → name_and_text (name ++ (gap ++ text)) ≡ Some (name, text)
 name_found name gap text n h = grind (arith, run_of, dark_name, stops_at_blank, no_dark, text_found)
+
+places_found : (digits gap text : List ℕ) (places : ℕ) → value_of digits ≡ Some places → places ≤ most_places → IsTextBehind gap text → places_and_text (digits ++ (gap ++ text)) ≡ Some (places, text)
+places_found digits gap text places v l h =
+    let run : leading_run (is_in class.Dark) (digits ++ (gap ++ text)) ≡ (digits, gap ++ text) = run_of (is_in class.Dark) digits (gap ++ text) (dark_digits digits places v) (stops_at_blank (is_in class.Dark) no_dark gap text h.blank h.some) in
+    rw (run, v, le-leb places most_places l, text_found gap text h) refl
 
 -- ---- and what is found is there
 
@@ -185,6 +191,41 @@ name_there bytes name text h =
           behind = text_there rest text (e ∙ ap Some same.1);
         }
 
+placed : (m n : ℕ) (a b : List ℕ) → ◌≡◌ {A = Option (ℕ × List ℕ)} (Some (m, a)) (Some (n, b)) → (m ≡ n) × (a ≡ b)
+placed m n a b e = let same : ◌≡◌ {A = ℕ × List ℕ} (m, a) (n, b) = cc in (ap (λ (p : ℕ × List ℕ). p.0) same, ap (λ (p : ℕ × List ℕ). p.1) same)
+
+record ArePlacesAndText (bytes : List ℕ) (places : ℕ) (text : List ℕ) : Type 0 where
+  digits : List ℕ
+  rest : List ℕ
+  whole : bytes ≡ digits ++ rest
+  counted : value_of digits ≡ Some places
+  few : places ≤ most_places
+  behind : IsText rest text
+
+places_there : (bytes : List ℕ) (places : ℕ) (text : List ℕ) → places_and_text bytes ≡ Some (places, text) → ArePlacesAndText bytes places text
+places_there bytes places text h = let run = leading_run (is_in class.Dark) bytes in counted run.0 run.1 (run_whole (is_in class.Dark) bytes) (value_of run.0) refl h
+  where
+    behind_them : (digits rest : List ℕ) → digits ++ rest ≡ bytes → (n : ℕ) → value_of digits ≡ Some n → n ≤ most_places → (found : Option (List ℕ)) → text_behind rest ≡ found
+        → option_map {U = ℕ × List ℕ} (λ behind. (n, behind)) found ≡ Some (places, text) → ArePlacesAndText bytes places text
+    behind_them digits rest w n v l None e q = absurd cc
+    behind_them digits rest w n v l (Some behind) e q =
+        let same = placed n places behind text q in
+        record {
+          digits = digits;
+          rest = rest;
+          whole = sym w;
+          counted = v ∙ ap Some same.0;
+          few = subst (λ m. m ≤ most_places) same.0 l;
+          behind = text_there rest text (e ∙ ap Some same.1);
+        }
+
+    counted : (digits rest : List ℕ) → digits ++ rest ≡ bytes → (n : Option ℕ) → value_of digits ≡ n
+        → option_and_then {U = ℕ × List ℕ} (λ m. cond (leb m most_places) (option_map (λ behind. (m, behind)) (text_behind rest)) None) n ≡ Some (places, text) → ArePlacesAndText bytes places text
+    counted digits rest w None v q = absurd cc
+    counted digits rest w (Some n) v q =
+        by_test (λ t. leb n most_places ≡ t → cond t (option_map {U = ℕ × List ℕ} (λ behind. (n, behind)) (text_behind rest)) None ≡ Some (places, text) → ArePlacesAndText bytes places text) (leb n most_places)
+        (λ z l k. behind_them digits rest w n v (leb-true n most_places l) (text_behind rest) refl k) (λ z l k. absurd cc) refl q
+
 -- ---- what is asked for
 
 asks : {line : List ℕ} {a b : Asked} → IsCommandLine line a → Some a ≡ Some b → IsCommandLine line b
@@ -208,6 +249,8 @@ alone_sound line word.Draw q h e = asks (asks_draw h) e
 alone_sound line word.Diff q h e = absurd cc
 alone_sound line word.Solve q h e = absurd cc
 alone_sound line word.Expand q h e = absurd cc
+alone_sound line word.Decimal q h e = absurd cc
+alone_sound line word.Sign q h e = absurd cc
 
 empty_by : (bytes : List ℕ) → eqb (length bytes) 0 ≡ true → bytes ≡ []
 empty_by [] h = refl
@@ -234,6 +277,8 @@ with_sound line word.Draw argument q h e = absurd cc
 with_sound line word.Diff argument q h e = absurd cc
 with_sound line word.Solve argument q h e = absurd cc
 with_sound line word.Expand argument q h e = absurd cc
+with_sound line word.Decimal argument q h e = absurd cc
+with_sound line word.Sign argument q h e = absurd cc
 
 argument_sound : (line : List ℕ) (w : Word) (argument : List ℕ) (q : Asked) → Has line (word_bytes w) argument → asked_for w argument ≡ Some q → IsCommandLine line q
 argument_sound line w argument q h e =
@@ -266,6 +311,25 @@ diff_sound line rest q h k = by (text_behind rest) refl k
     by None e k = absurd cc
     by (Some bytes) e k = named bytes e (name_and_text bytes) refl k
 
+sign_sound : (line rest : List ℕ) (q : Asked) → HasWord line (codes "sign") rest → (found : Option (List ℕ)) → text_behind rest ≡ found → option_map sign found ≡ Some q → IsCommandLine line q
+sign_sound line rest q h None e k = absurd cc
+sign_sound line rest q h (Some text) e k = asks (asks_sign (text_sound h (text_there rest text e))) k
+
+decimals_there : (line rest : List ℕ) (places : ℕ) (text : List ℕ) → HasWord line (codes "decimal") rest → (bytes : List ℕ) → IsText rest bytes → ArePlacesAndText bytes places text → IsCommandLine line (decimals places text)
+decimals_there line rest places text h bytes x y =
+    asks_decimals y.digits (subst (HasText line (codes "decimal")) (y.whole ∙ ap (λ b. y.digits ++ b) y.behind.whole) (text_sound h x)) y.counted y.few y.behind.behind
+
+decimals_sound : (line rest : List ℕ) (q : Asked) → HasWord line (codes "decimal") rest → asked_to_round rest ≡ Some q → IsCommandLine line q
+decimals_sound line rest q h k = by (text_behind rest) refl k
+  where
+    counted : (bytes : List ℕ) → text_behind rest ≡ Some bytes → (found : Option (ℕ × List ℕ)) → places_and_text bytes ≡ found → option_map (λ p. decimals p.0 p.1) found ≡ Some q → IsCommandLine line q
+    counted bytes e None f k = absurd cc
+    counted bytes e (Some (places, text)) f k = asks (decimals_there line rest places text h bytes (text_there rest bytes e) (places_there bytes places text f)) k
+
+    by : (found : Option (List ℕ)) → text_behind rest ≡ found → option_map (λ p. decimals p.0 p.1) (option_and_then places_and_text found) ≡ Some q → IsCommandLine line q
+    by None e k = absurd cc
+    by (Some bytes) e k = counted bytes e (places_and_text bytes) refl k
+
 plain_sound : (line : List ℕ) (w : Word) (rest : List ℕ) (q : Asked) → HasWord line (word_bytes w) rest → (found : Option (List ℕ)) → argument_of rest ≡ found → option_and_then (asked_for w) found ≡ Some q → IsCommandLine line q
 plain_sound line w rest q h None e k = absurd cc
 plain_sound line w rest q h (Some argument) e k = argument_sound line w argument q (there line (word_bytes w) rest argument h e) k
@@ -282,6 +346,8 @@ by_sound line word.Draw rest q h e = plain_sound line word.Draw rest q h (argume
 by_sound line word.Diff rest q h e = diff_sound line rest q h e
 by_sound line word.Solve rest q h e = solve_sound line rest q h (text_behind rest) refl e
 by_sound line word.Expand rest q h e = expand_sound line rest q h (text_behind rest) refl e
+by_sound line word.Decimal rest q h e = decimals_sound line rest q h e
+by_sound line word.Sign rest q h e = sign_sound line rest q h (text_behind rest) refl e
 
 sound : (line bytes rest : List ℕ) (q : Asked) → HasWord line bytes rest → asked_in bytes rest ≡ Some q → IsCommandLine line q
 sound line bytes rest q h e = by (word_of bytes) refl e
@@ -345,6 +411,8 @@ dark_word word.Draw = refl
 dark_word word.Diff = refl
 dark_word word.Solve = refl
 dark_word word.Expand = refl
+dark_word word.Decimal = refl
+dark_word word.Sign = refl
 
 explain_read : (w : Word) → asked_for word.Help (word_bytes w) ≡ Some (explain w)
 explain_read word.Help = refl
@@ -358,6 +426,8 @@ explain_read word.Draw = refl
 explain_read word.Diff = refl
 explain_read word.Solve = refl
 explain_read word.Expand = refl
+explain_read word.Decimal = refl
+explain_read word.Sign = refl
 
 complete : (line : List ℕ) (q : Asked) → IsCommandLine line q → IsFound line q
 complete line pool (asks_pool h) = found_with line (codes "pool") [] pool h refl refl (λ rest e. ap (option_and_then (asked_for word.Pool)) e)
@@ -373,6 +443,9 @@ complete line (expand text) (asks_expand h) = found_before line (codes "expand")
 complete line list_names (asks_names h) = found_with line (codes "names") [] list_names h refl refl (λ rest e. ap (option_and_then (asked_for word.Names)) e)
 complete line help (asks_help h) = found_with line (codes "help") [] help h refl refl (λ rest e. ap (option_and_then (asked_for word.Help)) e)
 complete line (explain w) (asks_explain h) = found_with line (codes "help") (word_bytes w) (explain w) h refl (dark_word w) (λ rest e. ap (option_and_then (asked_for word.Help)) e ∙ explain_read w)
+complete line (decimals places text) (asks_decimals digits {gap = gap} h v l b) =
+    found_before line (codes "decimal") (digits ++ (gap ++ text)) (decimals places text) h refl (λ rest e. ap (λ found. option_map (λ p. decimals p.0 p.1) (option_and_then places_and_text found)) e ∙ ap (option_map (λ p. decimals p.0 p.1)) (places_found digits gap text places v l b))
+complete line (sign text) (asks_sign h) = found_before line (codes "sign") text (sign text) h refl (λ rest e. ap (option_map sign) e)
 
 -- a line that asks for something begins with a word
 pub begins_word_of : (line : List ℕ) (q : Asked) → IsCommandLine line q → BeginsWithWord line

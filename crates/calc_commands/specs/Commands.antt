@@ -1,5 +1,5 @@
 -- Command lines.
-use Rattle.std.specs.{Prelude.{ℕ, ◌≡◌, ◌<◌, ◌==◌, List, [], ◌∷◌, ◌++◌, length, Bool, true, false, not, if◌then◌else◌, Some, codes}, List.{list_all}}
+use Rattle.std.specs.{Prelude.{ℕ, ◌≡◌, ◌<◌, ◌≤◌, ◌==◌, List, [], ◌∷◌, ◌++◌, length, Bool, true, false, not, if◌then◌else◌, Some, codes}, List.{list_all}}
 use Rattle.calc_terms.specs.{Leaf.{name_of}, Name.{is_name}}
 use Rattle.calc_language.specs.Tokens.{is_blank}
 use Rattle.calc_commands.specs.declared.command.Command.{Command}
@@ -12,7 +12,7 @@ abbrev pub is_command : List ℕ → Bool
 is_command [] = false
 is_command (b ∷ bytes) = if is_blank b then is_command bytes else (b == 58)
 
--- what a command asks for: a name by its bytes, after how many checks a breaker trips, a text to calculate with, and a word to be explained
+-- what a command asks for: a name by its bytes, after how many checks a breaker trips, how many decimals, a text to calculate with, and a word to be explained
 pub data Asked : Type 0 where
   pool dump draw layout : Asked
   forget : List ℕ → Asked
@@ -21,6 +21,8 @@ pub data Asked : Type 0 where
   solve expand : List ℕ → Asked
   help list_names : Asked
   explain : Word → Asked
+  decimals : ℕ → List ℕ → Asked
+  sign : List ℕ → Asked
 
 abbrev pub asked_of : Command → Asked
 asked_of command.Pool = pool
@@ -32,9 +34,15 @@ asked_of command.Layout = layout
 asked_of (command.Diff name text) = diff (name_of name) text.now
 asked_of (command.Solve text) = solve text.now
 asked_of (command.Expand text) = expand text.now
+asked_of (command.Decimal places text) = decimals places text.now
+asked_of (command.Sign text) = sign text.now
 asked_of command.Help = help
 asked_of (command.Explain w) = explain w
 asked_of command.Names = list_names
+
+-- so many decimals are told at most
+abbrev pub most_places : ℕ
+most_places = 38
 
 -- a line is a colon and a word, with blanks around them, and an argument behind more blanks where there is one
 pub record Has (line word argument : List ℕ) : Type 0 where
@@ -79,3 +87,5 @@ pub data IsCommandLine (line : List ℕ) : Asked → Type 0 where
   asks_help : Has line (codes "help") [] → IsCommandLine line help
   asks_explain : {w : Word} → Has line (codes "help") (word_bytes w) → IsCommandLine line (explain w)
   asks_names : Has line (codes "names") [] → IsCommandLine line list_names
+  asks_decimals : (digits : List ℕ) {gap text : List ℕ} {places : ℕ} → HasText line (codes "decimal") (digits ++ (gap ++ text)) → value_of digits ≡ Some places → places ≤ most_places → IsTextBehind gap text → IsCommandLine line (decimals places text)
+  asks_sign : {text : List ℕ} → HasText line (codes "sign") text → IsCommandLine line (sign text)

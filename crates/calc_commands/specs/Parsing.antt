@@ -6,7 +6,7 @@ use Rattle.calc_commands.specs.declared.parts.Class.{Class}
 use Rattle.calc_commands.specs.declared.parts.Class.TheVariants as class
 use Rattle.calc_commands.specs.declared.words.Word.{Word}
 use Rattle.calc_commands.specs.declared.words.Word.TheVariants as word
-use Rattle.calc_commands.specs.{Commands.{Asked, pool, dump, draw, layout, forget, after, diff, solve, expand, help, explain, list_names}, Numbers.{value_of}, Words.{word_bytes, word_of}}
+use Rattle.calc_commands.specs.{Commands.{Asked, pool, dump, draw, layout, forget, after, diff, solve, expand, decimals, sign, most_places, help, explain, list_names}, Numbers.{value_of}, Words.{word_bytes, word_of}}
 
 -- a byte is of a class
 abbrev pub is_in : Class → ℕ → Bool
@@ -40,6 +40,12 @@ text_behind rest = let run = leading_run is_blank rest in if (length run.0 == 0)
 abbrev pub name_and_text : List ℕ → Option (List ℕ × List ℕ)
 name_and_text text = let run = leading_run (is_in class.Dark) text in if is_name run.0 then option_map (λ behind. (run.0, behind)) (text_behind run.1) else None
 
+-- how many places are told, and the text behind that number
+abbrev pub places_and_text : List ℕ → Option (ℕ × List ℕ)
+places_and_text text =
+    let run = leading_run (is_in class.Dark) text in
+    option_and_then (λ places. if nat_le places most_places then option_map (λ behind. (places, behind)) (text_behind run.1) else None) (value_of run.0)
+
 -- what a word alone asks for
 abbrev pub asked_alone : Word → Option Asked
 asked_alone word.Help = Some help
@@ -63,11 +69,16 @@ asked_for w argument = if length argument == 0 then asked_alone w else asked_wit
 abbrev pub asked_to_derive : List ℕ → Option Asked
 asked_to_derive rest = option_map (λ found. diff found.0 found.1) (option_and_then name_and_text (text_behind rest))
 
+abbrev pub asked_to_round : List ℕ → Option Asked
+asked_to_round rest = option_map (λ found. decimals found.0 found.1) (option_and_then places_and_text (text_behind rest))
+
 -- what a word and what stands behind it ask for
 abbrev pub asked_by : Word → List ℕ → Option Asked
 asked_by word.Diff rest = asked_to_derive rest
 asked_by word.Solve rest = option_map solve (text_behind rest)
 asked_by word.Expand rest = option_map expand (text_behind rest)
+asked_by word.Decimal rest = asked_to_round rest
+asked_by word.Sign rest = option_map sign (text_behind rest)
 asked_by w rest = option_and_then (asked_for w) (argument_of rest)
 
 abbrev pub asked_in : List ℕ → List ℕ → Option Asked

@@ -5,7 +5,7 @@ use Rattle.calc_commands.specs.declared.words.Word.TheVariants as word
 
 -- all words, in the order in which they are told
 abbrev pub all_words : List Word
-all_words = word.Help ∷ word.Pool ∷ word.Dump ∷ word.Names ∷ word.Forget ∷ word.After ∷ word.Layout ∷ word.Draw ∷ word.Diff ∷ word.Solve ∷ word.Expand ∷ []
+all_words = word.Help ∷ word.Pool ∷ word.Dump ∷ word.Names ∷ word.Forget ∷ word.After ∷ word.Layout ∷ word.Draw ∷ word.Diff ∷ word.Solve ∷ word.Expand ∷ word.Decimal ∷ word.Sign ∷ []
 
 -- a word as it is typed
 abbrev pub word_bytes : Word → List ℕ
@@ -20,6 +20,8 @@ word_bytes word.Draw = codes "draw"
 word_bytes word.Diff = codes "diff"
 word_bytes word.Solve = codes "solve"
 word_bytes word.Expand = codes "expand"
+word_bytes word.Decimal = codes "decimal"
+word_bytes word.Sign = codes "sign"
 
 -- the first of the words that is typed so
 abbrev pub word_among : List Word → List ℕ → Option Word
@@ -40,6 +42,8 @@ form_of word.After = codes " K"
 form_of word.Diff = codes " X LINE"
 form_of word.Solve = codes " EQUATIONS"
 form_of word.Expand = codes " LINE"
+form_of word.Decimal = codes " N LINE"
+form_of word.Sign = codes " LINE"
 form_of w = []
 
 -- what the command does
@@ -55,6 +59,8 @@ summary_of word.Draw = codes "the picture of the last answer"
 summary_of word.Diff = codes "the derivative of the line with respect to the name X"
 summary_of word.Solve = codes "the values of the names in linear equations"
 summary_of word.Expand = codes "the line as a sum of multiples of products of names"
+summary_of word.Decimal = codes "the nearest decimal of the line with N places, at most 38"
+summary_of word.Sign = codes "whether the line is positive, negative or zero"
 
 -- lines that use the command, with `;` between them
 abbrev pub example_of : Word → List ℕ
@@ -69,6 +75,8 @@ example_of word.Draw = codes "x/2 ; :draw"
 example_of word.Diff = codes ":diff x x^3/3"
 example_of word.Solve = codes ":solve x+y=3;x-y=1"
 example_of word.Expand = codes ":expand (x+y)^2"
+example_of word.Decimal = codes ":decimal 4 sqrt(2)+sqrt(3)"
+example_of word.Sign = codes ":sign sqrt(2)-3/2"
 
 -- ---- the lines of help
 

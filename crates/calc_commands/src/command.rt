@@ -2,10 +2,10 @@
 ghost use Rattle.std.specs.Prelude.{◌≡◌, ◌↔◌, IfSome, IsNone, Some, None};
 ghost use Rattle.std.specs.Option.{option_map};
 ghost use Rattle.calc_commands.specs.Commands.{Asked, IsCommandLine, asked_of, is_command as begins_with_colon};
-ghost use Rattle.calc_commands.specs.Parsing.{asked_alone as asked_by_it, asked_by as asked_behind, asked_for as asked_for_it, asked_in, asked_to_derive as derivative_asked_in, asked_with as asked_with_it};
+ghost use Rattle.calc_commands.specs.Parsing.{asked_alone as asked_by_it, asked_by as asked_behind, asked_for as asked_for_it, asked_in, asked_to_derive as derivative_asked_in, asked_to_round as decimals_asked_in, asked_with as asked_with_it};
 
 use crate::numbers::read_number;
-use crate::parts::{argument, name_and_text, text_behind, word_and_rest};
+use crate::parts::{argument, name_and_text, places_and_text, text_behind, word_and_rest};
 use crate::words::Word;
 use calc_terms::Name;
 use calc_tokens::is_blank;
@@ -37,6 +37,10 @@ pub enum Command<'a> {
     Explain(Word),
     /// What is stored, in lines that store it again.
     Names,
+    /// The decimal of an expression, with at most so many places.
+    Decimal(u32, &'a [u8]),
+    /// Whether an expression is above 0, below 0, or 0.
+    Sign(&'a [u8]),
 }
 
 /// Whether the first byte that is no blank is `:`.
@@ -76,6 +80,8 @@ fn asked_by(word: Word, rest: &[u8]) -> Option<Command<'_>>
         Word::Diff => asked_to_derive(rest),
         Word::Solve => Some(Command::Solve(text_behind(rest)?)),
         Word::Expand => Some(Command::Expand(text_behind(rest)?)),
+        Word::Decimal => asked_to_round(rest),
+        Word::Sign => Some(Command::Sign(text_behind(rest)?)),
         _ => asked_for(word, argument(rest)?),
     }
 }
@@ -86,6 +92,14 @@ fn asked_to_derive(rest: &[u8]) -> Option<Command<'_>>
 {
     let (name, text) = name_and_text(text_behind(rest)?)?;
     Some(Command::Diff(name, text))
+}
+
+/// What stands behind `decimal` asks for.
+fn asked_to_round(rest: &[u8]) -> Option<Command<'_>>
+    ensures { option_map asked_of result ≡ decimals_asked_in rest.now }
+{
+    let (places, text) = places_and_text(text_behind(rest)?)?;
+    Some(Command::Decimal(places, text))
 }
 
 /// What a word with its argument, or with none, asks for.

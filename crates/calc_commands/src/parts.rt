@@ -3,10 +3,14 @@ ghost use Rattle.std.specs.Prelude.{◌≡◌, Some, None, MatchOption};
 ghost use Rattle.std.specs.List.{prefix_len};
 ghost use Rattle.calc_language.specs.Tokens.{leading_run};
 ghost use Rattle.calc_terms.specs.Leaf.{name_of};
-ghost use Rattle.calc_commands.specs.Parsing.{argument_of, behind_colon as behind_colon_of, is_in, are_blanks as all_blank, name_and_text as name_and_text_of, text_behind as text_behind_of, word_and_rest as word_and_rest_of};
+ghost use Rattle.calc_commands.specs.Parsing.{argument_of, behind_colon as behind_colon_of, is_in, are_blanks as all_blank, name_and_text as name_and_text_of, places_and_text as places_and_text_of, text_behind as text_behind_of, word_and_rest as word_and_rest_of};
 
+use crate::numbers::read_number;
 use calc_terms::Name;
 use calc_tokens::is_blank;
+
+/// So many decimals are told at most.
+pub const PLACES_LIMIT: u32 = 38;
 
 /// What stands side by side in a command line.
 #[derive(Clone, Copy)]
@@ -76,6 +80,18 @@ pub(crate) fn name_and_text(text: &[u8]) -> Option<(Name, &[u8])>
     let (word, rest) = split(text, Class::Dark);
     let name = Name::read(word)?;
     Some((name, text_behind(rest)?))
+}
+
+/// How many places are told, at most 38, and the text behind that number.
+pub(crate) fn places_and_text(text: &[u8]) -> Option<(u32, &[u8])>
+    ensures { MatchOption result (places_and_text_of text.now ≡ None) (λ found. places_and_text_of text.now ≡ Some (found.0, found.1.now)) }
+{
+    let (digits, rest) = split(text, Class::Dark);
+    let places = read_number(digits)?;
+    if places > PLACES_LIMIT as u64 {
+        return None;
+    }
+    Some((places as u32, text_behind(rest)?))
 }
 
 /// Whether these are blanks alone, or nothing.

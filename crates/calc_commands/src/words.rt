@@ -16,6 +16,8 @@ pub enum Word {
     Diff,
     Solve,
     Expand,
+    Decimal,
+    Sign,
 }
 
 /// All words, in the order in which they are told.
@@ -31,6 +33,8 @@ const WORDS: &[Word] = &[
     Word::Diff,
     Word::Solve,
     Word::Expand,
+    Word::Decimal,
+    Word::Sign,
 ];
 
 /// The blanks before a summary where there is neither word nor form.
@@ -68,6 +72,8 @@ impl Word {
             Word::Diff => b"diff",
             Word::Solve => b"solve",
             Word::Expand => b"expand",
+            Word::Decimal => b"decimal",
+            Word::Sign => b"sign",
         }
     }
 
@@ -83,6 +89,8 @@ impl Word {
             Word::Diff => b" X LINE",
             Word::Solve => b" EQUATIONS",
             Word::Expand => b" LINE",
+            Word::Decimal => b" N LINE",
+            Word::Sign => b" LINE",
             _ => b"",
         }
     }
@@ -104,6 +112,8 @@ impl Word {
             Word::Diff => b"the derivative of the line with respect to the name X",
             Word::Solve => b"the values of the names in linear equations",
             Word::Expand => b"the line as a sum of multiples of products of names",
+            Word::Decimal => b"the nearest decimal of the line with N places, at most 38",
+            Word::Sign => b"whether the line is positive, negative or zero",
         }
     }
 
@@ -124,6 +134,8 @@ impl Word {
             Word::Diff => b":diff x x^3/3",
             Word::Solve => b":solve x+y=3;x-y=1",
             Word::Expand => b":expand (x+y)^2",
+            Word::Decimal => b":decimal 4 sqrt(2)+sqrt(3)",
+            Word::Sign => b":sign sqrt(2)-3/2",
         }
     }
 

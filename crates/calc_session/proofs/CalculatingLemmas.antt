@@ -1,6 +1,6 @@
 -- Lemmas on command lines that calculate.
 use Rattle.std.proofs.Common.{◌≤◌, List, ℕ, ◌++◌, length, length-append, Option, arith}
-use Rattle.calc_session.proofs.Shared.{HasText, IsCommandLine, asks_diff, asks_solve, asks_expand, diff, solve, expand, Full, CountsRefusal, IsCountedBut, Seen, Counts, pool_of}
+use Rattle.calc_session.proofs.Shared.{HasText, IsCommandLine, asks_decimals, asks_diff, asks_solve, asks_expand, asks_sign, decimals, diff, most_places, sign, solve, expand, Full, CountsRefusal, IsCountedBut, Seen, Counts, pool_of}
 
 -- a text that is calculated with stands in its line
 within : {line word text : List ℕ} → HasText line word text → length text ≤ length line
@@ -14,6 +14,15 @@ equations_within (asks_solve h) = within h
 
 pub expression_within : {line text : List ℕ} → IsCommandLine line (expand text) → length text ≤ length line
 expression_within (asks_expand h) = within h
+
+pub rounded_within : {line text : List ℕ} {places : ℕ} → IsCommandLine line (decimals places text) → length text ≤ length line
+rounded_within (asks_decimals digits {gap = gap} {text = text} h v l b) = let all = within h in let a = length-append gap text in let c = length-append digits (gap ++ text) in omega (arith, all, a, c)
+
+pub places_within : {line text : List ℕ} {places : ℕ} → IsCommandLine line (decimals places text) → places ≤ most_places
+places_within (asks_decimals digits h v l b) = l
+
+pub signed_within : {line text : List ℕ} → IsCommandLine line (sign text) → length text ≤ length line
+signed_within (asks_sign h) = within h
 
 -- ---- as a session is seen
 

@@ -5,7 +5,7 @@ use Rattle.calc_session.proofs.Shared.{LacksNames, lacks, fills, filling, refuse
 use Rattle.calc_session.proofs.Shared.{MayExceed, Covers, CalmUpTo, TripsWithin, Evaluates, HasEasyBadPart, CountsRefusals, IfFull, IfInterrupted, IfOverflow, ReduceFault, Overflows, plain, Forest}
 use Rattle.calc_session.proofs.Shared.{flatten, bytes_in, tree_of, Gives, KeepsFront, Starts, root_tree, without_root, LacksBytes, Stands, forest, KeepsRefusals, bytes_in-join, flatten-join}
 use Rattle.calc_session.proofs.Shared.{behind_first, behind_new, front_after_one, front_at, front_end, front_same, front_without, given_rest, given_told, gives_as, last_tree, size-plain, Refusal}
-use Rattle.calc_session.proofs.Shared.{Evaluation, Face, Undefined, Refused, ComesTo, CountsRefusal, IsDisplayOf, LacksName, refusal_of, refusal_to_fill, reason_of, reply_of, HasFittingRationals}
+use Rattle.calc_session.proofs.Shared.{Evaluation, Face, Found, Undefined, Refused, ComesTo, CountsRefusal, IsDisplayOf, LacksName, refusal_of, refusal_to_fill, reason_of, reply_of, HasFittingRationals}
 use Rattle.calc_session.proofs.Shared.{IsAnswerTo, IsReplyWith, has_no_value, holds_its_name, is_shown, is_stored, OverflowsAt, IsReduction, lacks_bytes, is_answered, made, Unmade, IsReplyToTree}
 use Rattle.calc_session.proofs.Shared.{is_made, Reply, displayed, circular, refused, refusal_in, state_of, is_overflow, nodes_to_overflow, IsPlainAnswer, IsPlainOverflow, plain_value, one_node}
 use Rattle.calc_session.proofs.{Shared.{FillFault, used_forest, Shows, face_names, face_written}, StoredTrees.{fitting_tree, named_tree}}
@@ -123,6 +123,7 @@ module _ (room bits : Option (Tree → ℕ)) (before after : List Breaker) (stor
         beyond_room = exceeds room (tree_of i s) (free_of s + size (tree_of i s)) (free_of mid) (size (tree_of j mid)) (free_same st st' e g a) short (given_told a).1;
         checks = record { checks = nodes (tree_of i s); some = one_node (tree_of i s); few = omega arith; calm = calm };
       })
+  shown_answer (Found _) st st' st'' e e' g a calm clear k f = absurd f
   shown_answer (Refused _) st st' st'' e e' g a calm clear k f = absurd f
 
   -- what a fault is answered with

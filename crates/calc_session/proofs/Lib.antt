@@ -7,6 +7,7 @@ pub mod SessionLemmas
 pub mod TellingLemmas
 pub mod DerivingLemmas
 pub mod ExpansionLemmas
+pub mod EstimatingLemmas
 pub mod CalculatingLemmas
 pub mod CountingLemmas
 pub mod OpeningLemmas

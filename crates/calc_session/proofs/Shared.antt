@@ -33,7 +33,9 @@ pub use Rattle.calc_session.specs.Solving.{AreUnmade, Become, IsNoEquation, IsRe
 pub use Rattle.calc_session.specs.Solving.{are_not_linear, are_not_made, are_not_read, are_not_written, are_read, are_too_many, at_left, at_right, does_not_fit, equation, first_not_linear}
 pub use Rattle.calc_session.specs.{Solving.{have_too_many_names, is_interrupted, is_linear_equation, is_told, nothing}, States.{State, first_state, state_of}, Steps.{IsReply, IsReplyToTree, Leaves}}
 pub use Rattle.calc_session.specs.{Steps.{LeavesAnswer, asks_in_vain, cannot_be_stored, is_evaluated, is_replied}, Telling.{HasFace}, declared.answers.LineAnswer.{LineAnswer}}
-pub use Rattle.calc_session.specs.{declared.answers.Refusal.{Refusal}, declared.evaluating.Evaluation.{Evaluation}, declared.evaluating.Evaluation.TheVariants.{Face, Refused, Undefined}}
+pub use Rattle.calc_session.specs.{declared.answers.Refusal.{Refusal}, declared.evaluating.Evaluation.{Evaluation}, declared.evaluating.Evaluation.TheVariants.{Face, Found, Refused, Undefined}}
+pub use Rattle.calc_session.specs.{Evaluations.{IsReplyToMade}, Findings.{finding_text}}
+pub use Rattle.calc_commands.specs.Commands.{asks_decimals, asks_sign, decimals, most_places, sign}
 pub use Rattle.calc_session.specs.{declared.parts.Parts.{Parts}, Faces.{Shows}, declared.solving.Solved.{Solved}}
 unfoldable pub use Rattle.calc_session.specs.Replies.{text_of}
 pub use Rattle.calc_terms.proofs.{FractionFacts.{no_one, no_zero, one_is, one_test, whole_denominator, whole_numerator, zero_is, zero_test}, Sizes.{payload_most}}

@@ -20,6 +20,7 @@ has_face Is others f e h = grind arith
 pub told_as : (Is : Reply → Type 0) (s : PoolState) (others : Forest) (e : Evaluation) (given : LineAnswer) (written : List ℕ) → ComesTo (λ r. Is (reported r)) IsWritable None others (forest s) e → Tells s e given written → TellsAs Is given written
 told_as Is s others (evaluation.Face h) given written (t, is, w, g) (a, b) = rw (a, b, given_told g) is
 told_as Is s others evaluation.Undefined given written is (a, b) = rw (a, b) is
+told_as Is s others (evaluation.Found f) given written is (a, b) = rw (a, b) is
 told_as Is s others (evaluation.Refused r) given written is (a, b) = rw (a, b) (subst Is (reported_refusal r) is, refl)
 
 pub tells_as : (Is Now : Reply → Type 0) (given : LineAnswer) (written : List ℕ) → ((r : Reply) → Is r → Now r) → TellsAs Is given written → TellsAs Now given written

@@ -13,12 +13,12 @@ use Rattle.reduce_port.specs.declared.fault.ReduceFault.{ReduceFault}
 use Rattle.reduce_port.specs.declared.fault.ReduceFault.TheVariants as fault
 use Rattle.tree_handles.specs.{Forest.{Forest}, Handed.{Gives, tree_of}, Standing.{KeepsRefusals, Refuses}}
 use Rattle.calc_session.specs.{declared.answers.Refusal.{Refusal}, declared.answers.Refusal.TheVariants.{Long, Character, Number, Syntax, Deep, Reserved, NamesFull, Full, Overflow, Interrupted}}
-use Rattle.calc_session.specs.{declared.answers.Refusal.TheVariants.{Circular, Command, NotPolynomial, NoDerivative, NotLinear, TooMany}, declared.answers.LineAnswer.{LineAnswer}}
+use Rattle.calc_session.specs.{declared.answers.Refusal.TheVariants.{Circular, Command, NotPolynomial, NoDerivative, NotLinear, TooMany, NoDecimal, Undecided}, declared.answers.LineAnswer.{LineAnswer}}
 use Rattle.calc_session.specs.{declared.answers.LineAnswer.TheVariants.{Blank, Shown, Stored, Undef, Report, Draw, Refused}, declared.evaluating.Evaluation.{Evaluation}}
 use Rattle.calc_session.specs.declared.evaluating.Evaluation.TheVariants as evaluation
 use Rattle.calc_session.specs.Replies.{Reason, Reply, blank, shown, stored, undefined, report, forgot, drawn, refused, long, character_at, number_at, syntax, deep, reserved, names_full, full}
-use Rattle.calc_session.specs.{Replies.{overflow, interrupted, circular, command, not_polynomial, no_derivative, not_linear, too_many, displayed, text_of, refusal_in}, States.{State}}
-use Rattle.calc_session.specs.Steps.{IsReply, Leaves, Step}
+use Rattle.calc_session.specs.{Replies.{overflow, interrupted, circular, command, not_polynomial, no_derivative, not_linear, too_many, no_decimal, undecided, displayed, text_of, refusal_in}, States.{State}}
+use Rattle.calc_session.specs.{Findings.{finding_text}, Steps.{IsReply, Leaves, Step}}
 
 abbrev pub reason_of : Refusal → Reason
 reason_of Long = long
@@ -37,6 +37,8 @@ reason_of NotPolynomial = not_polynomial
 reason_of NoDerivative = no_derivative
 reason_of (NotLinear equation) = not_linear equation
 reason_of TooMany = too_many
+reason_of NoDecimal = no_decimal
+reason_of Undecided = undecided
 
 abbrev pub reply_of : Refusal → Reply
 reply_of refusal = refused (reason_of refusal)
@@ -58,6 +60,8 @@ number_of NotPolynomial = 14
 number_of NoDerivative = 15
 number_of (NotLinear equation) = 16
 number_of TooMany = 17
+number_of NoDecimal = 18
+number_of Undecided = 19
 
 -- a command tells this
 abbrev pub IsReport : List ℕ → Reply → Type 0
@@ -117,10 +121,11 @@ pub record AnswersBy (Is : Reply → Type 0) (old : State) (answer : LineAnswer)
 abbrev pub AnswersUntold : (room bits : Option (Tree → ℕ)) → State → List Breaker → List ℕ → LineAnswer → List ℕ → State → List Breaker → Type 0
 AnswersUntold room bits old before line answer text new after = AnswersBy (IsReply room bits old before after line) old answer text new
 
--- what is told of an evaluation whose tree is shown and not kept: its text, or `undef`, or nothing yet where it is refused
+-- what is told of an evaluation whose tree is shown and not kept: its text, or `undef`, or what is found of a Number, or nothing yet where it is refused
 abbrev pub Tells : PoolState → Evaluation → LineAnswer → List ℕ → Type 0
 Tells s (evaluation.Face h) answer written = (answer ≡ Report) × (written ≡ text (tree_of h s))
 Tells s evaluation.Undefined answer written = (answer ≡ Report) × (written ≡ codes "undef")
+Tells s (evaluation.Found f) answer written = (answer ≡ Report) × (written ≡ finding_text f)
 Tells s (evaluation.Refused refusal) answer written = (answer ≡ Refused refusal) × (written ≡ [])
 
 -- among these replies there is the report of what is written, or the refusal, of which no text is written yet
@@ -146,6 +151,7 @@ pub record IsDisplayOf (store : Option (List ℕ)) (t shown : Tree) : Type 0 whe
 abbrev pub ComesTo : (Reply → Type 0) → (Tree → Type 0) → Option (List ℕ) → Forest → Forest → Evaluation → Type 0
 ComesTo Is Fits store others new (evaluation.Face h) = (t : Tree) × Is (displayed store t) × Fits t × Gives others new h (λ u. u ≡ t)
 ComesTo Is Fits store others new evaluation.Undefined = Is undefined
+ComesTo Is Fits store others new (evaluation.Found f) = Is (report (finding_text f))
 ComesTo Is Fits store others new (evaluation.Refused refusal) = Is (reply_of refusal)
 
 -- the refusal of the pool that it passes on

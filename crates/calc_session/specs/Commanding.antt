@@ -1,11 +1,11 @@
 -- The replies to commands, by cases on what is asked for.
 use Rattle.std.specs.{Prelude.{ℕ, ◌≡◌, List, Option, true, false, Result, Ok, Err, codes}, List.{list_any}, Str.{bytes_eq}}
 use Rattle.breakers.specs.{Breakers.{armed_first}, State.{State as Breaker}}
-use Rattle.calc_commands.specs.{Commands.{Asked, pool, dump, draw, layout, forget, after as arm, diff, solve, expand, help, explain, list_names}, Reports.{pool_report, dump_of, unknown_report, after_report}, Words.{help_report, word_report}}
+use Rattle.calc_commands.specs.{Commands.{Asked, pool, dump, draw, layout, forget, after as arm, diff, solve, expand, decimals, sign, help, explain, list_names}, Reports.{pool_report, dump_of, unknown_report, after_report}, Words.{help_report, word_report}}
 use Rattle.calc_terms.specs.Trees.{Tree}
 use Rattle.name_table.specs.Tables.{is_stored}
 use Rattle.node_pool.specs.{declared.full.Full.{Full}, State.{State as PoolState}}
-use Rattle.calc_session.specs.{Arguments.{bytes_before}, Calculating.{IsReplyToExpression}, Deriving.{IsReplyToDerivative}, Drawing.{serial_in}, Expanding.{IsReplyToExpansion}, Naming.{names_report}, Replies.{Reason}}
+use Rattle.calc_session.specs.{Arguments.{bytes_before}, Calculating.{IsReplyToExpression}, Deriving.{IsReplyToDerivative}, Drawing.{serial_in}, Estimating.{IsReplyToDecimal, IsReplyToSign}, Expanding.{IsReplyToExpansion}, Naming.{names_report}, Replies.{Reason}}
 use Rattle.calc_session.specs.{Replies.{Reply, report, forgot, drawn, refused, reserved, full}, Solving.{IsReplyToEquations}, States.{State, free_bytes}}
 
 -- a pool with the session's nodes, before it refused anything
@@ -41,6 +41,8 @@ IsTold room bits old before after line (expand text) reply = IsReplyToExpression
 IsTold room bits old before after line help reply = (reply ≡ report help_report) × (after ≡ before)
 IsTold room bits old before after line list_names reply = (reply ≡ report (names_report old)) × (after ≡ before)
 IsTold room bits old before after line (explain word) reply = (reply ≡ report (word_report word)) × (after ≡ before)
+IsTold room bits old before after line (decimals places text) reply = IsReplyToExpression old before after (bytes_before line text) text (IsReplyToDecimal room bits places (free_bytes old) before after) reply
+IsTold room bits old before after line (sign text) reply = IsReplyToExpression old before after (bytes_before line text) text (IsReplyToSign room bits (free_bytes old) before after) reply
 
 -- The replies to a command: a report, or a refusal; or the name is forgotten; or the last answer is to be drawn.
 pub data IsReplyToCommand (room bits : Option (Tree → ℕ)) (old : State) (before after : List Breaker) (line : List ℕ) : Asked → Reply → Type 0 where

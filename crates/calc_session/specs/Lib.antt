@@ -23,3 +23,6 @@ pub mod Kept
 pub mod Answers
 pub mod Faces
 pub mod Pools
+pub mod Estimating
+pub mod Lacking
+pub mod Findings

@@ -87,6 +87,7 @@ impl Parts {
                 write_undef(&mut self.text);
                 LineAnswer::Undef
             }
+            Evaluation::Found(_) => unreachable!(),
             Evaluation::Refused(refusal) => {
                 roll_back(&mut self.work.pool, mark);
                 LineAnswer::Refused(refusal)

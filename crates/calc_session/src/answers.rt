@@ -41,12 +41,16 @@ pub enum Refusal {
     NotLinear { equation: u8 },
     /// There are over six equations, or over six names in them.
     TooMany,
+    /// What is to be told as a decimal, or by its sign, is no Number.
+    NoDecimal,
+    /// A Number is too close to the middle of two decimals, or to 0.
+    Undecided,
 }
 
 impl Refusal {
     ghost use Rattle.calc_session.specs.Answers.{number_of};
 
-    /// The number of the kind of refusal, from 1 to 17; there is no 13.
+    /// The number of the kind of refusal, from 1 to 19; there is no 13.
     pub fn number(&self) -> u8
         ensures { result ≡ number_of self.now }
     {
@@ -67,6 +71,8 @@ impl Refusal {
             Refusal::NoDerivative => 15,
             Refusal::NotLinear { .. } => 16,
             Refusal::TooMany => 17,
+            Refusal::NoDecimal => 18,
+            Refusal::Undecided => 19,
         }
     }
 }

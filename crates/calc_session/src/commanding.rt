@@ -17,6 +17,7 @@ ghost use Rattle.calc_session.specs.Kept.{IsKept, state_in};
 
 use crate::differentiating::Derivative;
 use crate::drawing::write_layout;
+use crate::estimating::{DecimalPlaces, NumberSign};
 use crate::evaluating::refused;
 use crate::expanding::Expansion;
 use crate::naming::write_names;
@@ -109,6 +110,12 @@ impl Parts {
             Command::Explain(word) => {
                 write_word_help(word, &mut self.text);
                 LineAnswer::Report
+            }
+            Command::Decimal(places, expression) => {
+                self.calculate(&DecimalPlaces { places, reducer }, line, expression, watch)
+            }
+            Command::Sign(expression) => {
+                self.calculate(&NumberSign { reducer }, line, expression, watch)
             }
         }
     }

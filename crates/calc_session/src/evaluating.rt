@@ -24,6 +24,7 @@ ghost use Rattle.calc_session.specs.Replies.{refusal_in};
 ghost use Rattle.calc_session.specs.Steps.{IsReplyToTree};
 
 use crate::Refusal;
+use crate::estimating::Finding;
 use crate::parts::{Parts, Workspace};
 use breakers::{Breaker, Watch};
 use calc_parser::Parser;
@@ -41,6 +42,8 @@ pub enum Evaluation {
     Face(Handle),
     /// The line is `undef`.
     Undefined,
+    /// This is found of the Number that it is reduced to.
+    Found(Finding),
     Refused(Refusal),
 }
 

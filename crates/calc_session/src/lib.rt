@@ -7,6 +7,7 @@ mod calculating;
 mod commanding;
 mod differentiating;
 mod drawing;
+mod estimating;
 mod evaluating;
 mod expanding;
 mod forms;

@@ -6,6 +6,7 @@ ghost use Rattle.calc_session.specs.Forms.{solution_room};
 ghost use Rattle.calc_session.specs.Telling.{HasFace};
 
 use crate::LineAnswer;
+use crate::estimating::write_finding;
 use crate::evaluating::Evaluation;
 use crate::text::write_undef;
 use line_text::{Text, write_text};
@@ -27,6 +28,10 @@ pub fn tell(pool: &Pool, text: &mut Text, evaluation: Evaluation) -> LineAnswer
         }
         Evaluation::Undefined => {
             write_undef(text);
+            LineAnswer::Report
+        }
+        Evaluation::Found(finding) => {
+            write_finding(&finding, text);
             LineAnswer::Report
         }
         Evaluation::Refused(refusal) => LineAnswer::Refused(refusal),

@@ -41,6 +41,8 @@ pub fn write_refusal(text: &mut Text, refusal: Refusal)
             push_place(text, b"! not linear ", u16::from(equation));
         }
         Refusal::TooMany => text.push(b"! too many"),
+        Refusal::NoDecimal => text.push(b"! no decimal"),
+        Refusal::Undecided => text.push(b"! undecided"),
     }
 }
 

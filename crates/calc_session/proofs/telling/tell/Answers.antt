@@ -32,3 +32,6 @@ returns-in-Face-clause-told c =
     let written : c.write_text.new.text.bytes ≡ text (tree_of c.in-Face.face c.args.pool.now)
     = ap (λ (x : Content). x.bytes) c.write_text.ensures ∙ ap (λ (b : List ℕ). b ++ text (plain (tree_at c.id.result (forest c.args.pool.now)))) c.requires.empty ∙ ap text (same (goal.at.returns-in-Face-clause-told c).After-id) in
     subst (λ e. Tells c.args.pool.now e answer.Report c.write_text.new.text.bytes) (sym c.in-Face.is) (refl, written)
+
+pub returns-in-Found-clause-told : goal.returns-in-Found-clause-told
+returns-in-Found-clause-told c = subst (λ e. Tells c.args.pool.now e answer.Report c.write_finding.new.text.bytes) (sym c.in-Found.is) (refl, c.write_finding.ensures.text)

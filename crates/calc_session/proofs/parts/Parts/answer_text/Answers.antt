@@ -2,6 +2,7 @@ use Rattle.calc_session.proofs.Shared.{CountsRefusal, ◌≡◌, ◌∙◌, ◌+
 use Rattle.calc_session.proofs.{Shared.{given_rest, gives_as, with_answer, is_no_line, state_in, refusal_in, reason_of, IsRolledBack}, PoolLemmas.{kept_but, old_below, rolled_back}}
 use Rattle.calc_session.proofs.SessionLemmas.{answers_face, answers_refusal, answers_undefined, answers_unstorable, answers_vain, calm_refusal, face_expression, face_room, face_tree, leaves_answer}
 use Rattle.calc_session.proofs.parts.Parts.answer_text.Goals.{After-roll_back, After-roll_back-in-Refused}
+use Rattle.calc_session.proofs.{EstimatingLemmas.{no_report}, Shared.{finding_text}}
 use Rattle.std.proofs.Common.{None, ℕ, List, length, ◌+◌}
 use Rattle.calc_session.proofs.parts.Parts.answer_text.Goals as goal
 
@@ -135,3 +136,8 @@ returns-in-Refused-clause-kept g c =
     let back = refused_back g (goal.at.returns-in-Refused-clause-kept g c).After-roll_back-in-Refused in
     kept_but (refusal_in (reason_of c.in-Refused.refusal)) c.args.self.now _ c.requires.kept (record { stands = c.roll_back-in-Refused.ensures.stands; lists = omega (arith, c.evaluate.ensures.ready.lists, c.roll_back-in-Refused.ensures.kept.size) }) back.as_before c.evaluate.ensures.table
     (ap (λ (x : Content). x.capacity) c.evaluate.ensures.text) (ap (λ d. d.pool_size) c.evaluate.ensures.drafter)
+
+pub unreachable-requires : goal.unreachable-requires
+unreachable-requires g c =
+    let (t, r) = c.in-Ok.ensures.tree in
+    no_report g.R.Reducer.room g.R.Reducer.bits (state_in c.args.self.now) (states g.B.Breaker.state c.args.watch.now) (states g.B.Breaker.state c.evaluate.new.watch) (name_in c.in-Ok.store) t (finding_text c.in-Found.field-0) (c.in-Found.ensures.reply t (name_in c.in-Ok.store, r.line-is))

@@ -1,6 +1,6 @@
-use Rattle.calc_session.proofs.Shared.{◌≡◌, ◌∙◌, inl, refl, ap, subst, arith, states, IsCommandLine, pool, dump, layout, diff, solve, expand, asked_of, pool_report, dump_of, name_of, Content, CountsRefusal}
+use Rattle.calc_session.proofs.Shared.{◌≡◌, ◌∙◌, inl, refl, ap, subst, arith, states, IsCommandLine, pool, dump, layout, decimals, diff, sign, solve, expand, asked_of, pool_report, dump_of, name_of, Content, CountsRefusal}
 use Rattle.calc_session.proofs.Shared.{refusal_of_pool, IsTold, is_to_be_drawn, layout_reply, serial_in, drawn, report, state_in, Command}
-use Rattle.calc_session.proofs.{CalculatingLemmas.{equations_within, expression_within, text_within}, CommandLemmas.{calm_told, written}, CountingLemmas.{counted_as, none_known}}
+use Rattle.calc_session.proofs.{CalculatingLemmas.{equations_within, expression_within, places_within, rounded_within, signed_within, text_within}, CommandLemmas.{calm_told, written}, CountingLemmas.{counted_as, none_known}}
 use Rattle.calc_session.proofs.{EvaluationLemmas.{none_rose}, TellingLemmas.{tells_as, told_command}}
 use Rattle.calc_commands.specs.{Commands.{after as arms, explain, help, list_names}, Words.{help_report, word_report}}
 use Rattle.calc_session.specs.declared.answers.LineAnswer.TheVariants as answer
@@ -164,4 +164,38 @@ returns-in-Names g c =
       interrupted = calm_told answer.Report before before (λ place e. cc) (none_rose before);
       counted = inl (tt, record { size = refl; refusals = refl; last_refused = refl });
       kept = record { ready = c.requires.kept.ready; held = c.requires.kept.held; room = c.write_names.ensures.capacity ∙ c.requires.kept.room; served = c.requires.kept.served };
+    }
+
+pub calculate-requires-in-Decimal-clause-behind : goal.calculate-requires-in-Decimal-clause-behind
+calculate-requires-in-Decimal-clause-behind g c = rounded_within (subst (λ (k : Command). IsCommandLine c.args.line.now (asked_of k)) c.in-Decimal.is c.requires.asked)
+
+pub returns-in-Decimal : goal.returns-in-Decimal
+returns-in-Decimal g c =
+    let before = states g.B.Breaker.state c.args.watch.now in
+    let after = states g.B.Breaker.state c.calculate-in-Decimal.new.watch in
+    let s = state_in c.args.self.now in
+    let told = c.calculate-in-Decimal.ensures in
+    let text = c.calculate-in-Decimal.new.self.text.bytes in
+    record {
+      answers = rw (c.in-Decimal.is) (told_command g.R.Reducer.room g.R.Reducer.bits s (state_in c.calculate-in-Decimal.new.self) before after c.args.line.now (decimals c.in-Decimal.places c.in-Decimal.expression.now) c.calculate-in-Decimal.result text told.same told.told);
+      interrupted = told.interrupted;
+      counted = rw (c.in-Decimal.is) (counted_as (λ r. CountsRefusal r c.args.self.now.work.pool c.calculate-in-Decimal.new.self.work.pool) (refusal_of_pool c.calculate-in-Decimal.result) (λ lack k. k.is_known) (λ lack k. absurd k) told.counted);
+      kept = told.kept;
+    }
+
+pub calculate-requires-in-Sign-clause-behind : goal.calculate-requires-in-Sign-clause-behind
+calculate-requires-in-Sign-clause-behind g c = signed_within (subst (λ (k : Command). IsCommandLine c.args.line.now (asked_of k)) c.in-Sign.is c.requires.asked)
+
+pub returns-in-Sign : goal.returns-in-Sign
+returns-in-Sign g c =
+    let before = states g.B.Breaker.state c.args.watch.now in
+    let after = states g.B.Breaker.state c.calculate-in-Sign.new.watch in
+    let s = state_in c.args.self.now in
+    let told = c.calculate-in-Sign.ensures in
+    let text = c.calculate-in-Sign.new.self.text.bytes in
+    record {
+      answers = rw (c.in-Sign.is) (told_command g.R.Reducer.room g.R.Reducer.bits s (state_in c.calculate-in-Sign.new.self) before after c.args.line.now (sign c.in-Sign.expression.now) c.calculate-in-Sign.result text told.same told.told);
+      interrupted = told.interrupted;
+      counted = rw (c.in-Sign.is) (counted_as (λ r. CountsRefusal r c.args.self.now.work.pool c.calculate-in-Sign.new.self.work.pool) (refusal_of_pool c.calculate-in-Sign.result) (λ lack k. k.is_known) (λ lack k. absurd k) told.counted);
+      kept = told.kept;
     }
