@@ -1,1 +1,6 @@
 pub mod LimbParts
+pub mod Sums
+pub mod TermParts
+pub mod Closeness
+pub mod DigitRuns
+pub mod RationalDecimals

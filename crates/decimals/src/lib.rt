@@ -1,17 +1,13 @@
-//! Decimals of Numbers, correctly rounded, and their signs.
 #![tactic(auto)]
 
 mod decimal;
 mod deciding;
 mod limbs;
 mod partial;
+mod parts;
 mod rationals;
-mod sign;
+mod rounding;
 mod writing;
 
-pub use decimal::{Decimal, decimal_of};
-pub use sign::{Sign, sign_of};
-pub use writing::write_decimal;
+pub use decimal::Decimal;
 
-#[cfg(test)]
-mod tests;
