@@ -13,14 +13,14 @@ use Rattle.enclosures.proofs.{OrderLaws.{at_most_trans, plus_at_most}, Apart.{ap
 abbrev pub exact_bounds : Bounds
 exact_bounds = record { low = 1; high = 1; unit = 1 }
 
-are_exact : AreBounds 1 exact_bounds
+pub are_exact : AreBounds 1 exact_bounds
 are_exact = record { positive = omega arith; below = omega arith; above = omega arith }
 
-one_least : (z : ℤ) → least z exact_bounds ≡ 1
+pub one_least : (z : ℤ) → least z exact_bounds ≡ 1
 one_least (pos n) = refl
 one_least (negsuc n) = refl
 
-one_most : (z : ℤ) → most z exact_bounds ≡ 1
+pub one_most : (z : ℤ) → most z exact_bounds ≡ 1
 one_most (pos n) = refl
 one_most (negsuc n) = refl
 
