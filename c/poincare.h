@@ -102,6 +102,8 @@ enum {
     POINCARE_NO_DERIVATIVE = 115,  /* `:diff` is asked of a power that it does not derive */
     POINCARE_NOT_LINEAR = 116,     /* `:solve` is asked of an equation that is not linear */
     POINCARE_TOO_MANY = 117,       /* `:solve` is asked of over six equations, or of over six names */
+    POINCARE_NO_DECIMAL = 118,     /* `:decimal` or `:sign` is asked of what is no Number */
+    POINCARE_UNDECIDED = 119,      /* 896 binary places do not tell the decimal or the sign */
 
     /* Of poincare_text, poincare_draw and poincare_answers: there are more bytes than there is room for. The front that
      * fits is written, and count says how many there are. */

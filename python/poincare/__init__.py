@@ -14,6 +14,7 @@ What a line may be says docs/LANGUAGE.md. The module stands on the library for C
 
 import contextlib
 import ctypes
+import decimal
 import enum
 import mmap
 import operator
@@ -27,7 +28,7 @@ from ._held import Held
 from ._home import Home
 from ._library import LibraryMissing, library
 
-__all__ = ["Answer", "Kind", "LibraryMissing", "Pool", "PoolFull", "Refusal", "Session", "answers"]
+__all__ = ["Answer", "Kind", "LibraryMissing", "Pool", "PoolFull", "Refusal", "Rounded", "Session", "answers"]
 
 __version__ = "1.0.0"
 
@@ -76,6 +77,8 @@ class Refusal(enum.Enum):
     NO_DERIVATIVE = 15
     NOT_LINEAR = 16
     TOO_MANY = 17
+    NO_DECIMAL = 18
+    UNDECIDED = 19
 
 
 @dataclass(frozen=True)
@@ -88,6 +91,12 @@ class Answer:
 
     def __str__(self) -> str:
         return self.text
+
+
+class Rounded(decimal.Decimal):
+    """A decimal, with how far the value may be from it: not at all, or half a unit of its last place."""
+
+    error: decimal.Decimal
 
 
 class Pool(NamedTuple):
@@ -170,6 +179,18 @@ class Session:
         if code > _library.REFUSED:
             return Answer(Kind.REFUSED, told, Refusal(code - _library.REFUSED))
         return Answer(Kind(code), told)
+
+    def decimal(self, line: str, places: int) -> Rounded:
+        """The nearest decimal of a line with so many places, at most 38. Raises ValueError where there is none.
+
+        Its `error` is 0 where the decimal is the value, and else half a unit of its last place.
+        """
+        answer = self.line(f":decimal {operator.index(places)} {line}")
+        if answer.kind is Kind.REFUSED or answer.text == "undef":
+            raise ValueError(answer.text)
+        told = Rounded(answer.text.removeprefix("≈"))
+        told.error = decimal.Decimal(5).scaleb(-places - 1) if answer.text.startswith("≈") else decimal.Decimal(0)
+        return told
 
     def picture(self) -> str:
         """The last answer, drawn: rows, each ended by a newline. Raises PoolFull where it finds no room in the pool."""

@@ -266,6 +266,8 @@ y = 6
 | :diff X LINE      the derivative of the line with respect to the name X
 | :solve EQUATIONS  the values of the names in linear equations
 | :expand LINE      the line as a sum of multiples of products of names
+| :decimal N LINE  the nearest decimal of the line with N places, at most 38
+| :sign LINE       whether the line is positive, negative or zero
 :help diff = :diff X LINE      the derivative of the line with respect to the name X
 | for example :diff x x^3/3
 :help help = :help [WORD]      these lines, or that of a word with an example
@@ -497,4 +499,156 @@ $ --draw --gen 1
 $ --draw --gen=1 --pool=1024
 | lines 2000 shown 1750 stored 250 undef 0 refused 0 bytes 27383
 
+:decimal 20 √(10^20+1)-10^10 = ≈0.00000000005000000000
+:decimal 30 √(10^20+1)-10^10 = ≈0.000000000050000000000000000000
+:decimal 10 √(10^20+1)-10^10 = ≈0.0000000000
+:decimal 11 √(10^20+1)-10^10 = ≈0.00000000005
+:decimal 0 1/2+(√(2)-1)^99 = ≈1
+:decimal 0 1/2-(√(2)-1)^99 = ≈0
+:decimal 0 -1/2-(√(2)-1)^99 = ≈-1
+:decimal 0 (√(2)-1)^99-1/2 = ≈0
+:decimal 38 (√(2)-1)^99 = ≈0.00000000000000000000000000000000000001
+:decimal 2 √(2)+√(3)-√(10) = ≈-0.02
+:decimal 0 1/2+((√(2)-1)^24×(2-√(3))^16×(5-2√(6))^9)^4 = ≈1
+:decimal 0 1/2-((√(2)-1)^24×(2-√(3))^16×(5-2√(6))^9)^4 = ≈0
+:decimal 9 √(10^18+1)-10^9 = ≈0.000000000
+:decimal 10 √(10^18+1)-10^9 = ≈0.0000000005
+
+:decimal 3 1/8 = 0.125
+:decimal 10 ans = 0
+:decimal 2 1/8 = ≈0.13
+:decimal 38 1/8 = 0.125
+:decimal 0 2 = 2
+:decimal 5 2 = 2
+:decimal 1 -5/2 = -2.5
+:decimal 3 100 = 100
+:decimal 4 0.0500 = 0.05
+:decimal 2 0/7 = 0
+:decimal 1 √(2)×√(2) = 2
+:decimal 3 x-x = 0
+:decimal 6 (√(2)+1)×(√(2)-1)+1/64 = 1.015625
+:decimal 5 1/64 = ≈0.01563
+:decimal 4 1/64 = ≈0.0156
+:decimal 38 2^-38 = 0.00000000000363797880709171295166015625
+:decimal 37 2^-38 = ≈0.0000000000036379788070917129516601563
+:decimal 38 170141183460469231731687303715884105727/2 = 85070591730234615865843651857942052863.5
+
+:decimal = ! command
+:decimal 3 = ! command
+:decimal x = ! command
+:decimal x 1 = ! command
+:decimal 39 1/3 = ! command
+:decimal -1 1/3 = ! command
+:decimal 3.5 1/3 = ! command
+:decimal 3(1/3) = ! command
+:decimals 3 1 = ! command
+:decimal 000000000000000000003 1/3 = ! command
+:decimal 3 1/3→x = ! command
+:decimal 3 1/3→ans = ! command
+:decimal 3 1/ = ! syntax
+:decimal 3 2$3 = ! character 13
+:decimal 3 170141183460469231731687303715884105728 = ! number 12
+:decimal 2 ---------------------------------------------------------------1 = -1
+:decimal 2 ----------------------------------------------------------------1 = ! deep
+:decimal 2 x = ! no decimal
+:decimal 2 x+1/3 = ! no decimal
+:decimal 2 √(x) = ! no decimal
+:decimal 3 1/(1+√(2)+√(3)) = ! no decimal
+:decimal 3 2^(1/3) = ! no decimal
+:decimal 3 √(1+√(2)) = ! no decimal
+:decimal 2 1/0 = undef
+:decimal 2 √(-1) = undef
+:decimal 2 undef+x = undef
+:decimal 2 1/(x-x) = undef
+:decimal 2 2^127 = ! overflow 2^127
+:decimal 2 x+2^127 = ! overflow 2^127
+:decimal 2 1/0+2^127 = ! overflow 2^127
+:decimal 5 3 4 = ! syntax
+:decimal 38 1/3+ = ! syntax
+
+:decimal 4 √(2)+√(3) = ≈3.1463
+:decimal 0 √(2) = ≈1
+:decimal 0 √(3) = ≈2
+:decimal 2 -√(2) = ≈-1.41
+:decimal 10 √(2)/2 = ≈0.7071067812
+:decimal 20 (1+√(5))/2 = ≈1.61803398874989484820
+:decimal 4 1/(√(2)+√(3)) = ≈0.3178
+:decimal 3 √(2)-√(3) = ≈-0.318
+:decimal 8 √(8)+√(18) = ≈7.07106781
+:decimal 38 √(2) = ≈1.41421356237309504880168872420969807857
+:decimal 38 √(170141183460469231731687303715884105727) = ≈13043817825332782212.34957180625250836884494395417577422670
+:decimal 38 170141183460469231731687303715884105727×√(2) = ≈240615969168004511545033772477625056925.70076717869005332820652890350169080968
+:decimal 3 √(2)/1000000 = ≈0.000
+:decimal 3 -√(2)/1000000 = ≈0.000
+:decimal 5 √(1002301750441) = ≈1001150.21372
+:decimal 5 2^(1/2) = ≈1.41421
+:decimal 5 2^(-3/2) = ≈0.35355
+
+:decimal 5 1/3 = ≈0.33333
+:decimal 5 2/3 = ≈0.66667
+:decimal 0 2/3 = ≈1
+:decimal 0 -2/3 = ≈-1
+:decimal 0 1/3 = ≈0
+:decimal 3 -1/3000 = ≈0.000
+:decimal 3 -2/3000 = ≈-0.001
+:decimal 1 99/100 = ≈1.0
+:decimal 2 99.999 = ≈100.00
+:decimal 4 -0.00004 = ≈0.0000
+:decimal 10 355/113 = ≈3.1415929204
+:decimal 38 1/3 = ≈0.33333333333333333333333333333333333333
+:decimal 38 1/170141183460469231731687303715884105727 = ≈0.00000000000000000000000000000000000001
+:decimal 37 170141183460469231731687303715884105727/3 = ≈56713727820156410577229101238628035242.3333333333333333333333333333333333333
+
+√(8)→r = 2×√(2)
+:decimal 3 r = ≈2.828
+ans = 2×√(2)
+:decimal 3 r+x = ! no decimal
+3→x = 3
+:decimal 3 r+x = ≈5.828
+:decimal 007 x = 3
+:pool = pool 64/32768 nodes 5 trees 2
+ans = 3
+:after 1 = after 1
+:decimal 2 1/3+1 = ! interrupted
+:decimal 2 1/3+1 = ≈1.33
+:decimal 2 y→y = ! command
+:forget r = forgot r
+:decimal 2 r = ! no decimal
+:decimal 2 111111111111111111111111111111 = 111111111111111111111111111111
+
+$ --pool 64
+:decimal 2 1+1+1+1 = ! full needed 16 free 0
+:decimal 3 ans = 0
+:decimal 2 x+1+1+1 = ! full needed 16 free 0
+:decimal 2 1+ = ! syntax
+
+:decimal 0 1/2 = ≈1
+:decimal 0 -1/2 = ≈-1
+:decimal 0 3/2 = ≈2
+:decimal 0 5/2 = ≈3
+:decimal 0 -5/2 = ≈-3
+:decimal 2 1/8 = ≈0.13
+:decimal 2 -1/8 = ≈-0.13
+:decimal 1 0.25 = ≈0.3
+:decimal 1 0.35 = ≈0.4
+:decimal 1 0.05 = ≈0.1
+:decimal 1 0.049 = ≈0.0
+:decimal 37 2^-38 = ≈0.0000000000036379788070917129516601563
+:decimal 0 85070591730234615865843651857942052863/2 = ≈42535295865117307932921825928971026432
+
+:sign √(2)-3/2 = negative
+:sign √(10^20+1)-10^10 = positive
+:sign x-x = zero
+:sign -1/3 = negative
+:sign 1/2 = positive
+:sign (√(2)-1)^99 = positive
+:sign √(2)+√(3)-√(10) = negative
+:sign 1/0 = undef
+:sign x = ! no decimal
+:sign 1+ = ! syntax
+:sign = ! command
+:sign 1→x = ! command
+7→x = 7
+:sign x-8 = negative
+:pool = pool 16/32768 nodes 1 trees 1
 ";
