@@ -1,5 +1,5 @@
 -- What `clap` makes of the words of the command line, and the settings that they spell.
-use Rattle.poincare_run.proofs.Shared.{◌≡◌, ◌∙◌, ◌⊎◌, ℕ, zero, suc, ◌+◌, ◌≤◌, ◌&&◌, ◌||◌, ◌==◌, ◌^◌, nat_le, List, [], ◌∷◌, ◌++◌, length, take, drop, map, Bool, true, false, Option, Some, None}
+use Rattle.poincare_run.proofs.Shared.{◌≡◌, ◌∙◌, ◌⊎◌, ℕ, zero, suc, ◌+◌, ◌≤◌, ◌&&◌, ◌==◌, ◌^◌, nat_le, List, [], ◌∷◌, ◌++◌, length, take, drop, map, Bool, true, false, Option, Some, None}
 use Rattle.poincare_run.proofs.Shared.{nat_lt, if◌then◌else◌, refl, sym, ap, ap₂, subst, inl, inr, codes, arith, append-nil, ⊤, digits_value, is_ascii_digit, fold, list_any, list_all, option_map_or}
 use Rattle.poincare_run.proofs.Shared.{bytes_eq, append_assoc, bytes_eq-Decides, Held, Outcome, Row, Rule, Step, Text, Waiting, Walk, after_flag, after_step, arg_by_id, arg_by_long, at_row, bundle}
 use Rattle.poincare_run.proofs.Shared.{bundle_met, has_row, idle, long_or_other, more_values, option, plain, plain_word, positional, settled, settled_rows, short_or_plain, trailing, used, used_by_id}

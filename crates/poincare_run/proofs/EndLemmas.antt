@@ -1,6 +1,6 @@
 -- Lemmas on the loop over the input, and how it ends.
 use Rattle.std.proofs.Common.{◌≡◌, inl, inr, ℕ, ◌-◌, ◌≤◌, ◌<◌, List, [], ◌++◌, length, Option, refl, subst, arith, append-nil, length-append}
-use Rattle.poincare_run.proofs.Shared.{Appends, Gives, Gives-nil, Gives-trans, IsAtEnd, SourceBytes, HasAnswered, Outset, lines_of, whole_lines, rest_of, Moment, Holds, session_limit, Writes, WritesPart, ReadsAll, ReadsLimit, WriteStops, Answered}
+use Rattle.poincare_run.proofs.Shared.{Appends, Gives, Gives-nil, Gives-trans, IsAtEnd, SourceBytes, lines_of, whole_lines, rest_of, Moment, Holds, session_limit, Writes, WritesPart, ReadsAll, ReadsLimit, WriteStops, Answered}
 use Rattle.poincare_run.proofs.Shared.{Continues, Breaks, Goes, IsUnderWay, Place, Appends-nil, Appends-trans, AppendsPart-after}
 
 pub begins : (dialog : Place) (t : SourceBytes) (k : Option (List ℕ)) → Holds dialog.line [] → IsUnderWay dialog.now t t k k session_limit dialog
@@ -73,10 +73,6 @@ module _ (start : Moment) (t t' : SourceBytes) (k k' : Option (List ℕ)) (left 
     within = omega (arith, h.limit);
     written = inr (end, broken start (lines_of h.input) h.out k k' j h.appended (next start h.input h.out h.answered));
   }
-
-  -- before the next read all whole lines are answered
-  pub has_answered : (outset : Outset) → outset ≡ record { start = start; told = t; taken = k } → HasAnswered outset t' k' dialog
-  has_answered outset is = rw (is) (record { input = h.input; out = h.out; read = h.read; answered = h.answered; appended = h.appended })
 
   pub limit_reached : left ≡ 0 → ReadsLimit start t t' k k'
   limit_reached none = grind (arith)

@@ -24,7 +24,7 @@ pub use Rattle.poincare_run.specs.{CommandLine.{command_line, number_in, option_
 pub use Rattle.poincare_run.specs.{Endings.{session_limit}, Generated.{digits_for, first_number, line_of, next_seed, pattern, second_number, with_digits}}
 pub use Rattle.poincare_run.specs.{Lines.{all_but_last, is_newline, last_of, lines_of, parts}, Options.{Generated, Interrupt, Key, Pool, Reading, is_pool_size, is_session_number, key_of, named_in}}
 pub use Rattle.poincare_run.specs.Options.{no_values, options_with, read, size_in, with_draw, with_generated, with_interrupt, with_next, with_number, with_pool, with_value, with_word}
-pub use Rattle.poincare_run.specs.Progress.{Answered, AnswersLine, Breaks, Continues, EndsAs, EndsFrom, FailsAtLine, Goes, HasAnswered, IfNoMemory, IsSummed, IsUnderWay, Outset, Place, StopsReading}
+pub use Rattle.poincare_run.specs.Progress.{Answered, AnswersLine, Breaks, Continues, EndsAs, EndsFrom, FailsAtLine, Goes, IfNoMemory, IsSummed, IsUnderWay, Outset, Place, StopsReading}
 pub use Rattle.poincare_run.specs.Progress.{StopsWriting}
 pub use Rattle.poincare_run.specs.{Progress.{SumsUpAs, TakesLine, Tallied, place_of, status}, Settings.{Asks, IsDrawn, IsNumber, IsSpelled, OptionsAreAsked, OrderIsFree, Setting, Spells, draw}}
 pub use Rattle.poincare_run.specs.{Settings.{draws_of, name_of, text_in, texts_of, value}, Steps.{Chain, LineStep, Moment, Steps, Turn, all_written, bits, is_drawn, picture_if, picture_text}}

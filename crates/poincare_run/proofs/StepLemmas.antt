@@ -1,7 +1,7 @@
 -- Lemmas on the steps of a session, and on how far it has come.
 use Rattle.std.proofs.Common.{◌≡◌, ◌∙◌, ◌⊎◌, inl, inr, ℕ, List, [], ◌∷◌, ◌++◌, length, ◌<◌, Bool, true, false, Option, refl, sym, ap, subst, arith, append_assoc, append-nil}
-use Rattle.poincare_run.proofs.Shared.{leb-true, leb-false, strip_carriage_return, LineAnswer, Blank, Shown, Stored, Undef, Report, Draw, Refused, Answers, IsAnswer, IsReport, printed, Reason, Reply}
-use Rattle.poincare_run.proofs.Shared.{report, forgot, State, IsReply, asks_in_vain, is_replied, LineBuffer, is_newline, lines_of, whole_lines, rest_of, all_written, bits, Chain, LineStep, Moment}
+use Rattle.poincare_run.proofs.Shared.{leb-true, leb-false, strip_carriage_return, LineAnswer, Blank, Shown, Stored, Draw, Answers, IsAnswer, IsReport, printed, Reason, Reply}
+use Rattle.poincare_run.proofs.Shared.{State, IsReply, asks_in_vain, is_replied, LineBuffer, is_newline, lines_of, whole_lines, rest_of, all_written, bits, Chain, LineStep, Moment}
 use Rattle.poincare_run.proofs.Shared.{Turn, is_drawn, picture_if, picture_text, replies_of, room, Steps, with_newline, written, Holds, StandsFor, Answered, AnswersLine, FailsAtLine, Continues}
 use Rattle.poincare_run.proofs.{Shared.{Breaks, Goes, TakesLine, Place, Appends-nil, Appends-trans, AppendsPart-after}, LineLemmas.{whole_lines-newline, rest_of-newline, whole_lines-other}}
 use Rattle.poincare_run.proofs.LineLemmas.{rest_of-other, whole_lines-front}

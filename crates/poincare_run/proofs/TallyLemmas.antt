@@ -1,6 +1,6 @@
 -- Lemmas on counts of answers.
-use Rattle.poincare_run.proofs.Shared.{◌≡◌, ◌∙◌, ◌⊎◌, inl, inr, ℕ, ◌+◌, ◌≤◌, List, [], ◌∷◌, ◌++◌, false, refl, sym, ap, subst, arith, length-append, sum_by_push, LineAnswer, Blank, Shown, Stored}
-use Rattle.poincare_run.proofs.Shared.{Undef, Report, Draw, Refused, IsAnswer, IsReport, Reply, report, forgot, Holds, is_newline, rest_of, whole_lines, Place, TakesLine, Tallied, Chain, Moment}
+use Rattle.poincare_run.proofs.Shared.{◌≡◌, ◌∙◌, ◌⊎◌, ℕ, ◌+◌, ◌≤◌, List, [], ◌∷◌, ◌++◌, false, refl, sym, ap, subst, arith, length-append, sum_by_push, LineAnswer, Blank, Shown, Stored}
+use Rattle.poincare_run.proofs.Shared.{Undef, Report, Draw, Refused, IsAnswer, IsReport, Reply, Holds, is_newline, rest_of, whole_lines, Place, TakesLine, Tallied, Chain, Moment}
 use Rattle.poincare_run.proofs.Shared.{replies_of, Sort, as_shown, as_stored, as_undefined, as_refusal, as_other, sort_of, one_shown, one_stored, one_undefined, one_refusal, how_many, text_length}
 use Rattle.poincare_run.proofs.{Shared.{tally_of, Tally}, LineLemmas.{whole_lines-newline, rest_of-newline, whole_lines-other, rest_of-other}, StepLemmas.{chain_more, replies-more}}
 

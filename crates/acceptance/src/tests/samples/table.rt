@@ -318,4 +318,61 @@ x^2y
 
 √(x+1)^2
 | 1+x
+
+:decimal 4 √(2)+√(3)
+| ≈3.1463
+
+:decimal 3 1/8
+:decimal 2 1/8
+:decimal 5 1/3
+| 0.125
+| ≈0.13
+| ≈0.33333
+
+:decimal 20 (1+√(5))/2
+| ≈1.61803398874989484820
+
+√(8)→r
+:decimal 3 r
+ans
+| 2×√(2)
+| ≈2.828
+| 2×√(2)
+
+:sign √(2)-3/2
+:sign x-x
+| negative
+| zero
+
+:decimal 2 1/0
+:decimal 2 x
+| undef
+| ! no decimal
+
+:decimal 39 1/3
+| ! command
+
+1/(√(2)+√(3))
+:decimal 10 ans
+x+1→y
+y^2-x^2
+:expand ans
+:diff x √(y)
+:solve y=3
+2^127
+√(z)/(1+z)
+:draw
+| -√(2)+√(3)
+| ≈0.3178372452
+| 1+x
+| -x^2+(1+x)^2
+| 1+2×x
+| 1/(2×√(1+x))
+| x=2
+| ! overflow 2^127
+| √(z)/(1+z)
+|  _
+| √z
+| ---
+| 1+z
 ";

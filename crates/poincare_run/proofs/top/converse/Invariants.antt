@@ -1,4 +1,4 @@
-use Rattle.poincare_run.proofs.Shared.{Outset, place_of}
+use Rattle.poincare_run.proofs.Shared.{place_of}
 use Rattle.poincare_run.proofs.top.converse.Given as goal
 
 -- the dialog begins here

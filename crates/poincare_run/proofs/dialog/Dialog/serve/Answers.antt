@@ -1,11 +1,8 @@
-use Rattle.poincare_run.proofs.{Shared.{◌≡◌, ◌∙◌, take, length, refl, arith, length-take-le, stops_later}, EndLemmas.{begins, reads_on, write_fails, ends, end_fails, has_answered}}
+use Rattle.poincare_run.proofs.{Shared.{◌≡◌, ◌∙◌, take, length, refl, arith, length-take-le, stops_later}, EndLemmas.{begins, reads_on, write_fails, ends, end_fails}}
 use Rattle.poincare_run.proofs.dialog.Dialog.serve.Goals as goal
 
 pub loop-left-init : goal.loop-left-init
-loop-left-init g c = record { under_way = begins _ _ _ c.requires.fresh; reads_calm = refl; writes_calm = refl }
-
-pub f-read_piece-requires-answered : goal.f-read_piece-requires-answered
-f-read_piece-requires-answered g c = has_answered _ _ _ _ _ _ _ c.loop-left.invariant.under_way g.outset c.requires.outset
+loop-left-init g c = record { under_way = begins _ _ _ c.requires.1.1.1.1.0; reads_calm = refl; writes_calm = refl }
 
 -- the source failed
 pub returns-in_default-clause-reads : goal.returns-in_default-clause-reads
