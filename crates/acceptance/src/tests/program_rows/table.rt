@@ -266,8 +266,8 @@ y = 6
 | :diff X LINE      the derivative of the line with respect to the name X
 | :solve EQUATIONS  the values of the names in linear equations
 | :expand LINE      the line as a sum of multiples of products of names
-| :decimal N LINE  the nearest decimal of the line with N places, at most 38
-| :sign LINE       whether the line is positive, negative or zero
+| :decimal N LINE   the nearest decimal of the line with N places, at most 38
+| :sign LINE        whether the line is positive, negative or zero
 :help diff = :diff X LINE      the derivative of the line with respect to the name X
 | for example :diff x x^3/3
 :help help = :help [WORD]      these lines, or that of a word with an example
