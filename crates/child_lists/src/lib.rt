@@ -5,6 +5,6 @@ mod list;
 mod placing;
 mod sums;
 
-pub use list::{ChildList, FEW, MANY, NONE};
+pub use list::{ChildList, FEW, MANY, MOST, NONE};
 pub use placing::{next_child, put_before};
 pub use sums::{exchange_child, insert_child, remove_child};

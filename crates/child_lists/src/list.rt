@@ -18,8 +18,11 @@ pub const NONE: usize = 0;
 /// So many children are listed in a small list. A list is cleared when it is made.
 pub const FEW: usize = 64;
 
-/// So many are listed at most.
+/// So many children are listed in a large list.
 pub const MANY: usize = 4_096;
+
+/// So many are listed at most: no sum of different roots has more children, even in the greatest pool.
+pub const MOST: usize = 32_768;
 
 /// The identifiers of a node's children in their order, where there is room for all of them; else they are found by
 /// steps from the first.

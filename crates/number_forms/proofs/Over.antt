@@ -1,7 +1,7 @@
 -- Numbers over the common denominators of what they are worth, and of powers of it.
-use Rattle.number_forms.proofs.Shared.{◌≡◌, ℕ, ◌+◌, ◌*◌, ◌/◌, ◌%◌, ◌^◌, ◌≢◌, ◌++◌, Result, sym, subst, arith, IfOk, pow-add, value, Same, Surd, surd_times, surd_power, surd_power-squared}
+use Rattle.number_forms.proofs.Shared.{◌≡◌, ℕ, suc, ◌+◌, ◌*◌, ◌/◌, ◌%◌, ◌^◌, ◌≢◌, ◌++◌, Result, sym, subst, arith, IfOk, pow-add, value, Same, Surd, surd_times, surd_power, surd_power-squared}
 use Rattle.number_forms.proofs.Shared.{surd_power-multiplied, Same-trans, IsNoLarger, SharesPowers, Parts, SharesDenominators, power_once, parts_append, parts_times, no_larger, parts_left}
-use Rattle.number_forms.proofs.{Shared.{parts_right, Tree, IsNumberOf, IsNumberOver, IsPowerOver, State, Forest, tree_of, Gives, forest, given_told}, PowerSteps.{half_even, half_odd}}
+use Rattle.number_forms.proofs.{Shared.{parts_right, Tree, IsNumberOf, IsNumberOver, IsPowerOver, State, Forest, tree_of, Gives, forest, given_told}, PowerSteps.{half_even, half_last}}
 
 pub of_over : {v : Surd} {t : Tree} → IsNumberOver v t → IsNumberOf v t
 of_over n = record { number = n.number; worth = n.worth }
@@ -41,12 +41,18 @@ squared_power v h q n i j = record {
   parts = subst (λ k. SharesPowers v k (value q)) (omega arith) (shares_times v (value h) (value h) (value q) n n i.parts i.parts j.parts);
 }
 
+pub next_power : (q a t : Tree) (k : ℕ) → IsPowerOver (value a) k q → IsNumberOver (surd_times (value q) (value a)) t → IsPowerOver (value a) (k + 1) t
+next_power q a t k i over = record {
+  number = over.number;
+  worth = Same-trans over.worth (subst (λ (m : ℕ). Same (surd_times (value q) (value a)) (surd_power (value a) m)) (next k) (surd_power-multiplied (value a) (value q) k i.worth));
+  parts = shares_times (value a) (value q) (value a) (value t) k 1 i.parts (shares_once (value a)) over.parts;
+}
+  where
+    next : (m : ℕ) → suc m ≡ m + 1
+    next m = omega arith
+
 pub even_power : (v : Surd) (t : Tree) (n : ℕ) → n % 2 ≡ 0 → IsPowerOver v (2 * (n / 2)) t → IsPowerOver v n t
 even_power v t n e i = subst (λ k. IsPowerOver v k t) (half_even n e) i
 
 pub odd_power : (q a t : Tree) (n : ℕ) → n % 2 ≢ 0 → IsPowerOver (value a) (2 * (n / 2)) q → IsNumberOver (surd_times (value q) (value a)) t → IsPowerOver (value a) n t
-odd_power q a t n e i k = record {
-  number = k.number;
-  worth = Same-trans k.worth (subst (λ (m : ℕ). Same (surd_times (value q) (value a)) (surd_power (value a) m)) (half_odd n e) (surd_power-multiplied (value a) (value q) (2 * (n / 2)) i.worth));
-  parts = subst (λ m. SharesPowers (value a) m (value t)) (omega (arith, half_odd n e)) (shares_times (value a) (value q) (value a) (value t) (2 * (n / 2)) 1 i.parts (shares_once (value a)) k.parts);
-}
+odd_power q a t n e i over = subst (λ k. IsPowerOver (value a) k t) (sym (half_last n e)) (next_power q a t (2 * (n / 2)) i over)

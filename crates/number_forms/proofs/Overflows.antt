@@ -43,13 +43,12 @@ power_overflows_more v m n o l p = record {
 pub square_overflows : (v : Surd) (h : Tree) (n : ℕ) (o : Overflow) → 1 ≤ n / 2 → IsPowerOver v (n / 2) h → SquareOverflows (value h) o → PowerOverflows v n o
 square_overflows v h n o l i p = grind arith
 
-pub last_overflows : (q a : Tree) (n : ℕ) (o : Overflow) → 1 ≤ n / 2 → 2 * (n / 2) + 1 ≤ n → IsPowerOver (value a) (2 * (n / 2)) q → IsPowerOver (value a) 1 a
-    → ProductOverflows (value q) (value a) o → PowerOverflows (value a) n o
-last_overflows q a n o l w i j p = record {
-  low = 2 * (n / 2);
+pub last_overflows : (q a : Tree) (k n : ℕ) (o : Overflow) → 1 ≤ k → k < n → IsPowerOver (value a) k q → IsPowerOver (value a) 1 a → ProductOverflows (value q) (value a) o → PowerOverflows (value a) n o
+last_overflows q a k n o l w i j p = record {
+  low = k;
   high = 1;
-  within = w;
-  low_positive = omega arith;
+  within = omega (arith, w);
+  low_positive = l;
   high_positive = omega arith;
   first = q;
   second = a;

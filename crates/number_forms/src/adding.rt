@@ -30,7 +30,7 @@ use crate::read::term_count;
 use crate::roots;
 use crate::term::listed_term;
 use calc_terms::{Kind, Rat};
-use child_lists::{ChildList, FEW, MANY, NONE};
+use child_lists::{ChildList, FEW, MANY, MOST, NONE};
 use node_pool::{Full, Id, Pool};
 use std::cmp::Ordering;
 use surd_terms::Term;
@@ -135,8 +135,10 @@ pub(crate) fn add_others(pool: &mut Pool, a: Handle, b: Handle) -> Result<Handle
         add_within::<NONE>(pool, a, b)
     } else if terms <= FEW {
         add_within::<FEW>(pool, a, b)
-    } else {
+    } else if terms <= MANY {
         add_within::<MANY>(pool, a, b)
+    } else {
+        add_within::<MOST>(pool, a, b)
     }
 }
 

@@ -32,7 +32,7 @@ use crate::read::term_count;
 use crate::roots;
 use crate::term::{listed_term, nth_term};
 use calc_terms::Kind;
-use child_lists::{ChildList, FEW, MANY, NONE};
+use child_lists::{ChildList, FEW, MANY, MOST, NONE};
 use node_pool::{Id, Pool};
 use surd_terms::{Term, product_with};
 use tree_handles::{Handle, NumberFault, node, release};
@@ -100,8 +100,10 @@ pub(crate) fn product_of(pool: &mut Pool, a: &Handle, b: &Handle) -> Result<Hand
         product_within::<NONE>(pool, a, b)
     } else if terms <= FEW {
         product_within::<FEW>(pool, a, b)
-    } else {
+    } else if terms <= MANY {
         product_within::<MANY>(pool, a, b)
+    } else {
+        product_within::<MOST>(pool, a, b)
     }
 }
 

@@ -95,8 +95,26 @@ fn power_of(pool: &mut Pool, a: &Handle, n: u128) -> Result<Handle, NumberFault>
         return square_or_cube(pool, a, n);
     }
     let half = power_of(pool, a, n / 2)?;
+    if is_longer_squared(pool, &half, a, n) {
+        return multiplied(pool, half, a, n / 2, n);
+    }
     let square = squared(pool, half)?;
-    completed(pool, square, a, n)
+    multiplied(pool, square, a, 2 * (n / 2), n)
+}
+
+/// Whether more products of two terms are made where the power for half an exponent is squared than where it is multiplied by
+/// the Number until the exponent is reached. By then it has four times as many terms at most, or so it is guessed.
+fn is_longer_squared(pool: &Pool, half: &Handle, a: &Handle, n: u128) -> bool
+    requires stands { Stands pool.now }
+    requires half { IsHanded half.now (forest pool.now) }
+    requires half_number { is_number (tree_of half.now pool.now) ≡ true }
+    requires handed { IsHanded a.now (forest pool.now) }
+    requires number { is_number (tree_of a.now pool.now) ≡ true }
+    ensures few { IsTrue result → n ≤ 64 }
+{
+    let squared = u128::from(roots::term_count(pool, half)) / 8;
+    let multiplied = u128::from(roots::term_count(pool, a));
+    n <= 64 && multiplied * (n - n / 2) < squared
 }
 
 /// The same for the exponents 2 and 3, as values where the terms are few.
@@ -117,27 +135,36 @@ fn square_or_cube(pool: &mut Pool, a: &Handle, n: u128) -> Result<Handle, Number
         return Ok(place_terms(pool, terms.as_slice())?);
     }
     let square = square_of(pool, a)?;
-    completed(pool, square, a, n)
+    multiplied(pool, square, a, 2, n)
 }
 
-/// The power of a Number, which stays, from that for twice half its exponent: the last tree, which is consumed.
-fn completed(pool: &mut Pool, square: Handle, a: &Handle, n: u128) -> Result<Handle, NumberFault>
+/// The power of a Number, which stays, from one for a lower exponent: the last tree, which is consumed. It calls itself
+/// for each exponent between, so at most 33 times.
+fn multiplied(
+    pool: &mut Pool,
+    power: Handle,
+    a: &Handle,
+    from: u128,
+    n: u128,
+) -> Result<Handle, NumberFault>
     requires stands { Stands pool.old }
-    requires square { Gives (without_root square (forest pool.old)) (forest pool.old) square (IsPowerOver (value (tree_of a.now pool.old)) (2 * (n / 2))) }
-    requires handed { IsHanded a.now (forest pool.old) }
+    requires power { Gives (without_root power (forest pool.old)) (forest pool.old) power (IsPowerOver (value (tree_of a.now pool.old)) from) }
+    requires handed { IsHanded a.now (without_root power (forest pool.old)) }
     requires number { is_number (tree_of a.now pool.old) ≡ true }
-    requires twice { 2 ≤ n }
-    ensures ok { IfOk result (λ h. Gives (without_root square (forest pool.old)) (forest pool.new) h (IsPowerOver (value (tree_of a.now pool.old)) n)) }
+    requires positive { 1 ≤ from }
+    requires below { from ≤ n }
+    requires few { n ≤ from + 32 }
+    ensures ok { IfOk result (λ h. Gives (without_root power (forest pool.old)) (forest pool.new) h (IsPowerOver (value (tree_of a.now pool.old)) n)) }
     ensures overflow { IfErr result (OfOverflow (PowerOverflows (value (tree_of a.now pool.old)) n)) }
-    ensures room { (gs : List ℕ) → SpansTree gs (tree_of a.now pool.old) → IfErr result (LacksRoom raising_need (free_of pool.old + size (tree_of square pool.old)) gs) }
-    ensures safe { IsSafe (square ∷ []) pool.old pool.new result }
+    ensures room { (gs : List ℕ) → SpansTree gs (tree_of a.now pool.old) → IfErr result (LacksRoom raising_need (free_of pool.old + size (tree_of power pool.old)) gs) }
+    ensures safe { IsSafe (power ∷ []) pool.old pool.new result }
 {
-    if n % 2 == 0 {
-        return Ok(square);
+    if from == n {
+        return Ok(power);
     }
-    let power = product_of(pool, &square, a)?;
-    release(pool, square);
-    Ok(power)
+    let next = product_of(pool, &power, a)?;
+    release(pool, power);
+    multiplied(pool, next, a, from + 1, n)
 }
 
 /// Lists the terms of the square or the cube of a Number behind none, if these and those are few.

@@ -27,7 +27,7 @@ use crate::read::term_count;
 use crate::roots;
 use crate::term::listed_term;
 use calc_terms::Kind;
-use child_lists::{ChildList, FEW, MANY, NONE};
+use child_lists::{ChildList, FEW, MANY, MOST, NONE};
 use node_pool::{Id, Pool};
 use rational128::{Op, Overflow, add};
 use surd_terms::{Term, product};
@@ -49,8 +49,10 @@ pub(crate) fn square_of(pool: &mut Pool, a: &Handle) -> Result<Handle, NumberFau
         square_within::<NONE>(pool, a)
     } else if pairs <= FEW {
         square_within::<FEW>(pool, a)
-    } else {
+    } else if pairs <= MANY {
         square_within::<MANY>(pool, a)
+    } else {
+        square_within::<MOST>(pool, a)
     }
 }
 

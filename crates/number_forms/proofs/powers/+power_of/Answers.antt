@@ -1,8 +1,8 @@
-use Rattle.number_forms.proofs.Shared.{◌≡◌, ℕ, ◌<◌, ◌*◌, ◌^◌, length, ap, ◌∙◌, subst, sym, ◌/◌, is_number, value, Tree, other_plain, kept_after, overflow_as, refused_as, IsPowerOver, tree_of, plain}
+use Rattle.number_forms.proofs.Shared.{◌≡◌, ℕ, ◌<◌, ◌*◌, ◌^◌, length, rules, ap, ◌∙◌, subst, sym, ◌/◌, is_number, value, Tree, other_plain, kept_after, overflow_as, refused_as, IsPowerOver, tree_of, plain}
 use Rattle.number_forms.proofs.Shared.{Forest, root_tree, behind_new, front_same, front_at, front_after_one, given_handed, given_told, given_rest, given_other, gives_as, gives_rest, handed_at}
 use Rattle.number_forms.proofs.{Shared.{PowerOverflows, passed_on, SpansTree, raising_need, given_free}, Over.{squared_power, of_power}, TermTrees.{if_given}}
-use Rattle.number_forms.proofs.{Overflows.{power_overflows_more, square_overflows}, PowerSteps.{half_twice, half_below}, Rooms.{full_as, refusal_as, power_spans, step_lacks}}
-use Rattle.number_forms.proofs.{powers.+power_of.Goals.{In_ok-square}, Refusals.{none_given}, Safety.{after_one, passed, then_safe}}
+use Rattle.number_forms.proofs.{Overflows.{power_overflows_more, square_overflows}, PowerSteps.{half_twice, half_below, half_within, half_positive, half_again, half_next}, Rooms.{full_as, refusal_as, power_spans, step_lacks}}
+use Rattle.number_forms.proofs.{powers.+power_of.Goals.{In_ok-half, In_ok-square}, Refusals.{none_given}, Safety.{after_one, passed, then_safe}}
 use Rattle.number_forms.proofs.powers.+power_of.Goals as goal
 
 pub squared-requires-clause-handed : goal.squared-requires-clause-handed
@@ -11,22 +11,48 @@ squared-requires-clause-handed _ c = given_handed c.in_ok-half.ensures.ok
 pub squared-requires-clause-number : goal.squared-requires-clause-number
 squared-requires-clause-number _ c = (given_told c.in_ok-half.ensures.ok).number
 
--- the Number as it stands beside the square
+-- the Number as it stands beside the power for half the exponent, and beside the square of that
+beside : (k : ℕ) (c : In_ok-half k) → tree_of c.args.a.now c.power_of.new.pool ≡ tree_of c.args.a.now c.args.pool.now
+beside k c = other_plain c.args.a.now c.in_ok-half.ensures.ok c.requires.handed.root
+
 same : (k : ℕ) (c : In_ok-square k) → tree_of c.args.a.now c.squared.new.pool ≡ tree_of c.args.a.now c.args.pool.now
 same k c =
     let rest = given_rest c.in_ok-half.ensures.ok in
     other_plain c.args.a.now c.in_ok-square.ensures.ok (handed_at c.requires.handed rest).root ∙ ap (λ (f : Forest). plain (root_tree c.args.a.now f)) rest
 
-pub completed-requires : goal.completed-requires
-completed-requires _ c =
-    let half = c.in_ok-half.ensures.ok in let it = same _ (goal.at.completed-requires _ c).In_ok-square in
+pub is_longer_squared-requires : goal.is_longer_squared-requires
+is_longer_squared-requires _ c = let half = c.in_ok-half.ensures.ok in record {
+  stands = c.in_ok-half.ensures.safe.stands;
+  half = given_handed half;
+  half_number = (given_told half).number;
+  handed = given_other half c.requires.handed;
+  number = ap is_number (beside _ (goal.at.is_longer_squared-requires _ c).In_ok-half) ∙ c.requires.number;
+}
+
+pub multiplied-requires : goal.multiplied-requires
+multiplied-requires _ c =
+    let half = c.in_ok-half.ensures.ok in let it = beside _ (goal.at.multiplied-requires _ c).In_ok-half in record {
+      stands = c.in_ok-half.ensures.safe.stands;
+      power = gives_rest half (λ t h. subst (λ (x : Tree). IsPowerOver (value x) (c.args.n / 2) t) (sym it) h);
+      handed = handed_at c.requires.handed (given_rest half);
+      number = ap is_number it ∙ c.requires.number;
+      positive = half_twice c.args.n c.requires.twice;
+      below = half_below c.args.n;
+      few = half_within c.args.n (c.is_longer_squared.ensures.few (search rules));
+    }
+
+pub multiplied-requires-2 : goal.multiplied-requires-2
+multiplied-requires-2 _ c =
+    let half = c.in_ok-half.ensures.ok in let it = same _ (goal.at.multiplied-requires-2 _ c).In_ok-square in
     let square = gives_rest c.in_ok-square.ensures.ok (λ t h. subst (λ (x : Tree). IsPowerOver (value x) (2 * (c.args.n / 2)) t) (sym it) (squared_power _ _ t (c.args.n / 2) (given_told half) h)) in
     record {
       stands = c.in_ok-square.ensures.safe.stands;
-      square = square;
-      handed = given_other c.in_ok-square.ensures.ok (handed_at c.requires.handed (given_rest half));
+      power = square;
+      handed = handed_at c.requires.handed (given_rest c.in_ok-square.ensures.ok ∙ given_rest half);
       number = ap is_number it ∙ c.requires.number;
-      twice = c.requires.twice;
+      positive = half_positive c.args.n c.requires.twice;
+      below = half_again c.args.n;
+      few = half_next c.args.n;
     }
 
 pub returns-in_err-half : goal.returns-in_err-half
@@ -51,12 +77,21 @@ returns-in_err-square _ c = let r = c.from_residual-in_err-square.result in let 
 
 pub returns : goal.returns
 returns _ c = record {
-  ok = if_given _ _ _ _ _ c.completed.result c.completed.ensures.ok (given_rest c.in_ok-square.ensures.ok ∙ given_rest c.in_ok-half.ensures.ok)
+  ok = if_given _ _ _ _ _ c.multiplied-2.result c.multiplied-2.ensures.ok (given_rest c.in_ok-square.ensures.ok ∙ given_rest c.in_ok-half.ensures.ok)
       (λ t h. subst (λ (x : Tree). IsPowerOver (value x) c.args.n t) (same _ (goal.at.returns _ c).In_ok-square) h);
-  overflow = refused_as c.completed.result c.completed.ensures.overflow (λ o p. subst (λ (x : Tree). PowerOverflows (value x) c.args.n o) (same _ (goal.at.returns _ c).In_ok-square) p);
+  overflow = refused_as c.multiplied-2.result c.multiplied-2.ensures.overflow (λ o p. subst (λ (x : Tree). PowerOverflows (value x) c.args.n o) (same _ (goal.at.returns _ c).In_ok-square) p);
   room = λ gs s. let square = gives_as c.in_ok-square.ensures.ok (given_rest c.in_ok-half.ensures.ok) (λ t k. k) in
       let free = given_free c.requires.stands c.in_ok-square.ensures.safe.stands (kept_after c.in_ok-half.ensures.safe.kept c.in_ok-square.ensures.safe.kept) square in
-      refusal_as c.completed.result (c.completed.ensures.room gs (subst (SpansTree gs) (sym (same _ (goal.at.returns _ c).In_ok-square)) s))
+      refusal_as c.multiplied-2.result (c.multiplied-2.ensures.room gs (subst (SpansTree gs) (sym (same _ (goal.at.returns _ c).In_ok-square)) s))
       (λ e p. full_as e p (λ full few. subst (λ (n : ℕ). n < raising_need * 2 ^ length gs) (sym free) few));
-  safe = then_safe (kept_after c.in_ok-half.ensures.safe.kept c.in_ok-square.ensures.safe.kept) (let half = c.in_ok-half.ensures.ok in front_after_one (behind_new c.in_ok-square.ensures.ok.ends (front_at front_same (given_rest half))) (front_after_one (behind_new half.ends front_same) c.power_of.ensures.safe.front c.squared.ensures.safe.front) c.completed.ensures.safe.front) c.completed.ensures.safe;
+  safe = then_safe (kept_after c.in_ok-half.ensures.safe.kept c.in_ok-square.ensures.safe.kept) (let half = c.in_ok-half.ensures.ok in front_after_one (behind_new c.in_ok-square.ensures.ok.ends (front_at front_same (given_rest half))) (front_after_one (behind_new half.ends front_same) c.power_of.ensures.safe.front c.squared.ensures.safe.front) c.multiplied-2.ensures.safe.front) c.multiplied-2.ensures.safe;
+}
+
+pub returns-then-is_longer_squared : goal.returns-then-is_longer_squared
+returns-then-is_longer_squared _ c = let half = c.in_ok-half.ensures.ok in let it = beside _ (goal.at.returns-then-is_longer_squared _ c).In_ok-half in record {
+  ok = if_given _ _ _ _ _ c.multiplied.result c.multiplied.ensures.ok (given_rest half) (λ t h. subst (λ (x : Tree). IsPowerOver (value x) c.args.n t) it h);
+  overflow = refused_as c.multiplied.result c.multiplied.ensures.overflow (λ o p. subst (λ (x : Tree). PowerOverflows (value x) c.args.n o) it p);
+  room = λ gs s. let free = given_free c.requires.stands c.in_ok-half.ensures.safe.stands c.in_ok-half.ensures.safe.kept half in
+      refusal_as c.multiplied.result (c.multiplied.ensures.room gs (subst (SpansTree gs) (sym it) s)) (λ e p. full_as e p (λ full few. subst (λ (n : ℕ). n < raising_need * 2 ^ length gs) (sym free) few));
+  safe = after_one c.in_ok-half.ensures.safe.kept (behind_new half.ends front_same) c.power_of.ensures.safe.front c.multiplied.ensures.safe;
 }

@@ -1,5 +1,5 @@
 use Rattle.number_forms.proofs.Shared.{◌≡◌, ◌≤◌, ◌<◌, ◌+◌, ◌*◌, ◌^◌, List, length, rules, ◌/◌, ap, ◌∙◌, subst, sym, ℕ, arith, refl, is_number, value, Tree, Same-refl, IsPowerOver, PowerOverflows}
-use Rattle.number_forms.proofs.Shared.{other_plain, passed_on, overflow_as, refused_as, tree_of, behind_new, front_same, front_after_one, given_rest, given_other, gives_as, gives_rest, SpansTree}
+use Rattle.number_forms.proofs.Shared.{other_plain, passed_on, overflow_as, refused_as, tree_of, behind_new, front_same, front_after_one, given_rest, given_other, handed_at, gives_as, gives_rest, SpansTree}
 use Rattle.number_forms.proofs.{Shared.{free_of, raising_need, given_free, number_tree}, Over.{power_itself, squared_power}, Overflows.{square_overflows}, PowerSteps.{half_one, half_twice}}
 use Rattle.number_forms.proofs.{TermTrees.{if_given}, Rooms.{full_as, refusal_as}, powers.square_or_cube.Goals.{After-square_of, In_ok-square}, Refusals.{none_given}}
 use Rattle.number_forms.proofs.Safety.{answer_of, passed, passed_full, then_safe}
@@ -7,24 +7,29 @@ use Rattle.surd_terms.specs.declared.term.Term.{Term}
 use Rattle.tree_handles.specs.declared.fault.NumberFault.TheVariants as fault
 use Rattle.number_forms.proofs.powers.square_or_cube.Goals as goal
 
+itself : (c : After-square_of) → IsPowerOver (value (tree_of c.args.a.now c.args.pool.now)) 1 (tree_of c.args.a.now c.args.pool.now)
+itself c = power_itself (tree_of c.args.a.now c.args.pool.now) (record { number = c.requires.number; worth = Same-refl (value (tree_of c.args.a.now c.args.pool.now)) })
+
 half : (c : After-square_of) → IsPowerOver (value (tree_of c.args.a.now c.args.pool.now)) (c.args.n / 2) (tree_of c.args.a.now c.args.pool.now)
 half c =
     let a : Tree = tree_of c.args.a.now c.args.pool.now in
-    subst (λ (n : ℕ). IsPowerOver (value a) n a) (sym (half_one c.args.n c.requires.twice c.requires.few)) (power_itself a (record { number = c.requires.number; worth = Same-refl (value a) }))
+    subst (λ (n : ℕ). IsPowerOver (value a) n a) (sym (half_one c.args.n c.requires.twice c.requires.few)) (itself c)
 
 -- the Number as it stands beside the square
 same : (c : In_ok-square) → tree_of c.args.a.now c.square_of.new.pool ≡ tree_of c.args.a.now c.args.pool.now
 same c = other_plain c.args.a.now c.in_ok-square.ensures.ok c.requires.handed.root
 
-pub completed-requires : goal.completed-requires
-completed-requires c =
-    let at = goal.at.completed-requires c in let a : Tree = tree_of c.args.a.now c.args.pool.now in let square = gives_rest c.in_ok-square.ensures.ok
-    (λ t h. subst (λ (x : Tree). IsPowerOver (value x) (2 * (c.args.n / 2)) t) (sym (same at.In_ok-square)) (squared_power (value a) a t (c.args.n / 2) (half at.After-square_of) h)) in record {
+pub multiplied-requires : goal.multiplied-requires
+multiplied-requires c =
+    let at = goal.at.multiplied-requires c in let a : Tree = tree_of c.args.a.now c.args.pool.now in let square = gives_rest c.in_ok-square.ensures.ok
+    (λ t h. subst (λ (x : Tree). IsPowerOver (value x) 2 t) (sym (same at.In_ok-square)) (squared_power (value a) a t 1 (itself at.After-square_of) h)) in record {
       stands = c.in_ok-square.ensures.safe.stands;
-      square = square;
-      handed = given_other c.in_ok-square.ensures.ok c.requires.handed;
+      power = square;
+      handed = handed_at c.requires.handed (given_rest c.in_ok-square.ensures.ok);
       number = ap is_number (same at.In_ok-square) ∙ c.requires.number;
-      twice = c.requires.twice;
+      positive = search rules;
+      below = c.requires.twice;
+      few = search rules;
     }
 
 pub returns-then-has_room : goal.returns-then-has_room
@@ -58,11 +63,11 @@ returns-in_err-square c = let r = c.from_residual-in_err-square.result in let e 
 
 pub returns : goal.returns
 returns c = record {
-  ok = if_given _ _ _ _ _ c.completed.result c.completed.ensures.ok (given_rest c.in_ok-square.ensures.ok)
+  ok = if_given _ _ _ _ _ c.multiplied.result c.multiplied.ensures.ok (given_rest c.in_ok-square.ensures.ok)
       (λ t h. subst (λ (x : Tree). IsPowerOver (value x) c.args.n t) (same (goal.at.returns c).In_ok-square) h);
-  overflow = refused_as c.completed.result c.completed.ensures.overflow (λ o p. subst (λ (x : Tree). PowerOverflows (value x) c.args.n o) (same (goal.at.returns c).In_ok-square) p);
+  overflow = refused_as c.multiplied.result c.multiplied.ensures.overflow (λ o p. subst (λ (x : Tree). PowerOverflows (value x) c.args.n o) (same (goal.at.returns c).In_ok-square) p);
   room = λ gs s. let free = given_free c.requires.stands c.in_ok-square.ensures.safe.stands c.in_ok-square.ensures.safe.kept c.in_ok-square.ensures.ok in
-      refusal_as c.completed.result (c.completed.ensures.room gs (subst (SpansTree gs) (sym (same (goal.at.returns c).In_ok-square)) s))
+      refusal_as c.multiplied.result (c.multiplied.ensures.room gs (subst (SpansTree gs) (sym (same (goal.at.returns c).In_ok-square)) s))
       (λ e p. full_as e p (λ full few. subst (λ (n : ℕ). n < raising_need * 2 ^ length gs) (sym free) few));
-  safe = then_safe c.in_ok-square.ensures.safe.kept (front_after_one (behind_new c.in_ok-square.ensures.ok.ends front_same) c.square_of.ensures.safe.front c.completed.ensures.safe.front) c.completed.ensures.safe;
+  safe = then_safe c.in_ok-square.ensures.safe.kept (front_after_one (behind_new c.in_ok-square.ensures.ok.ends front_same) c.square_of.ensures.safe.front c.multiplied.ensures.safe.front) c.multiplied.ensures.safe;
 }

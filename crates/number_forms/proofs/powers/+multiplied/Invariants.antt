@@ -1,0 +1,5 @@
+use Rattle.number_forms.proofs.Shared.{ℕ, ◌-◌}
+use Rattle.number_forms.proofs.powers.+multiplied.Given as goal
+
+abbrev pub decreases-multiplied : goal.decreases-multiplied
+decreases-multiplied l = l.n - l.from
