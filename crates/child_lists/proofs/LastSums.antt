@@ -3,7 +3,7 @@ use Rattle.child_lists.proofs.Shared.{AllExpressions, AllOnce, Ends, Forest, Giv
 use Rattle.child_lists.proofs.Shared.{all-first_trees, all-join, all-rest_trees, alone, ap, arith, arity, arity-tree_nth, bare, children_of, children_of-plain, count, count-plains, empty, ends_as}
 use Rattle.child_lists.proofs.Shared.{ends_at, ends_without, expression_root, forest, free_of, given_handed, given_rest, given_root, given_same, given_told, gives, grown, inserted, is_add, kids}
 use Rattle.child_lists.proofs.Shared.{kids_of, last_put, last_rest, last_root, last_tree, more, none, nth, other_handed, plain, plain-tree_nth, plain_root, plains, put, refl, removed, replaced_free}
-use Rattle.child_lists.proofs.Shared.{represents_as, represents_handed, represents_with, rest_trees, root_id, root_tree, set_nth, size, sizes, subst, suc, sym, takes, tree, tree_nth, tree_of, true}
+use Rattle.child_lists.proofs.Shared.{represents_as, represents_handed, represents_with, rest_trees, root_tree, set_nth, size, sizes, subst, suc, sym, takes, tree, tree_nth, tree_of, true}
 use Rattle.child_lists.proofs.Shared.{whole_kids, with_nth, with_nth-without_nth, with_root_kids, without_nth, without_root, zero, ℕ, ◌<◌, ◌∙◌, ◌≡◌, ◌≤◌, IsNextAt, Lists, List, root_ids}
 use Rattle.child_lists.proofs.{ListedChildren.{children_number, lists_with}, PutBefore.{kept_kids}}
 use Rattle.tree_handles.proofs.Lasts.{with_kids_alone as arity-with_root_kids, with_kids_root as root_id-with_root_kids}

@@ -1,5 +1,5 @@
 -- What a call on Numbers is refused for, from the call that was refused.
-use Rattle.number_forms.proofs.Shared.{◌≡◌, ℕ, ◌+◌, ◌*◌, ◌/◌, ◌<◌, ◌≤◌, Some, inl, ap, ◌∙◌, subst, arith, value, Same, Term, Surd, Tree, count, Same-trans, Same-append, Same-refl}
+use Rattle.number_forms.proofs.Shared.{◌≡◌, ℕ, ◌+◌, ◌/◌, ◌<◌, ◌≤◌, Some, inl, ap, ◌∙◌, subst, arith, value, Same, Term, Surd, Tree, count, Same-trans, Same-append, Same-refl}
 use Rattle.number_forms.proofs.Shared.{SharesDenominators, IsPowerOver, JoinOverflows, SumOverflows, ProductOverflows, SquareOverflows, PowerOverflows, Overflow, calculation_of}
 use Rattle.number_forms.proofs.{Shared.{first_misfit, joining_calculations, children_of, nth}, Over.{shares_append}}
 use Rattle.calc_algebra.specs.Numbers.{term_of}

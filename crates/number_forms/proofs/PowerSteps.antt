@@ -1,5 +1,5 @@
 -- Powers by squares.
-use Rattle.number_forms.proofs.Shared.{◌≡◌, ◌≢◌, ℕ, suc, ◌+◌, ◌*◌, ◌/◌, ◌%◌, ◌≤◌, ◌<◌, arith}
+use Rattle.number_forms.proofs.Shared.{◌≡◌, ◌≢◌, ℕ, ◌+◌, ◌*◌, ◌/◌, ◌%◌, ◌≤◌, ◌<◌, arith}
 
 pub half_even : (n : ℕ) → n % 2 ≡ 0 → 2 * (n / 2) ≡ n
 half_even n e = omega arith

@@ -1,6 +1,6 @@
 use Rattle.number_forms.proofs.Shared.{◌≡◌, ℕ, ◌+◌, ◌<◌, ◌*◌, ◌^◌, length, ap, ◌∙◌, subst, sym, inl, refl, arith, is_number, value, Tree, Same-refl, tree_of, passed_on, overflow_as, refused_as, gives_itself, gives_without, gives_as, gives_rest}
 use Rattle.number_forms.proofs.Shared.{given_handed, given_told, given_other, given_rest, handed_at, other_plain, owned, behind_first, behind_new, front_same, front_at, front_without, front_after, front_after_one, kept_after, kept_same, behind_later, replaced_free}
-use Rattle.number_forms.proofs.{Shared.{IsPowerOver, PowerOverflows, Gives, SpansTree, forest, free_of, raising_need, without_root}, Over.{next_power, power_itself, of_power}, PowerSteps.{next_below}, TermTrees.{if_given}}
+use Rattle.number_forms.proofs.{Shared.{IsPowerOver, PowerOverflows, Gives, SpansTree, forest, raising_need, without_root}, Over.{next_power, power_itself, of_power}, PowerSteps.{next_below}, TermTrees.{if_given}}
 use Rattle.number_forms.proofs.{Overflows.{last_overflows}, Rooms.{full_as, refusal_as, power_spans, step_lacks}, Refusals.{none_given}}
 use Rattle.number_forms.proofs.powers.+multiplied.Goals.{After-release}
 use Rattle.number_forms.proofs.Safety.{answered, beside_all, passed, then_safe}
@@ -34,8 +34,7 @@ multiplied-requires _ c =
     let made = next _ at in
     let it = same _ at in
     let power = gives_rest made (λ t h. subst (λ (x : Tree). IsPowerOver (value x) (c.args.from + 1) t) (sym it) h) in
-    let below : c.args.from < c.args.n = next_below c.args.from c.args.n c.requires.below c.if-from-n.false in
-    (
+    let below : c.args.from < c.args.n = next_below c.args.from c.args.n c.requires.below c.if-from-n.false in (
       omega (arith, c.decreases, below),
       (c.release.ensures.stands, (power, (handed_at c.requires.handed (given_rest made), (ap is_number it ∙ c.requires.number, (omega arith, (omega (arith, below), omega (arith, c.requires.few))))))),
     )
@@ -54,13 +53,13 @@ returns-in_err-next _ c = let r = c.from_residual.result in let e = c.in_err-nex
 
 pub returns : goal.returns
 returns _ c = let at = (goal.at.returns _ c).After-release in let made = next _ at in let it = same _ at in
-  let kept = kept_after c.in_ok-next.ensures.safe.kept c.release.ensures.kept in record {
-  ok = if_given _ _ _ _ _ c.multiplied.result c.multiplied.ensures.ok (given_rest made) (λ t h. subst (λ (x : Tree). IsPowerOver (value x) c.args.n t) it h);
-  overflow = refused_as c.multiplied.result c.multiplied.ensures.overflow (λ o p. subst (λ (x : Tree). PowerOverflows (value x) c.args.n o) it p);
-  room = λ gs s. refusal_as c.multiplied.result (c.multiplied.ensures.room gs (subst (SpansTree gs) (sym it) s))
-      (λ e p. full_as e p (λ full few. subst (λ (n : ℕ). n < raising_need * 2 ^ length gs) ((replaced_free c.requires.stands c.release.ensures.stands kept (given_handed c.requires.power) made)) few));
-  safe = then_safe kept (front_after_one (behind_later (behind_new c.in_ok-next.ensures.ok.ends front_same)) (front_at (front_without behind_first (front_after front_same c.product_of.ensures.safe.front)) (c.release.ensures.owned (owned (given_other c.in_ok-next.ensures.ok (given_handed c.requires.power))))) c.multiplied.ensures.safe.front) c.multiplied.ensures.safe;
-}
+    let kept = kept_after c.in_ok-next.ensures.safe.kept c.release.ensures.kept in record {
+      ok = if_given _ _ _ _ _ c.multiplied.result c.multiplied.ensures.ok (given_rest made) (λ t h. subst (λ (x : Tree). IsPowerOver (value x) c.args.n t) it h);
+      overflow = refused_as c.multiplied.result c.multiplied.ensures.overflow (λ o p. subst (λ (x : Tree). PowerOverflows (value x) c.args.n o) it p);
+      room = λ gs s. refusal_as c.multiplied.result (c.multiplied.ensures.room gs (subst (SpansTree gs) (sym it) s))
+          (λ e p. full_as e p (λ full few. subst (λ (n : ℕ). n < raising_need * 2 ^ length gs) ((replaced_free c.requires.stands c.release.ensures.stands kept (given_handed c.requires.power) made)) few));
+      safe = then_safe kept (front_after_one (behind_later (behind_new c.in_ok-next.ensures.ok.ends front_same)) (front_at (front_without behind_first (front_after front_same c.product_of.ensures.safe.front)) (c.release.ensures.owned (owned (given_other c.in_ok-next.ensures.ok (given_handed c.requires.power))))) c.multiplied.ensures.safe.front) c.multiplied.ensures.safe;
+    }
 
 pub returns-then-from-n : goal.returns-then-from-n
 returns-then-from-n _ c = record {

@@ -1,4 +1,4 @@
-use Rattle.number_forms.proofs.Shared.{ℕ, ◌-◌}
+use Rattle.number_forms.proofs.Shared.{◌-◌}
 use Rattle.number_forms.proofs.powers.+multiplied.Given as goal
 
 abbrev pub decreases-multiplied : goal.decreases-multiplied

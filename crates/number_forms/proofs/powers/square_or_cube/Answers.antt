@@ -1,5 +1,5 @@
 use Rattle.number_forms.proofs.Shared.{◌≡◌, ◌≤◌, ◌<◌, ◌+◌, ◌*◌, ◌^◌, List, length, rules, ◌/◌, ap, ◌∙◌, subst, sym, ℕ, arith, refl, is_number, value, Tree, Same-refl, IsPowerOver, PowerOverflows}
-use Rattle.number_forms.proofs.Shared.{other_plain, passed_on, overflow_as, refused_as, tree_of, behind_new, front_same, front_after_one, given_rest, given_other, handed_at, gives_as, gives_rest, SpansTree}
+use Rattle.number_forms.proofs.Shared.{other_plain, passed_on, overflow_as, refused_as, tree_of, behind_new, front_same, front_after_one, given_rest, handed_at, gives_as, gives_rest, SpansTree}
 use Rattle.number_forms.proofs.{Shared.{free_of, raising_need, given_free, number_tree}, Over.{power_itself, squared_power}, Overflows.{square_overflows}, PowerSteps.{half_one, half_twice}}
 use Rattle.number_forms.proofs.{TermTrees.{if_given}, Rooms.{full_as, refusal_as}, powers.square_or_cube.Goals.{After-square_of, In_ok-square}, Refusals.{none_given}}
 use Rattle.number_forms.proofs.Safety.{answer_of, passed, passed_full, then_safe}
