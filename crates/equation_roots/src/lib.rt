@@ -1,0 +1,9 @@
+//! All roots of a polynomial in one name, as values.
+#![tactic(auto)]
+
+mod division;
+pub mod laws;
+mod operations;
+mod primitive;
+mod rationals;
+mod wholes;
