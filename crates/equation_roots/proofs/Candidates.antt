@@ -7,7 +7,7 @@ use Prim.Native.Nat.{◌∣◌}
 use Rattle.calc_terms.specs.Fractions.{Fraction, lowest, lowest_parts, den_pos, zero_fraction}
 use Rattle.rational128.specs.declared.overflow.Overflow.{Overflow}
 use Rattle.equation_roots.specs.{Coefficients.{value}, Told.{wholes_of}, Wholes.{IsCandidate, fractions, leading, linear_product, read}, declared.wholes.Wholes.{Wholes}}
-use Rattle.equation_roots.proofs.{Linear.{leading-linear, linear-reverse}, RootQuotients.{first_divides, fraction_coprime, root_has_quotient, scaled_zero}, Wide.{abs_zero, times_zero_int}}
+use Rattle.equation_roots.proofs.{Linear.{leading-linear, linear-reverse}, RootQuotients.{first_divides, fraction_coprime, root_has_quotient, scaled_zero}, Wide.{abs_zero, handed, times_zero_int, told}}
 
 pub positive_is : (v : ℤ) → pos 0 <ℤ v → v ≡ pos (nat_abs v)
 positive_is (pos n) h = refl
@@ -73,3 +73,16 @@ denominator_divides r zs l n e =
 -- its numerator divides the constant
 pub numerator_divides : (r : Fraction) (z : ℤ) (zs : List ℤ) → value (fractions (z ∷ zs)) r ≡ zero_fraction → nat_abs r.num ∣ nat_abs z
 numerator_divides r z zs e = first_divides r.num r.den z zs (fraction_coprime r) (scaled_zero r.num r.den (z ∷ zs) (den_pos r) (ap (value (fractions (z ∷ zs))) (sym (lowest_parts r)) ∙ e))
+
+-- ---- what a division answers, as the numbers are handed on
+
+abbrev pub Divided : Option Wholes → ℤ → ℤ → List ℤ → Type 0
+Divided o u v zs = MatchOption o (value (fractions zs) (lowest u (nat_abs v)) ≢ zero_fraction) (λ q. linear_product v (neg_ℤ u) (pos 0) (wholes_of q) (pos 0) ≡ zs)
+
+divided_to : (o : Option Wholes) (q : Wholes) (u v : ℤ) (zs : List ℤ) → Divided o u v zs → o ≡ Some q → linear_product v (neg_ℤ u) (pos 0) (wholes_of q) (pos 0) ≡ zs
+divided_to None q u v zs h e = cc
+divided_to (Some x) q u v zs h e = let same : x ≡ q = cc in subst (λ (y : Wholes). linear_product v (neg_ℤ u) (pos 0) (wholes_of y) (pos 0) ≡ zs) same h
+
+pub divided_some : (o : Option Wholes) (q : Wholes) (u v : ℤ) (zs : List ℤ) → IsCandidate u v → Divided o (handed u) (handed v) zs → o ≡ Some q → linear_product v (neg_ℤ u) (pos 0) (wholes_of q) (pos 0) ≡ zs
+divided_some o q u v zs c h e =
+    divided_to o q u v zs (subst (λ y. Divided o y v zs) (told u (small_fits _ c.numerator)) (subst (λ y. Divided o (handed u) y zs) (told v (small_fits _ c.denominator)) h)) e

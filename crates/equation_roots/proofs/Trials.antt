@@ -1,10 +1,10 @@
 -- Roots that are tried one after another.
-use Rattle.std.proofs.Common.{◌≡◌, ◌≢◌, ◌⊎◌, inl, inr, ℕ, zero, suc, ◌+◌, ◌<◌, ◌≤◌, ℤ, pos, negsuc, neg_ℤ, ◌<ℤ◌, nat_abs, Bool, true, false, List, [], ◌∷◌, length, get_or, drop, refl, sym, ap, ◌∙◌, subst, arith}
-use Rattle.std.proofs.lemmas.{Int.{ints}, Nat.Gcd.{dvd-zero, same_from_IsGcd}}
+use Rattle.std.proofs.Common.{◌≡◌, ◌≢◌, ◌⊎◌, inl, inr, ℕ, zero, suc, ◌+◌, ◌<◌, ◌≤◌, ℤ, pos, negsuc, neg_ℤ, ◌<ℤ◌, nat_abs, Bool, true, false, List, [], ◌∷◌, ◌++◌, ◌%◌, nat_eq, add-one, below_more, length, get_or, drop, refl, sym, ap, ◌∙◌, subst, arith}
+use Rattle.std.proofs.lemmas.{Int.{ints}, Bool.{eq-eqb}, Nat.Gcd.{dvd-zero, mod-eq-zero_of_dvd, same_from_IsGcd}}
 use Rattle.std.specs.Int.{◌∣◌, IsGcd}
 use Rattle.calc_terms.specs.{FractionLaws.{zero_times}, Fractions.{Fraction, plus, times, lowest, lowest_parts, den_pos, whole_fraction, zero_fraction, same_lowest}}
 use Rattle.calc_terms.proofs.SmallFractions.{plus_zero}
-use Rattle.equation_roots.specs.{Coefficients.{value}, Rationals.{IsInserted}, Wholes.{Divides, IsCandidate, Marks, fractions, linear_product}}
+use Rattle.equation_roots.specs.{Coefficients.{value}, Rationals.{IsInserted}, Wholes.{Divides, IsCandidate, Marks, fractions, leading, linear_product}}
 use Rattle.equation_roots.proofs.{Candidates.{denominator_divides, numerator_divides, parts_are, positive_abs, positive_is, sign_of}, Linear.{length-linear}, RootQuotients.{fraction_coprime, zero_above}, Steps.{divided_step, divides_trans, zero_step}, Wide.{abs_zero}}
 
 -- ---- one candidate
@@ -115,3 +115,38 @@ pub constant_no_zero : (l : List ℤ) → 0 < length l → get_or l 0 (pos 0) �
 constant_no_zero [] h n e = absurd (omega (arith, h))
 constant_no_zero (y ∷ l) h n e =
     n (zero_above y 1 (omega arith) (sym (plus_zero (whole_fraction y)) ∙ ap (plus (whole_fraction y)) (sym (zero_times (value (fractions l) zero_fraction))) ∙ e))
+
+-- a denominator that does not divide the leading coefficient belongs to no root
+none_or_some : (n : ℕ) → (n ≤ 0) ⊎ (0 < n)
+none_or_some zero = inl (omega arith)
+none_or_some (suc n) = inr (omega arith)
+
+pub denominator_not : (r : Fraction) (v m : ℕ) (l : List ℤ) → m ≡ nat_abs (leading l) → m % v ≢ 0 → r.den ≡ v → 0 < length l → value (fractions l) zero_fraction ≢ zero_fraction → value (fractions l) r ≢ zero_fraction
+denominator_not r v m l e h den p z f = by (none_or_some (nat_abs r.num))
+  where
+    by : (nat_abs r.num ≤ 0) ⊎ (0 < nat_abs r.num) → ⊥
+    by (inl k) = numerator_none r l z k f
+    by (inr k) = h (mod-eq-zero_of_dvd v (subst (λ n. n ∣ m) den (subst (λ n. r.den ∣ n) (sym e) (denominator_divides r l p (λ g. absurd (omega (arith, k, ap nat_abs g))) f))))
+
+-- ---- marks
+
+at_left : (xs : List Bool) (y : Bool) (n : ℕ) → n < length xs → get_or (xs ++ y ∷ []) n false ≡ get_or xs n false
+at_left [] y n h = absurd (omega (arith, h))
+at_left (x ∷ xs) y zero h = refl
+at_left (x ∷ xs) y (suc n) h = at_left xs y n (omega (arith, h))
+
+at_last : (xs : List Bool) (y : Bool) (n : ℕ) → n ≡ length xs → get_or (xs ++ y ∷ []) n false ≡ y
+at_last [] y zero h = refl
+at_last [] y (suc n) h = absurd (omega (arith, h))
+at_last (x ∷ xs) y zero h = absurd (omega (arith, h))
+at_last (x ∷ xs) y (suc n) h = at_last xs y n (omega (arith, h))
+
+pub marks_more : (marks : List Bool) (b : Bool) (step m : ℕ) → length marks ≡ step → (b ≡ false → ¬ (suc step ∣ m)) → ((n : ℕ) → n < step → get_or marks n false ≡ false → ¬ (suc n ∣ m))
+    → (n : ℕ) → n < step + 1 → get_or (marks ++ b ∷ []) n false ≡ false → ¬ (suc n ∣ m)
+marks_more marks b step m long here below =
+    below_more (λ n. get_or (marks ++ b ∷ []) n false ≡ false → ¬ (suc n ∣ m)) step
+    (λ n h e. below n h (sym (at_left marks b n (omega (arith, h, long))) ∙ e))
+    (λ e. here (sym (at_last marks b step (sym long)) ∙ e))
+
+pub no_divisor : (m step : ℕ) → nat_eq (m % (step + 1)) 0 ≡ false → ¬ (suc step ∣ m)
+no_divisor m step h d = let t : nat_eq (m % (step + 1)) 0 ≡ true = eq-eqb _ _ (ap (λ n. m % n) (add-one step) ∙ mod-eq-zero_of_dvd (suc step) d) in cc

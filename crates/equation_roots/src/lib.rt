@@ -6,4 +6,5 @@ pub mod laws;
 mod operations;
 mod primitive;
 mod rationals;
+mod trial;
 mod wholes;
