@@ -17,7 +17,7 @@ negative_is a = negative_times one_fraction a ∙ ap negative (one_times a)
 pub negative_plus_self : (a : Fraction) → plus (negative a) a ≡ zero_fraction
 negative_plus_self a = plus_comm (negative a) a ∙ plus_negative a
 
-negative_twice : (a : Fraction) → negative (negative a) ≡ a
+pub negative_twice : (a : Fraction) → negative (negative a) ≡ a
 negative_twice a =
     sym (plus_zero (negative (negative a))) ∙ ap (plus (negative (negative a))) (sym (negative_plus_self a))
     ∙ sym (plus_assoc (negative (negative a)) (negative a) a) ∙ ap (λ x. plus x a) (negative_plus_self (negative a)) ∙ zero_plus a

@@ -5,6 +5,8 @@ mod division;
 pub mod laws;
 mod operations;
 mod primitive;
+mod quadratic;
 mod rationals;
+mod rest;
 mod trial;
 mod wholes;

@@ -3,6 +3,7 @@ ghost use Rattle.std.specs.Prelude.{◌≡◌, ◌≢◌, ◌<◌, ◌≤◌, �
 ghost use Rattle.equation_roots.specs.Refusals.{Overflows};
 ghost use Rattle.std.specs.Option.{SomeIff};
 ghost use Rattle.calc_terms.specs.Fractions.{over, whole_fraction};
+ghost use Rattle.calc_terms.specs.Integers.{int_is_negative};
 ghost use Rattle.calc_terms.specs.Rat.{value_of};
 
 use calc_terms::Rat;
@@ -45,6 +46,13 @@ pub(crate) fn whole(n: u128) -> i128
     ensures fits { nat_abs result < 2 ^ 127 }
 {
     n as i128
+}
+
+/// Whether it is below 0.
+pub(crate) fn is_negative(z: i128) -> bool
+    ensures { result ≡ int_is_negative z }
+{
+    z < 0
 }
 
 /// -a

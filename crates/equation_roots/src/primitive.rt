@@ -2,7 +2,6 @@
 ghost use Rattle.std.specs.Prelude.{◌≡◌, ◌≢◌, ◌<◌, ◌≤◌, ◌*◌, ◌^◌, ℕ, pos, ◌*ℤ◌, nat_abs, map, length, slice_index_or, IfOk, IfErr};
 ghost use Rattle.std.specs.Int.{◌∣◌};
 ghost use Rattle.calc_terms.specs.Fractions.{times, whole_fraction, zero_fraction};
-ghost use Rattle.calc_terms.specs.Integers.{int_is_negative};
 ghost use Rattle.calc_terms.specs.Rat.{value_of};
 ghost use Rattle.calc_terms.specs.Ratio.{with_sign};
 ghost use Rattle.equation_roots.specs.Coefficients.{HasLeading};
@@ -10,7 +9,7 @@ ghost use Rattle.equation_roots.specs.Refusals.{Overflows};
 ghost use Rattle.equation_roots.specs.Told.{dense_in, wholes_of};
 ghost use Rattle.equation_roots.specs.Wholes.{IsMultiple, fractions, leading};
 
-use crate::operations::{opposite, over, parts, product, whole};
+use crate::operations::{is_negative, opposite, over, parts, product, whole};
 use crate::wholes::Wholes;
 use calc_terms::Rat;
 use rational128::{Overflow, gcd};
@@ -126,12 +125,6 @@ fn reduced(wholes: &Wholes, turned: bool, shared: u128) -> Wholes
         quotients.push(signed_quotient(wholes.get(at), turned, shared));
     }
     quotients
-}
-
-fn is_negative(z: i128) -> bool
-    ensures { result ≡ int_is_negative z }
-{
-    z < 0
 }
 
 /// z over a divisor, with the opposite sign where it says so.
