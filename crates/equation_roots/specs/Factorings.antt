@@ -1,8 +1,8 @@
 -- Factorings of polynomials in one name into linear factors and what is left.
-use Rattle.std.specs.{Prelude.{ℕ, suc, ◌≡◌, ◌≢◌, ◌≤◌, ⊤, ℤ, pos, negsuc, nat_abs, List, [], ◌∷◌, ◌++◌, length, refl}, declared.cmp.Ordering.TheVariants.{Less}}
+use Rattle.std.specs.{Prelude.{ℕ, suc, ◌≡◌, ◌≢◌, ◌≤◌, ⊤, ℤ, pos, negsuc, nat_abs, List, [], ◌∷◌, ◌++◌, length, map, refl}, declared.cmp.Ordering.TheVariants.{Less}}
 use Rattle.calc_terms.specs.Fractions.{Fraction, plus, times, negative, zero_fraction, one_fraction, lowest, fraction_cmp}
 use Rattle.calc_algebra.specs.{Clean.{IsClean}, Surds.{Surd, term, surd_of, surd_scale, surd_times}, SquareClasses.{Same}}
-use Rattle.equation_roots.specs.Coefficients.{Dense, at, worth, times_all}
+use Rattle.equation_roots.specs.Coefficients.{Dense, HasLeading, at, worth, times_all}
 
 -- what is left: 1; X^2 + 2hX + c without a root; or X^2 + bX + c with the roots m - s√t and m + s√t
 pub data Rest : Type 0 where
@@ -49,6 +49,16 @@ IsRest nothing = ⊤
 IsRest (rootless h c) = IsBelowZero (plus (times h h) (negative c))
 IsRest (pair b c m s t) = IsPair b c m s t
 
+-- the irrational roots of what is left: two or none
+abbrev pub surds_of : Rest → List Surd
+surds_of nothing = []
+surds_of (rootless h c) = []
+surds_of (pair b c m s t) = lower m s t ∷ upper m s t ∷ []
+
+-- all roots: the rational ones, and then the others
+abbrev pub roots_of : List Fraction → Rest → List Surd
+roots_of qs rest = map surd_of qs ++ surds_of rest
+
 abbrev pub AreRising : List Fraction → Type 0
 AreRising [] = ⊤
 AreRising (q ∷ []) = ⊤
@@ -80,4 +90,5 @@ pub record IsBeyond (p : Dense) : Type 0 where
   pub left : Dense
   pub equal : (k : ℕ) → at k p ≡ at k (times_all found left)
   pub degree : 4 ≤ length left
+  pub leading : HasLeading left
   pub none : (u : ℤ) (v : ℕ) → IsWithin 1000 u v → ¬ (Same (worth left (surd_of (lowest u v))) [])

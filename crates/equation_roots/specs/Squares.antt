@@ -17,4 +17,4 @@ pub record Finishes (found : List Fraction) (left : List ℤ) (found' : List Fra
   pub lead : Fraction
   pub not_zero : lead ≢ zero_fraction
   pub equal : (k : ℕ) → at k (times_all found (fractions left)) ≡ times lead (at k (times_all found' (dense_of rest)))
-  pub left : IsRest rest
+  pub remains : IsRest rest

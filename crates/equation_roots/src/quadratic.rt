@@ -104,11 +104,8 @@ fn by_square(found: &mut Rationals, left: &Wholes, square: Square) -> Result<Res
     if radicand == 1 {
         return two_rationals(found, left, square, whole(outside));
     }
-    Ok(Rest::Pair(RootPair {
-        middle,
-        beside: Rat::ratio(whole(outside), square.den),
-        radicand,
-    }))
+    let beside = Rat::ratio(whole(outside), square.den);
+    Ok(Rest::Pair(RootPair::new(middle, beside, radicand)))
 }
 
 /// The roots of a polynomial of degree 2 whose discriminant is the square of a whole number.
