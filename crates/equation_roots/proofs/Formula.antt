@@ -126,12 +126,12 @@ module _ (h d o : ℤ) (n : ℕ) (p : 0 < n) (square : d ≡ o *ℤ o) where
   rational_sum = simp (plus_lowest, negative_lowest, mul_pos)
       (same_lowest _ _ _ _ (mul_pos _ _ p p) (mul_pos _ _ p p) (rw (parts h, parts o) (simp diffs (eq_diff _ _ _ _ (omega arith)))))
 
-  q : 0 < n * n
-  q = mul_pos n n p p
+  square_pos : 0 < n * n
+  square_pos = mul_pos n n p p
 
   product_in : times (lowest (neg_ℤ h +ℤ neg_ℤ o) n) (lowest (neg_ℤ h +ℤ o) n) ≡ plus (times (lowest h n) (lowest h n)) (negative (lowest (o *ℤ o) (n * n)))
   product_in = simp (plus_lowest, times_lowest, negative_lowest, mul_pos)
-      (same_lowest _ _ _ _ q (mul_pos _ _ q q) (rw (parts h, parts o) (simp diffs (eq_diff _ _ _ _ (omega arith)))))
+      (same_lowest _ _ _ _ square_pos (mul_pos _ _ square_pos square_pos) (rw (parts h, parts o) (simp diffs (eq_diff _ _ _ _ (omega arith)))))
 
   pub rational_product : times (lowest (neg_ℤ h +ℤ neg_ℤ o) n) (lowest (neg_ℤ h +ℤ o) n) ≡ constant h d n
   rational_product = product_in ∙ ap (λ z. plus (times (lowest h n) (lowest h n)) (negative (lowest z (n * n)))) (sym square)

@@ -1,6 +1,7 @@
 pub mod Candidates
 pub mod CommonFactors
 pub mod Dividing
+pub mod Finishing
 pub mod Formula
 pub mod Linear
 pub mod Misfits

@@ -34,7 +34,7 @@ divides_trans f g h v w x a b = record {
   positive = λ p. b.positive (a.positive p);
 }
 
-inserted : (q : Fraction) (xs ys : List Fraction) (p : Dense) → IsInserted q xs ys → SameDense (times_all ys p) (times_all xs (times_linear q p))
+pub inserted : (q : Fraction) (xs ys : List Fraction) (p : Dense) → IsInserted q xs ys → SameDense (times_all ys p) (times_all xs (times_linear q p))
 inserted q xs ys p i =
     subst (λ zs. SameDense (times_all zs p) (times_all xs (times_linear q p))) (sym i.after)
     (subst (λ zs. SameDense (times_all (i.front ++ q ∷ i.back) p) (times_all zs (times_linear q p))) (sym i.before) (all_with i.front q i.back p))
