@@ -1,0 +1,16 @@
+pub mod Candidates
+pub mod CommonFactors
+pub mod Dividing
+pub mod Finishing
+pub mod Formula
+pub mod Linear
+pub mod Misfits
+pub mod Rising
+pub mod RootQuotients
+pub mod Rootless
+pub mod Squares
+pub mod Steps
+pub mod Trials
+pub mod Values
+pub mod Vieta
+pub mod Wide

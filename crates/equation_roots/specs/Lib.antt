@@ -1,0 +1,11 @@
+pub mod Coefficients
+pub mod Factorings
+pub mod Faults
+pub mod Pairs
+pub mod Rationals
+pub mod Refusals
+pub mod Rests
+pub mod Roots
+pub mod Squares
+pub mod Wholes
+pub mod Told
