@@ -39,13 +39,12 @@ module _ (n : ℕ) (text : List ℕ) where
   unread_behind (p ∷ ps) qs (e ∷ es) reason h k = later_unread h.0 (unread_behind ps qs es reason h.1 k)
   unread_behind _ qs _ reason h k = absurd h
 
-  -- the reply where one is not
-  pub unread_reply : (old : State) (bs : List Breaker) (rs : List EquationRange) (k : ℕ) (d : EquationRange) (reason : Reason) → AreSplit text rs → AreReadUpTo rs k → k < length rs
-      → ((qs : List Pieces) → IsNoEquation (pieces_at n text (get_or rs k d) ∷ qs) reason) → IsReplyToEquations old bs bs n text (refused reason)
-  unread_reply old bs rs k d reason split (es, h) l unread =
+  -- where one is not
+  pub unread_at : (rs : List EquationRange) (k : ℕ) (d : EquationRange) (reason : Reason) → AreReadUpTo rs k → k < length rs → ((qs : List Pieces) → IsNoEquation (pieces_at n text (get_or rs k d) ∷ qs) reason)
+      → IsNoEquation (map (pieces_at n text) rs) reason
+  unread_at rs k d reason (es, h) l unread =
       let behind = map (pieces_at n text) (drop (suc k) rs) in
-      let all = unread_behind (map (pieces_at n text) (take k rs)) (pieces_at n text (get_or rs k d) ∷ behind) es reason h (unread behind) in
-      are_not_read split.splits split.few (subst (λ ps. IsNoEquation ps reason) (sym (pieces_parts k rs d l) ∙ split.placed_are n) all) refl
+      subst (λ ps. IsNoEquation ps reason) (sym (pieces_parts k rs d l)) (unread_behind (map (pieces_at n text) (take k rs)) (pieces_at n text (get_or rs k d) ∷ behind) es reason h (unread behind))
 
   -- what is read at a place
   pub reads_at : (k : ℕ) (rs : List EquationRange) (d : EquationRange) (es : List Equation) → AllZip ReadsEquation (map (pieces_at n text) rs) es → k < length rs → (e : Equation) × ReadsEquation (pieces_at n text (get_or rs k d)) e

@@ -13,11 +13,11 @@ use Rattle.reduce_port.specs.declared.fault.ReduceFault.{ReduceFault}
 use Rattle.reduce_port.specs.declared.fault.ReduceFault.TheVariants as fault
 use Rattle.tree_handles.specs.{Forest.{Forest}, Handed.{Gives, tree_of}, Standing.{KeepsRefusals, Refuses}}
 use Rattle.calc_session.specs.{declared.answers.Refusal.{Refusal}, declared.answers.Refusal.TheVariants.{Long, Character, Number, Syntax, Deep, Reserved, NamesFull, Full, Overflow, Interrupted}}
-use Rattle.calc_session.specs.{declared.answers.Refusal.TheVariants.{Circular, Command, NotPolynomial, NoDerivative, NotLinear, TooMany, NoDecimal, Undecided}, declared.answers.LineAnswer.{LineAnswer}}
+use Rattle.calc_session.specs.{declared.answers.Refusal.TheVariants.{Circular, Command, NotPolynomial, NoDerivative, NotLinear, TooMany, NoDecimal, Undecided, Degree}, declared.answers.LineAnswer.{LineAnswer}}
 use Rattle.calc_session.specs.{declared.answers.LineAnswer.TheVariants.{Blank, Shown, Stored, Undef, Report, Draw, Refused}, declared.evaluating.Evaluation.{Evaluation}}
 use Rattle.calc_session.specs.declared.evaluating.Evaluation.TheVariants as evaluation
 use Rattle.calc_session.specs.Replies.{Reason, Reply, blank, shown, stored, undefined, report, forgot, drawn, refused, long, character_at, number_at, syntax, deep, reserved, names_full, full}
-use Rattle.calc_session.specs.{Replies.{overflow, interrupted, circular, command, not_polynomial, no_derivative, not_linear, too_many, no_decimal, undecided, displayed, text_of, refusal_in}, States.{State}}
+use Rattle.calc_session.specs.{Replies.{overflow, interrupted, circular, command, not_polynomial, no_derivative, not_linear, too_many, no_decimal, undecided, degree, displayed, text_of, refusal_in}, States.{State}}
 use Rattle.calc_session.specs.{Findings.{finding_text}, Steps.{IsReply, Leaves, Step}}
 
 abbrev pub reason_of : Refusal → Reason
@@ -39,6 +39,7 @@ reason_of (NotLinear equation) = not_linear equation
 reason_of TooMany = too_many
 reason_of NoDecimal = no_decimal
 reason_of Undecided = undecided
+reason_of Degree = degree
 
 abbrev pub reply_of : Refusal → Reply
 reply_of refusal = refused (reason_of refusal)
@@ -62,6 +63,7 @@ number_of (NotLinear equation) = 16
 number_of TooMany = 17
 number_of NoDecimal = 18
 number_of Undecided = 19
+number_of Degree = 20
 
 -- a command tells this
 abbrev pub IsReport : List ℕ → Reply → Type 0

@@ -25,6 +25,7 @@ pub data Reason : Type 0 where
   too_many : Reason
   no_decimal : Reason
   undecided : Reason
+  degree : Reason
 
 -- nothing; a tree as it is displayed, and the name under which it is stored; `undef`; what a command tells, and the name that it forgot; that the last answer is to be drawn; or a refusal
 pub data Reply : Type 0 where
@@ -90,6 +91,7 @@ reason_text (not_linear equation) = codes "! not linear " ++ count_text equation
 reason_text too_many = codes "! too many"
 reason_text no_decimal = codes "! no decimal"
 reason_text undecided = codes "! undecided"
+reason_text degree = codes "! degree"
 
 -- there is none for a blank line, nor where the last answer is to be drawn
 unfoldable pub text_of : Reply → Option (List ℕ)

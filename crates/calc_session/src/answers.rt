@@ -45,12 +45,15 @@ pub enum Refusal {
     NoDecimal,
     /// A Number is too close to the middle of two decimals, or to 0.
     Undecided,
+    /// An exponent of a polynomial is above 32; or something of degree 3 or more is left of it that has no rational root u/v with
+    /// both up to 1,000.
+    Degree,
 }
 
 impl Refusal {
     ghost use Rattle.calc_session.specs.Answers.{number_of};
 
-    /// The number of the kind of refusal, from 1 to 19; there is no 13.
+    /// The number of the kind of refusal, from 1 to 20; there is no 13.
     pub fn number(&self) -> u8
         ensures { result ≡ number_of self.now }
     {
@@ -73,6 +76,7 @@ impl Refusal {
             Refusal::TooMany => 17,
             Refusal::NoDecimal => 18,
             Refusal::Undecided => 19,
+            Refusal::Degree => 20,
         }
     }
 }

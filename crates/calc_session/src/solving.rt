@@ -21,7 +21,7 @@ ghost use Rattle.calc_session.specs.Kept.{IsKept, state_in};
 ghost use Rattle.calc_commands.specs.Ranges.{AreSplit, IsWithin, between, pieces_at};
 ghost use Rattle.calc_session.specs.Replies.{refusal_in};
 ghost use Rattle.calc_session.specs.Solved.{AreRootsOf, AreSolved, BuildsSide, refusal_to_solve};
-ghost use Rattle.calc_session.specs.Solving.{AreUnmade, Become, IsReplyToEquations, IsReplyToRead, IsReplyToSolve, ReadsEquation, ReadsSide, first_not_linear as first_not_linear_of, is_linear_equation as is_linear_equation_of};
+ghost use Rattle.calc_session.specs.Solving.{AreUnmade, Become, IsNoEquation, IsReplyToEquations, IsReplyToRead, IsReplyToSolve, ReadsEquation, ReadsSide, first_not_linear as first_not_linear_of, is_linear_equation as is_linear_equation_of};
 ghost use Rattle.calc_session.specs.States.{State};
 
 use crate::evaluating::{build_and_fill, refused};
@@ -54,17 +54,17 @@ struct Roots {
 
 /// Equations of a text, where they stand in it, and how many bytes of the line stand before it.
 #[derive(Clone, Copy)]
-struct Equations<'a> {
-    text: &'a [u8],
-    before: u16,
-    ranges: &'a [EquationRange],
+pub(crate) struct Equations<'a> {
+    pub(crate) text: &'a [u8],
+    pub(crate) before: u16,
+    pub(crate) ranges: &'a [EquationRange],
 }
 
 /// Where one side of an equation stands in the text.
 #[derive(Clone, Copy)]
-struct Side {
-    from: usize,
-    to: usize,
+pub(crate) struct Side {
+    pub(crate) from: usize,
+    pub(crate) to: usize,
 }
 
 impl Parts {
@@ -174,7 +174,7 @@ fn read_equations(
 }
 
 /// Reads the sides of the equations that stand there in a text, from left to right.
-fn read_sides(
+pub(crate) fn read_sides(
     text: &[u8],
     before: u16,
     ranges: &[EquationRange],
@@ -183,7 +183,7 @@ fn read_sides(
     requires short { before + length text.now ≤ line_limit }
     requires split { AreSplit text.now ranges.now }
     ensures read { OnOk result ((es : List Equation) × AllZip ReadsEquation (map (pieces_at before text.now) ranges.now) es) }
-    ensures refused { (old : State) (breakers : List Breaker) → IfErr result (λ refusal. IsReplyToEquations old breakers breakers before text.now (reply_of refusal)) }
+    ensures refused { IfErr result (λ refusal. IsNoEquation (map (pieces_at before text.now) ranges.now) (reason_of refusal)) }
     ensures no_pool { IfErr result (λ refusal. refusal_in (reason_of refusal) ≡ None) }
     ensures no_breaker { IfErr result (λ refusal. (place : ℕ) → refusal ≡ Refusal.Interrupted place → ⊥) }
 {
@@ -309,7 +309,7 @@ fn build_equations(
 }
 
 /// The tree of one side.
-fn build_side(
+pub(crate) fn build_side(
     pool: &mut Pool,
     table: &NameTable,
     parser: &mut Parser,

@@ -43,6 +43,7 @@ pub fn write_refusal(text: &mut Text, refusal: Refusal)
         Refusal::TooMany => text.push(b"! too many"),
         Refusal::NoDecimal => text.push(b"! no decimal"),
         Refusal::Undecided => text.push(b"! undecided"),
+        Refusal::Degree => text.push(b"! degree"),
     }
 }
 

@@ -1,4 +1,4 @@
-use Rattle.calc_session.proofs.Shared.{refl, sym, subst, AreSplit, IsSplitFault, are_not_written, are_too_many, map, pieces_at, AllZip, ReadsEquation, Equation, EquationRange}
+use Rattle.calc_session.proofs.Shared.{refl, sym, subst, AreSplit, IsSplitFault, are_not_read, are_not_written, are_too_many, IsNoEquation, reason_of, map, pieces_at, AllZip, ReadsEquation, Equation, EquationRange}
 use Rattle.std.proofs.Common.{List}
 use Rattle.calc_session.proofs.solving.read_equations.Goals as goal
 
@@ -35,10 +35,12 @@ returns-in-Ok-read_sides c = record {
 }
 
 pub returns-in-Err : goal.returns-in-Err
-returns-in-Err c = record {
-  split = tt;
-  read = tt;
-  refused = c.in-Err.ensures.refused;
-  no_pool = c.in-Err.ensures.no_pool;
-  no_breaker = c.in-Err.ensures.no_breaker;
-}
+returns-in-Err c =
+    let split = subst (AreSplit c.args.text.now) (sym c.as_slice.ensures.value) c.in-Ok.ensures.ok in
+    record {
+      split = tt;
+      read = tt;
+      refused = λ old breakers. are_not_read split.splits split.few (subst (λ ps. IsNoEquation ps (reason_of c.in-Err.refusal)) (split.placed_are c.args.before) c.in-Err.ensures.refused) refl;
+      no_pool = c.in-Err.ensures.no_pool;
+      no_breaker = c.in-Err.ensures.no_breaker;
+    }

@@ -1,5 +1,5 @@
 use Rattle.calc_session.proofs.Shared.{EquationRange, err_from_is_err_and, reason_of, at_left, at_right}
-use Rattle.calc_session.proofs.RangeLemmas.{read_more, unread_reply}
+use Rattle.calc_session.proofs.RangeLemmas.{read_more, unread_at}
 use Rattle.calc_session.proofs.solving.read_sides.Goals as goal
 
 abbrev nowhere : EquationRange
@@ -11,8 +11,7 @@ returns-in_err-read_side c =
     let err = c.in_err-read_side.ensures in
     record {
       read = rw p.1 tt;
-      refused = λ old breakers.
-          rw (p.1, p.2) (unread_reply c.args.before c.args.text.now old breakers c.args.ranges.now c.loop-range.range-index nowhere (reason_of c.in_err-read_side.field-0.0) c.requires.split c.loop-range.invariant c.loop-range-test.true (λ qs. at_left err.refused));
+      refused = rw (p.1, p.2) (unread_at c.args.before c.args.text.now c.args.ranges.now c.loop-range.range-index nowhere (reason_of c.in_err-read_side.field-0.0) c.loop-range.invariant c.loop-range-test.true (λ qs. at_left err.refused));
       no_pool = rw (p.1, p.2) err.no_pool;
       no_breaker = rw (p.1, p.2) err.no_breaker;
     }
@@ -24,8 +23,7 @@ returns-in_err-read_side-2 c =
     let (t, a) = c.in_ok-read_side.ensures.read in
     record {
       read = rw p.1 tt;
-      refused = λ old breakers.
-          rw (p.1, p.2) (unread_reply c.args.before c.args.text.now old breakers c.args.ranges.now c.loop-range.range-index nowhere (reason_of c.in_err-read_side-2.field-0.0) c.requires.split c.loop-range.invariant c.loop-range-test.true (λ qs. at_right (_, a) err.refused));
+      refused = rw (p.1, p.2) (unread_at c.args.before c.args.text.now c.args.ranges.now c.loop-range.range-index nowhere (reason_of c.in_err-read_side-2.field-0.0) c.loop-range.invariant c.loop-range-test.true (λ qs. at_right (_, a) err.refused));
       no_pool = rw (p.1, p.2) err.no_pool;
       no_breaker = rw (p.1, p.2) err.no_breaker;
     }
