@@ -12,6 +12,8 @@ pub mod SolutionTexts
 pub mod Forms
 pub mod Solving
 pub mod Solved
+pub mod Rooting
+pub mod Rooted
 pub mod SolutionsMeant
 pub mod Naming
 pub mod Commanding
