@@ -81,7 +81,7 @@ odd_completed a b c n s o f m u p fa fb fc fn fs fo ff fm fu ne se oe fe me ue =
 pub same_of : {p w : Dense} → p ≡ w → SameDense p w
 same_of e = record { each = λ k. ap (at k) e }
 
-positive_not_zero : (a : ℤ) → pos 0 <ℤ a → whole_fraction a ≢ zero_fraction
+pub positive_not_zero : (a : ℤ) → pos 0 <ℤ a → whole_fraction a ≢ zero_fraction
 positive_not_zero a h e = let z : a ≡ pos 0 = zero_above a 1 (omega arith) e in absurd (omega (arith, ints, h, ap nat_abs z))
 
 pub finishes_from : (found found' : List Fraction) (left : List ℤ) (a : ℤ) (p : Dense) (rest : Rest) → pos 0 <ℤ a → fractions left ≡ map (times (whole_fraction a)) p

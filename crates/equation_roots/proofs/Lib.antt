@@ -13,4 +13,6 @@ pub mod Steps
 pub mod Trials
 pub mod Values
 pub mod Vieta
+pub mod Whole
 pub mod Wide
+pub mod Worths
