@@ -109,7 +109,12 @@ fn by_square(found: &mut Rationals, left: &Wholes, square: Square) -> Result<Res
 }
 
 /// The roots of a polynomial of degree 2 whose discriminant is the square of a whole number.
-fn two_rationals(found: &mut Rationals, left: &Wholes, square: Square, outside: i128) -> Result<Rest, Overflow>
+fn two_rationals(
+    found: &mut Rationals,
+    left: &Wholes,
+    square: Square,
+    outside: i128,
+) -> Result<Rest, Overflow>
     requires three { length (wholes_of left.now) ≡ 3 }
     requires room { length (rationals_of found.old) ≤ 30 }
     requires positive { pos 0 <ℤ slice_index_or (wholes_of left.now) 2 (pos 0) }
