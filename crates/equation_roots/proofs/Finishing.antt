@@ -1,5 +1,5 @@
 -- What is left of degree at most 2, with its roots.
-use Rattle.std.proofs.Common.{◌≡◌, ◌≢◌, ℕ, zero, suc, ◌+◌, ◌*◌, ◌<◌, ◌≤◌, ◌^◌, ℤ, pos, negsuc, ◌+ℤ◌, ◌-ℤ◌, ◌*ℤ◌, ◌<ℤ◌, neg_ℤ, nat_abs, Bool, true, false, List, [], ◌∷◌, map, length, get_or, refl, sym, ap, ◌∙◌, subst, arith}
+use Rattle.std.proofs.Common.{◌≡◌, ◌≢◌, ℕ, zero, suc, ◌*◌, ◌<◌, ◌≤◌, ◌^◌, ℤ, pos, negsuc, ◌+ℤ◌, ◌-ℤ◌, ◌*ℤ◌, ◌<ℤ◌, neg_ℤ, nat_abs, true, false, List, [], ◌∷◌, map, length, get_or, refl, sym, ap, ◌∙◌, subst, arith}
 use Rattle.std.proofs.lemmas.Int.{ints}
 use Rattle.calc_terms.specs.Fractions.{Fraction, lowest, plus, times, negative, zero_fraction, one_fraction, whole_fraction, mul_pos}
 use Rattle.calc_terms.specs.Integers.{parts, diffs, eq_diff, int_is_negative}
@@ -7,9 +7,9 @@ use Rattle.calc_terms.proofs.SmallLaws.{times_one}
 use Rattle.calc_algebra.specs.Clean.{IsClean}
 use Rattle.equation_roots.specs.{Coefficients.{Dense, at, times_all, times_linear}, Factorings.{IsAboveZero, IsRest, Rest, dense_of, nothing, rootless}}
 use Rattle.equation_roots.specs.{Rationals.{IsInserted}, Rests.{pair_of}, Squares.{Finishes, IsCompleted}, Wholes.{fractions, leading, linear_product}}
-use Rattle.equation_roots.proofs.Formula.{above, coefficients, constant, constant_quotient, middle, middle_sum, pair_constant, pair_product, pair_sum, rational_product, rational_sum, rootless_is, two_factors}
+use Rattle.equation_roots.proofs.Formula.{coefficients, constant, constant_quotient, middle, middle_sum, pair_constant, pair_product, pair_sum, rational_product, rational_sum, rootless_is, two_factors}
 use Rattle.equation_roots.proofs.{Candidates.{positive_abs, positive_is}, Linear.{linear_fractions}, RootQuotients.{zero_above}, Steps.{inserted}}
-use Rattle.equation_roots.proofs.{Values.{SameDense, all_same, all_scaled, at_scaled, same_sym, same_trans}, Wide.{handed, times_zero_int, told}}
+use Rattle.equation_roots.proofs.{Values.{SameDense, all_scaled, at_scaled, same_sym, same_trans}, Wide.{handed, times_zero_int, told}}
 
 -- ---- the square completed
 

@@ -1,6 +1,6 @@
 -- Coefficients and values of sums, multiples and products with X - q.
 use Rattle.std.proofs.Common.{◌≡◌, ℕ, zero, suc, List, [], ◌∷◌, ◌++◌, map, refl, sym, ap, ◌∙◌}
-use Rattle.calc_terms.specs.FractionLaws.{times_comm, times_assoc, times_plus, zero_plus, zero_times}
+use Rattle.calc_terms.specs.FractionLaws.{times_comm, times_assoc, times_plus, zero_plus}
 use Rattle.calc_terms.specs.Fractions.{Fraction, plus, times, negative, zero_fraction, plus_assoc, plus_comm}
 use Rattle.calc_terms.proofs.{SmallFractions.{plus_zero}, SmallLaws.{plus_both}}
 use Rattle.calc_algebra.proofs.SurdLaws.{times_zero}

@@ -1,5 +1,5 @@
 -- The whole calculation of the roots, from its steps.
-use Rattle.std.proofs.Common.{◌≡◌, ◌≢◌, ℕ, zero, suc, ◌/◌, ◌<◌, ◌≤◌, ℤ, pos, negsuc, ◌<ℤ◌, nat_abs, List, [], ◌∷◌, map, length, refl, sym, ap, ◌∙◌, subst, arith}
+use Rattle.std.proofs.Common.{◌≡◌, ◌≢◌, ℕ, zero, suc, ◌/◌, ◌≤◌, ℤ, pos, negsuc, ◌<ℤ◌, nat_abs, List, [], ◌∷◌, map, length, sym, ap, ◌∙◌, arith}
 use Rattle.std.proofs.lemmas.{Int.{ints}, List.{length-map}}
 use Rattle.std.proofs.Math.Nat.{div-le_self}
 use Rattle.calc_terms.specs.{FractionLaws.{times_assoc}, Fractions.{Fraction, lowest, over, times, whole_fraction, zero_fraction}, Gcd.{gcd}}

@@ -1,8 +1,8 @@
 -- What a polynomial is worth at a rational.
-use Rattle.std.proofs.Common.{◌≡◌, ◌≢◌, [], ◌∷◌, ◌++◌, refl, sym, ap, ◌∙◌}
-use Rattle.calc_terms.specs.Fractions.{Fraction, plus, times, zero_fraction}
+use Rattle.std.proofs.Common.{◌≡◌, [], ◌∷◌, refl, sym, ap, ◌∙◌}
+use Rattle.calc_terms.specs.Fractions.{Fraction, times, zero_fraction}
 use Rattle.calc_terms.proofs.SmallLaws.{plus_both}
-use Rattle.calc_algebra.specs.{SquareClasses.{Same, class_coefficient}, Surds.{Surd, surd_of, surd_times}}
+use Rattle.calc_algebra.specs.{SquareClasses.{Same, class_coefficient}, Surds.{surd_of, surd_times}}
 use Rattle.calc_algebra.proofs.{MeaningLaws.{class_coefficient-surd_of}, SquareClassLaws.{Same-Agree}, TermLaws.{Agree-zero_term, joined_radicand}}
 use Rattle.calc_algebra.proofs.SurdLaws.{Agree, Agree-Same, Agree-sym, class_coefficient-append, class_coefficient-surd_scale, surd_times-surd_of}
 use Rattle.equation_roots.specs.Coefficients.{Dense, value, worth}

@@ -1,5 +1,5 @@
 -- Polynomials of degree 2 with their square completed, and what is left of a factoring.
-use Rattle.std.specs.Prelude.{ℕ, ◌≡◌, ◌≢◌, ◌<◌, ◌^◌, ℤ, pos, ◌+ℤ◌, ◌-ℤ◌, ◌*ℤ◌, ◌<ℤ◌, nat_abs, List, ◌∷◌, []}
+use Rattle.std.specs.Prelude.{ℕ, ◌≡◌, ◌≢◌, ◌<◌, ◌^◌, ℤ, pos, ◌+ℤ◌, ◌-ℤ◌, ◌*ℤ◌, ◌<ℤ◌, nat_abs, List}
 use Rattle.calc_terms.specs.Fractions.{Fraction, times, zero_fraction}
 use Rattle.equation_roots.specs.{Coefficients.{at, times_all}, Factorings.{Rest, IsRest, dense_of}, Wholes.{fractions}}
 

@@ -1,4 +1,4 @@
-use Rattle.std.proofs.Common.{◌≡◌, ◌<◌, ◌+◌, ℕ, get_or, ap, sym, subst, ◌∙◌, below_more}
+use Rattle.std.proofs.Common.{ℕ, get_or, ap, subst, ◌∙◌, below_more}
 use Rattle.std.specs.Int.{◌∣◌}
 use Rattle.std.proofs.lemmas.Nat.Gcd.{dvd_trans}
 use Rattle.calc_terms.specs.{Fractions.{Fraction, zero_fraction}, Rat.{value_of}}

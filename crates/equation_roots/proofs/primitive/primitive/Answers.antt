@@ -1,4 +1,4 @@
-use Rattle.std.proofs.Common.{◌≡◌, ℤ, pos, ap, ◌∙◌}
+use Rattle.std.proofs.Common.{pos, ap, ◌∙◌}
 use Rattle.calc_terms.specs.{Fractions.{whole_fraction}, Integers.{int_is_negative}}
 use Rattle.equation_roots.specs.Told.{dense_in, wholes_of}
 use Rattle.equation_roots.proofs.{CommonFactors.{common_not_zero, is_primitive, leading_not_zero}, Wide.{told}}

@@ -1,4 +1,4 @@
-use Rattle.std.proofs.Common.{◌≡◌, ◌<◌, ◌+◌, ℕ, ℤ, pos, map, length, length-append, get_or, ap, sym, subst, ◌∙◌, arith, ◌++◌, ◌∷◌, []}
+use Rattle.std.proofs.Common.{◌<◌, ◌+◌, ℕ, ℤ, pos, length, length-append, ap, sym, subst, ◌∙◌, arith}
 use Rattle.std.specs.Int.{◌∣◌}
 use Rattle.std.proofs.lemmas.List.{length-map, map-append}
 use Rattle.calc_terms.specs.{Fractions.{Fraction, times, whole_fraction, zero_fraction}, Rat.{value_of}}

@@ -1,4 +1,4 @@
-use Rattle.std.proofs.Common.{◌≡◌, ◌<◌, ℕ, ℤ, pos, neg_ℤ, nat_abs, length, ap, sym, ◌∙◌, arith}
+use Rattle.std.proofs.Common.{neg_ℤ, nat_abs, ap, sym, ◌∙◌}
 use Rattle.calc_terms.specs.{Fractions.{lowest}, Rat.{value_of}}
 use Rattle.equation_roots.specs.{Rationals.{rationals_of}, Told.{wholes_of}}
 use Rattle.equation_roots.proofs.{Finishing.{finish_none, finish_one}, Wide.{told}}

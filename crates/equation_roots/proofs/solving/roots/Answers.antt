@@ -1,6 +1,6 @@
-use Rattle.std.proofs.Common.{◌≡◌, ◌<◌, ◌≤◌, List, ℤ, length, ap, sym, subst, ◌∙◌, arith, []}
+use Rattle.std.proofs.Common.{◌≡◌, ◌≤◌, List, ℤ, length, ap, sym, subst, arith, []}
 use Rattle.calc_terms.specs.Fractions.{Fraction}
-use Rattle.equation_roots.specs.{Factorings.{Rest}, Rationals.{rationals_of}, Rests.{rest_of}, Roots.{rationals_in, rest_in}, Squares.{Finishes}, Told.{dense_in, wholes_of}, Wholes.{Divides}}
+use Rattle.equation_roots.specs.{Factorings.{Rest}, Rationals.{rationals_of}, Roots.{rationals_in, rest_in}, Squares.{Finishes}, Told.{dense_in, wholes_of}, Wholes.{Divides}}
 use Rattle.equation_roots.specs.{declared.rationals.Rationals.{Rationals}, declared.wholes.Wholes.{Wholes}}
 use Rattle.equation_roots.proofs.{Steps.{divides_trans}, Whole.{is_beyond, is_factoring}}
 use Rattle.equation_roots.proofs.solving.roots.Goals as goal

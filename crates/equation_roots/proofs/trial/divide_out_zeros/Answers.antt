@@ -1,5 +1,5 @@
-use Rattle.std.proofs.Common.{◌≡◌, ◌<◌, ◌≤◌, ◌^◌, ℤ, pos, nat_abs, get_or, length, drop, List, length-drop, ap, sym, subst, ◌∙◌, arith}
-use Rattle.calc_terms.specs.{Fractions.{Fraction, zero_fraction}, Rat.{value_of}}
+use Rattle.std.proofs.Common.{◌<◌, ◌^◌, ℤ, pos, nat_abs, length, List, length-drop, ap, sym, subst, ◌∙◌, arith}
+use Rattle.calc_terms.specs.{Fractions.{Fraction}}
 use Rattle.calc_terms.proofs.SmallFractions.{zero_value}
 use Rattle.equation_roots.specs.{Rationals.{IsInserted, rationals_of}, Told.{wholes_of}, Wholes.{Divides}}
 use Rattle.equation_roots.proofs.{Steps.{divides_refl}, Trials.{constant_no_zero, zeros_step}, Wide.{same_bits}}
