@@ -1,10 +1,12 @@
 pub mod Candidates
 pub mod CommonFactors
+pub mod Completeness
 pub mod Dividing
 pub mod Finishing
 pub mod Formula
 pub mod Linear
 pub mod Misfits
+pub mod Products
 pub mod Rising
 pub mod RootQuotients
 pub mod Rootless

@@ -44,6 +44,11 @@ pub record IsPair (b c m s : Fraction) (t : ℕ) : Type 0 where
 abbrev pub less : Surd → Surd → Surd
 less v r = v ++ surd_scale (negative one_fraction) r
 
+-- the product of v - q for each q of a list, times w
+abbrev pub product_at : List Fraction → Surd → Surd → Surd
+product_at [] v w = w
+product_at (q ∷ qs) v w = surd_times (less v (surd_of q)) (product_at qs v w)
+
 abbrev pub IsRest : Rest → Type 0
 IsRest nothing = ⊤
 IsRest (rootless h c) = IsBelowZero (plus (times h h) (negative c))
