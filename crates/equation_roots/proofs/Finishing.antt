@@ -10,6 +10,7 @@ use Rattle.equation_roots.specs.{Rationals.{IsInserted}, Rests.{pair_of}, Square
 use Rattle.equation_roots.proofs.Formula.{coefficients, constant, constant_quotient, middle, middle_sum, pair_constant, pair_product, pair_sum, rational_product, rational_sum, rootless_is, two_factors}
 use Rattle.equation_roots.proofs.{Candidates.{positive_abs, positive_is}, Linear.{linear_fractions}, RootQuotients.{zero_above}, Steps.{inserted}}
 use Rattle.equation_roots.proofs.{Values.{SameDense, all_scaled, at_scaled, same_sym, same_trans}, Wide.{handed, times_zero_int, told}}
+use Rattle.equation_roots.proofs.Sizes.{half_at_most}
 
 -- ---- the square completed
 
@@ -48,6 +49,7 @@ even_completed a b c h s o m u p fa fc fh fs fo fm fu even se oe me ue =
       positive = p;
       linear = even_linear a b h even;
       constant = even_constant a c h ∙ ap (λ z. a *ℤ (h *ℤ h -ℤ z)) (sym under);
+      half_at_most = half_at_most h b even;
       half_fits = fh;
       den_fits = fa;
       under_fits = fu;
@@ -71,6 +73,7 @@ odd_completed a b c n s o f m u p fa fb fc fn fs fo ff fm fu ne se oe fe me ue =
       positive = subst (λ (z : ℤ). pos 0 <ℤ z) (sym den) (twice_positive a p);
       linear = ap (λ z. b *ℤ z) den ∙ odd_linear a b;
       constant = (λ i. c *ℤ (den i *ℤ den i)) ∙ odd_constant a b c ∙ ap (λ z. a *ℤ (b *ℤ b -ℤ z)) (sym under);
+      half_at_most = omega arith;
       half_fits = fb;
       den_fits = fn;
       under_fits = fu;

@@ -10,6 +10,7 @@ pub mod Products
 pub mod Rising
 pub mod RootQuotients
 pub mod Rootless
+pub mod Sizes
 pub mod Squares
 pub mod Steps
 pub mod Trials
