@@ -1,11 +1,10 @@
 -- Told roots are roots, and each rational root is told.
-use Rattle.std.proofs.Common.{◌≡◌, ◌≢◌, ◌⊎◌, inl, inr, ℕ, zero, suc, ◌<◌, ◌≤◌, ◌*◌, ℤ, pos, Bool, true, false, not, List, [], ◌∷◌, ◌++◌, map, length, Contains, refl, sym, ap, ◌∙◌, subst, arith}
-use Rattle.std.proofs.lemmas.Int.{ints}
+use Rattle.std.proofs.Common.{◌≡◌, ◌≢◌, ◌⊎◌, inl, inr, ℕ, suc, ◌<◌, ◌≤◌, ◌*◌, pos, Bool, true, false, not, List, [], ◌∷◌, map, length, Contains, refl, sym, ap, ◌∙◌, subst, arith}
 use Rattle.calc_terms.specs.FractionLaws.{plus_negative}
 use Rattle.calc_terms.specs.Fractions.{Fraction, plus, times, negative, zero_fraction, one_fraction, is_zero_fraction}
 use Rattle.calc_terms.specs.Integers.{int_is_zero}
 use Rattle.calc_terms.proofs.{FractionFacts.{no_zero, zero_is}, SmallFractions.{plus_zero}, SmallLaws.{negative_not_zero, plus_both, zero_is_zero}}
-use Rattle.calc_algebra.specs.{Clean.{IsClean}, SquareClasses.{Inverts, Same, are_alike, class_coefficient}, SquareRoots.{square_root}, Surds.{Surd, term, surd_of, surd_scale, surd_times}}
+use Rattle.calc_algebra.specs.{Clean.{IsClean}, SquareClasses.{Inverts, Same, are_alike, class_coefficient}, Surds.{Surd, term, surd_of, surd_scale, surd_times}}
 use Rattle.calc_algebra.proofs.InverseLaws.{Inverts-Same, Inverts-not_zero, Inverts-surd_times, inverse_of_terms, product_not_zero, same_from_difference, terms_have_inverse, zero_is_not_one}
 use Rattle.calc_algebra.proofs.{MeaningLaws.{at_front, none_in}, NumberClasses.{one_apart_from_clean}, SquareClassLaws.{Same-Agree, Same-refl, Same-sym, Same-trans}, TermLaws.{Same-append, Same-append_comm, joined_radicand}}
 use Rattle.calc_algebra.proofs.SurdLaws.{Agree, Agree-Same, Agree-eq, Agree-sym, Agree-trans, Agree-surd_scale, Agree-surd_times_right, class_coefficient-append, class_coefficient-surd_scale, surd_times_comm, surd_times-nil, times_zero}
@@ -76,11 +75,12 @@ clean_apart_from_one t l c = turned (omega arith) ∙ one_apart_from_clean t l c
 
 -- r + m + c√t has an inverse
 side_inverse : (r m c : Fraction) (t : ℕ) → c ≢ zero_fraction → IsClean t → 2 ≤ t → (y : Surd) × Inverts y (term r 1 ∷ term m 1 ∷ term c t ∷ [])
-side_inverse r m c t n clean l =
-    (inverse_of_terms c t (plus r m) 1,
-    Inverts-Same (Same-refl (inverse_of_terms c t (plus r m) 1))
-    (Same-trans (Same-append_comm (term c t ∷ []) (term (plus r m) 1 ∷ [])) (Same-append {v = term (plus r m) 1 ∷ []} {v' = term r 1 ∷ term m 1 ∷ []} (Same-sym (joined_radicand r m 1)) (Same-refl (term c t ∷ []))))
-    (terms_have_inverse c (plus r m) t 1 n (omega (arith, l)) (omega arith) (clean_apart_from_one t l clean)))
+side_inverse r m c t n clean l = (
+  inverse_of_terms c t (plus r m) 1,
+  Inverts-Same (Same-refl (inverse_of_terms c t (plus r m) 1))
+      (Same-trans (Same-append_comm (term c t ∷ []) (term (plus r m) 1 ∷ [])) (Same-append {v = term (plus r m) 1 ∷ []} {v' = term r 1 ∷ term m 1 ∷ []} (Same-sym (joined_radicand r m 1)) (Same-refl (term c t ∷ []))))
+      (terms_have_inverse c (plus r m) t 1 n (omega (arith, l)) (omega arith) (clean_apart_from_one t l clean)),
+)
 
 pair_not_zero : (b c m s : Fraction) (t : ℕ) (r : Fraction) → IsPair b c m s t → value (dense_of (pair b c m s t)) r ≢ zero_fraction
 pair_not_zero b c m s t r p e =

@@ -1,13 +1,13 @@
 -- What products with X - q are worth.
-use Rattle.std.proofs.Common.{◌≡◌, ℕ, zero, suc, List, [], ◌∷◌, ◌++◌, map, refl, sym, ap, ◌∙◌}
-use Rattle.calc_terms.specs.FractionLaws.{times_comm, times_plus, zero_plus}
+use Rattle.std.proofs.Common.{◌≡◌, ℕ, suc, List, [], ◌∷◌, ◌++◌, map, refl, sym, ap, ◌∙◌}
+use Rattle.calc_terms.specs.FractionLaws.{times_plus, zero_plus}
 use Rattle.calc_terms.specs.Fractions.{Fraction, plus, times, negative, zero_fraction, one_fraction, plus_assoc, plus_comm}
 use Rattle.calc_terms.proofs.{SmallFractions.{plus_zero}, SmallLaws.{plus_both}}
 use Rattle.calc_algebra.specs.{SquareClasses.{Same, class_coefficient}, Surds.{Surd, surd_of, surd_scale, surd_times}}
 use Rattle.calc_algebra.proofs.{SquareClassLaws.{Same-Agree}, TermLaws.{Agree-zero_term, joined_radicand}}
-use Rattle.calc_algebra.proofs.SurdLaws.{Agree, Agree-Same, Agree-eq, Agree-refl, Agree-sym, Agree-trans, Agree-surd_scale, Agree-surd_times_right, class_coefficient-append, class_coefficient-surd_scale, surd_times-append, surd_times-nil, surd_times-surd_of}
-use Rattle.equation_roots.specs.{Coefficients.{Dense, at, dense_plus, times_all, times_linear, worth}, Factorings.{IsFactoring, Rest, dense_of, less, product_at}}
-use Rattle.equation_roots.proofs.{Values.{SameDense, at_scaled, swap_factors}, Vieta.{negative_is, product_right, scaled_right}}
+use Rattle.calc_algebra.proofs.SurdLaws.{Agree, Agree-Same, Agree-refl, Agree-sym, Agree-trans, Agree-surd_scale, Agree-surd_times_right, class_coefficient-append, class_coefficient-surd_scale, surd_times-append, surd_times-nil, surd_times-surd_of}
+use Rattle.equation_roots.specs.{Coefficients.{Dense, dense_plus, times_all, times_linear, worth}, Factorings.{IsFactoring, Rest, dense_of, less, product_at}}
+use Rattle.equation_roots.proofs.{Values.{SameDense, at_scaled}, Vieta.{negative_is, product_right, scaled_right}}
 
 -- ---- equal coefficients
 

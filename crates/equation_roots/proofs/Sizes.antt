@@ -1,6 +1,6 @@
 -- Coefficients that are small stay small.
-use Rattle.std.proofs.Common.{◌≡◌, ◌≢◌, ◌⊎◌, inl, inr, ℕ, zero, suc, ◌+◌, ◌*◌, ◌/◌, ◌<◌, ◌≤◌, ◌^◌, ℤ, pos, negsuc, ◌+ℤ◌, ◌*ℤ◌, neg_ℤ, nat_abs, Bool, true, false, List, [], ◌∷◌, map, length, get_or, drop, refl, sym, ap, ◌∙◌, subst, arith}
-use Rattle.std.proofs.lemmas.{Int.{ints, unsigned_abs-mul}, List.{length-map}, Nat.Gcd.{dvd_trans, le_of_dvd}}
+use Rattle.std.proofs.Common.{◌≡◌, ◌⊎◌, inl, inr, ℕ, zero, suc, ◌+◌, ◌*◌, ◌/◌, ◌<◌, ◌≤◌, ◌^◌, ℤ, pos, ◌+ℤ◌, ◌*ℤ◌, neg_ℤ, nat_abs, Bool, List, [], ◌∷◌, map, length, get_or, drop, refl, sym, ap, ◌∙◌, subst, arith}
+use Rattle.std.proofs.lemmas.{Int.{ints, unsigned_abs-mul}}
 use Rattle.std.proofs.Math.Nat.{div-mul-le_self, dvd_of_mul-dvd-mul_left, le-mul_of_pos_right, mul-dvd-mul_left}
 use Rattle.std.proofs.lemmas.Nat.{le-div}
 use Rattle.std.specs.Int.{IsGcd}
@@ -10,7 +10,7 @@ use Rattle.calc_bits.specs.Denominators.{magnitude_over}
 use Rattle.calc_terms.specs.{Fractions.{Fraction, times, whole_fraction, zero_fraction, den_pos}, Gcd.{divided, gauss}, Ratio.{with_sign}}
 use Rattle.calc_terms.proofs.{Lowest.{gcd_positive}, Signs.{abs-with_sign}}
 use Rattle.calc_algebra.proofs.MeaningLaws.{whole_one}
-use Rattle.equation_roots.specs.{Coefficients.{Dense}, Sizes.{HasFewBits, IsCommon, mass_of, mass_over}, Wholes.{fractions}}
+use Rattle.equation_roots.specs.{Coefficients.{Dense}, Sizes.{IsCommon, mass_of, mass_over}, Wholes.{fractions}}
 use Rattle.equation_roots.proofs.{CommonFactors.{scaled_entry}, Wide.{abs_neg, handed, told}}
 
 -- ---- the least common multiple
@@ -177,3 +177,6 @@ outside_is_small d o e h = by (either (nat_abs o) (2 ^ 64))
 
 pub half_at_most : (h b : ℤ) → pos 2 *ℤ h ≡ b → nat_abs h ≤ nat_abs b
 half_at_most h b e = let f : nat_abs b ≡ 2 * nat_abs h = ap nat_abs (sym e) ∙ unsigned_abs-mul (pos 2) h in omega (arith, f)
+
+pub handed_item : (zs : List ℤ) (k : ℕ) (x : ℤ) → nat_abs x < 2 ^ 127 → x ≡ get_or zs k (pos 0) → mass_of zs ≤ 2 ^ 62 → nat_abs (handed x) ≤ 2 ^ 62
+handed_item zs k x f e h = let g : nat_abs (handed x) ≡ nat_abs (get_or zs k (pos 0)) = ap nat_abs (told x f ∙ e) in omega (arith, g, item_at_most zs k, h)

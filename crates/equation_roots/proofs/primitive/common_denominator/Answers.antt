@@ -1,4 +1,4 @@
-use Rattle.std.proofs.Common.{ℕ, ◌<◌, get_or, ap, sym, subst, ◌∙◌, arith, below_more, refl}
+use Rattle.std.proofs.Common.{ℕ, get_or, ap, sym, subst, ◌∙◌, arith, below_more, refl}
 use Rattle.std.specs.Int.{◌∣◌}
 use Rattle.std.proofs.lemmas.Nat.Gcd.{dvd_trans}
 use Rattle.calc_terms.specs.{Fractions.{Fraction, zero_fraction}, Rat.{value_of}}

@@ -1,4 +1,4 @@
-use Rattle.std.proofs.Common.{refl, ℕ, ◌≤◌, sym, subst, arith}
+use Rattle.std.proofs.Common.{refl, ℕ, sym, subst, arith}
 use Rattle.std.specs.Int.{◌∣◌}
 use Rattle.std.proofs.lemmas.Nat.Gcd.{le_of_dvd}
 use Rattle.equation_roots.proofs.Sizes.{least_multiple}
