@@ -28,7 +28,7 @@ zero_left {u} w a = Agree-trans (surd_times_comm u w) (zero_right w a)
 
 -- ---- told roots are roots
 
-pair_gone : (b c m s : Fraction) (t : ℕ) (v : Surd) → IsPair b c m s t → Contains (lower m s t ∷ upper m s t ∷ []) v → Agree (worth (dense_of (pair b c m s t)) v) []
+pub pair_gone : (b c m s : Fraction) (t : ℕ) (v : Surd) → IsPair b c m s t → Contains (lower m s t ∷ upper m s t ∷ []) v → Agree (worth (dense_of (pair b c m s t)) v) []
 pair_gone b c m s t v p h = Agree-trans (Same-Agree (linear_factors b c m s t v p)) (first (at_front (lower m s t) (upper m s t ∷ []) v h))
   where
     second : (upper m s t ≡ v) ⊎ Contains [] v → Agree (surd_times (less v (lower m s t)) (less v (upper m s t))) []
@@ -58,7 +58,7 @@ told_solves p qs rest v f h = Agree-Same (Agree-trans (factored_agree p qs rest 
 
 -- ---- no rational makes a pair 0
 
-above_not_zero : (s : Fraction) → IsAboveZero s → s ≢ zero_fraction
+pub above_not_zero : (s : Fraction) → IsAboveZero s → s ≢ zero_fraction
 above_not_zero s (n, h) e = let z : is_zero_fraction s ≡ true = ap is_zero_fraction e ∙ zero_is_zero in let f : int_is_zero (pos (suc n)) ≡ true = ap int_is_zero (sym h) ∙ z in cc
 
 minus_one_not_zero : negative one_fraction ≢ zero_fraction
@@ -91,7 +91,7 @@ pair_not_zero b c m s t r p e =
     (Inverts-surd_times first.0 (less (surd_of r) (lower m s t)) second.0 (less (surd_of r) (upper m s t)) first.1 second.1)
     (Same-trans (Same-sym (linear_factors b c m s t (surd_of r) p)) (worth_is_zero (dense_of (pair b c m s t)) r e))
 
-rest_not_zero : (rest : Rest) (r : Fraction) → IsRest rest → value (dense_of rest) r ≢ zero_fraction
+pub rest_not_zero : (rest : Rest) (r : Fraction) → IsRest rest → value (dense_of rest) r ≢ zero_fraction
 rest_not_zero nothing r h e = zero_is_not_one (sym e ∙ ap (plus one_fraction) (times_zero r) ∙ plus_zero one_fraction)
 rest_not_zero (rootless g c) r h e = no_root c g (surd_of r) h (worth_is_zero (dense_of (rootless g c)) r e)
 rest_not_zero (pair b c m s t) r h e = pair_not_zero b c m s t r h e
@@ -105,7 +105,7 @@ zero_or_not x = by (is_zero_fraction x) refl
     by true e = inl (zero_is x e)
     by false e = inr (no_zero x (ap not e))
 
-other_factor : (l x : Fraction) → l ≢ zero_fraction → times l x ≡ zero_fraction → x ≡ zero_fraction
+pub other_factor : (l x : Fraction) → l ≢ zero_fraction → times l x ≡ zero_fraction → x ≡ zero_fraction
 other_factor l x n e = by (zero_or_not x)
   where
     by : (x ≡ zero_fraction) ⊎ (x ≢ zero_fraction) → x ≡ zero_fraction
@@ -123,7 +123,7 @@ among_either : (q : Fraction) (qs : List Fraction) (d : Dense) (r : Fraction) �
 among_either q qs d r (inl z) f e = here q r qs (same_from_difference r q z)
 among_either q qs d r (inr m) f e = later q r qs (f (other_factor (plus r (negative q)) (value (times_all qs d) r) m (sym (value_linear q (times_all qs d) r) ∙ e)))
 
-among : (qs : List Fraction) (d : Dense) (r : Fraction) → value d r ≢ zero_fraction → value (times_all qs d) r ≡ zero_fraction → Contains qs r
+pub among : (qs : List Fraction) (d : Dense) (r : Fraction) → value d r ≢ zero_fraction → value (times_all qs d) r ≡ zero_fraction → Contains qs r
 among [] d r n e = absurd (n e)
 among (q ∷ qs) d r n e = among_either q qs d r (zero_or_not (plus r (negative q))) (λ z. among qs d r n z) e
 

@@ -72,7 +72,7 @@ module _ (p r : ℤ) (q s : ℕ) (hq : 0 < q) (hs : 0 < s) where
   minus_plus_in = simp (plus_lowest, negative_lowest, mul_pos)
       (same_lowest _ _ _ _ (mul_pos _ _ hs hq) (mul_pos _ _ hq hs) (rw (parts p, parts r) (simp diffs (eq_diff _ _ _ _ (omega arith)))))
 
-difference_back : (x e : Fraction) → plus x (negative (plus x (negative e))) ≡ e
+pub difference_back : (x e : Fraction) → plus x (negative (plus x (negative e))) ≡ e
 difference_back x e = rw (lowest_parts x, lowest_parts e) (back_in _ _ _ _ (den_pos x) (den_pos e))
 
 minus_times : (x e : Fraction) → times (negative x) (negative e) ≡ times x e

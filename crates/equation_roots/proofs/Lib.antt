@@ -14,6 +14,7 @@ pub mod Sizes
 pub mod Squares
 pub mod Steps
 pub mod Trials
+pub mod Uniqueness
 pub mod Values
 pub mod Vieta
 pub mod Whole

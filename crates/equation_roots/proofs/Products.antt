@@ -60,7 +60,7 @@ worth_scaled l (q ∷ p) v = record {
 sum_one : (q r : Fraction) (s : ℕ) → class_coefficient (surd_of (plus q r)) s ≡ plus (class_coefficient (surd_of q) s) (class_coefficient (surd_of r) s)
 sum_one q r s = sym ((Same-Agree (joined_radicand q r 1)).at s) ∙ class_coefficient-append (surd_of q) (surd_of r) s
 
-mixed : (a b c d : Fraction) → plus (plus a b) (plus c d) ≡ plus (plus a c) (plus b d)
+pub mixed : (a b c d : Fraction) → plus (plus a b) (plus c d) ≡ plus (plus a c) (plus b d)
 mixed a b c d = plus_assoc a b (plus c d) ∙ ap (plus a) (sym (plus_assoc b c d) ∙ ap (λ y. plus y d) (plus_comm b c) ∙ plus_assoc c b d) ∙ sym (plus_assoc a c (plus b d))
 
 plus_more : (q r : Fraction) (p w : Dense) (v : Surd) → Agree (worth (dense_plus p w) v) (worth p v ++ worth w v)

@@ -1,10 +1,10 @@
 //! Laws of factorings, each the contract of a function without a body.
-ghost use Rattle.std.specs.Prelude.{◌≡◌, ℕ, List, [], Contains};
-ghost use Rattle.calc_terms.specs.Fractions.{Fraction, negative, plus, times};
+ghost use Rattle.std.specs.Prelude.{◌≡◌, ◌≢◌, ◌^◌, ℕ, List, [], Contains};
+ghost use Rattle.calc_terms.specs.Fractions.{Fraction, negative, plus, times, zero_fraction};
 ghost use Rattle.calc_algebra.specs.SquareClasses.{Same, class_coefficient};
 ghost use Rattle.calc_algebra.specs.Surds.{Surd, surd_of, surd_scale, surd_times};
-ghost use Rattle.equation_roots.specs.Coefficients.{Dense, worth};
-ghost use Rattle.equation_roots.specs.Factorings.{IsBelowZero, IsFactoring, IsNotBelowZero, IsPair, Rest, dense_of, less, lower, pair, product_at, rootless, roots_of, upper};
+ghost use Rattle.equation_roots.specs.Coefficients.{Dense, at, worth};
+ghost use Rattle.equation_roots.specs.Factorings.{HasRadicandBelow, IsBelowZero, IsFactoring, IsNotBelowZero, IsPair, Rest, dense_of, less, lower, pair, product_at, rootless, roots_of, upper};
 
 /// What is left with a pair of roots is the product of both linear factors.
 #[tactic(auto, using(crate::proofs::Vieta::linear_factors))]
@@ -40,4 +40,10 @@ pub fn told_roots_solve()
 /// Each fraction that makes the polynomial 0 is told.
 pub fn rational_roots_are_told()
     ensures { (p : Dense) (qs : List Fraction) (rest : Rest) (r : Fraction) → IsFactoring p qs rest → Same (worth p (surd_of r)) [] → Contains qs r }
+{}
+
+/// A polynomial and its multiples by fractions other than 0 have one factoring, where radicands are below 10^12.
+pub fn one_factoring()
+    ensures { (p w : Dense) (l : Fraction) (qs rs : List Fraction) (rest other : Rest) → l ≢ zero_fraction → ((k : ℕ) → at k w ≡ times l (at k p))
+        → IsFactoring p qs rest → IsFactoring w rs other → HasRadicandBelow (10 ^ 12) rest → HasRadicandBelow (10 ^ 12) other → (qs ≡ rs) × (rest ≡ other) }
 {}
