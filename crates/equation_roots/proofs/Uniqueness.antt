@@ -1,5 +1,5 @@
 -- A polynomial has one factoring, and its multiples have the same.
-use Rattle.std.proofs.Common.{◌≡◌, ◌≢◌, ◌⊎◌, inl, inr, ℕ, zero, suc, ◌+◌, ◌*◌, ◌<◌, ◌≤◌, ◌^◌, ℤ, pos, ◌+ℤ◌, ◌*ℤ◌, ◌<ℤ◌, ◌≤ℤ◌, Bool, true, false, List, [], ◌∷◌, ◌++◌, map, length, Contains, refl, sym, ap, ◌∙◌, subst, arith}
+use Rattle.std.proofs.Common.{◌≡◌, ◌≢◌, ◌⊎◌, inl, inr, ℕ, zero, suc, ◌+◌, ◌*◌, ◌<◌, ◌≤◌, ◌^◌, ℤ, pos, ◌+ℤ◌, ◌*ℤ◌, ◌<ℤ◌, ◌≤ℤ◌, Bool, true, false, List, [], ◌∷◌, map, length, Contains, refl, sym, ap, ◌∙◌, subst, arith}
 use Rattle.std.proofs.lemmas.Int.{ints}
 use Rattle.std.specs.{Cmp.{int_ranks}, Ordering.{int_cmp, MatchOrdering}, declared.cmp.Ordering.{Ordering}, declared.cmp.Ordering.TheVariants.{Less, Equal, Greater}}
 use Rattle.calc_terms.specs.FractionLaws.{one_times, plus_negative, times_assoc, times_comm, times_plus, zero_times}
@@ -9,10 +9,10 @@ use Rattle.calc_terms.proofs.{FractionFacts.{whole_numerator}, SmallFractions.{p
 use Rattle.calc_algebra.specs.{Clean.{IsClean}, SquareClasses.{Same, are_alike}, Surds.{surd_of}}
 use Rattle.calc_algebra.proofs.InverseLaws.{difference_not_zero, inverse_times_itself, negative_times, product_not_zero, same_from_difference, zero_is_not_one}
 use Rattle.calc_algebra.proofs.{CleanLaws.{alike_square_free, clean_square_free}, MeaningLaws.{at_front, none_in, surd_of_one}, SquareClassLaws.{Same-Agree}}
-use Rattle.calc_algebra.proofs.SurdLaws.{Agree, Agree-Same, Agree-sym, Agree-trans, times_zero}
-use Rattle.equation_roots.specs.{Coefficients.{Dense, at, times_all, times_linear, value, worth}, Factorings.{AreRising, IsAboveZero, IsFactoring, IsPair, IsRest, Rest, HasRadicandBelow, dense_of, lower, nothing, pair, rootless, upper}}
+use Rattle.calc_algebra.proofs.SurdLaws.{Agree-Same, Agree-sym, Agree-trans, times_zero}
+use Rattle.equation_roots.specs.{Coefficients.{Dense, at, times_all, times_linear, value, worth}, Factorings.{AreRising, IsAboveZero, IsFactoring, IsPair, IsRest, Rest, HasRadicandBelow, dense_of, lower, nothing, pair, rootless}}
 use Rattle.equation_roots.proofs.{CommonFactors.{common_not_zero}, Completeness.{above_not_zero, among, other_factor, pair_gone, rest_not_zero}, Formula.{above, difference_back, pair_product, pair_sum}, Products.{mixed, worth_same}, Rootless.{no_root}}
-use Rattle.equation_roots.proofs.{Values.{SameDense, at_linear, at_scaled, swap_factors, value_linear, value_scaled}, Vieta.{negative_twice}, Wide.{times_comm_int, times_zero_int}, Worths.{worth_value}}
+use Rattle.equation_roots.proofs.{Values.{at_linear, at_scaled, swap_factors, value_linear, value_scaled}, Vieta.{negative_twice}, Wide.{times_comm_int, times_zero_int}, Worths.{worth_value}}
 
 -- ---- multiples
 
@@ -147,7 +147,7 @@ same_rationals (q ∷ qs) [] d e nd ne hq hr h =
 same_rationals (q ∷ qs) (r ∷ rs) d e nd ne hq hr h =
     let s = same_first q r qs rs d e nd ne hq hr h in
     let o = same_rationals qs rs d e nd ne (others_rise q qs hq) (others_rise r rs hr)
-        (cancelled q (times_all qs d) (times_all rs e) (subst (λ x. Proportional (times_all (q ∷ qs) d) (times_linear x (times_all rs e))) (sym s) h)) in
+    (cancelled q (times_all qs d) (times_all rs e) (subst (λ x. Proportional (times_all (q ∷ qs) d) (times_linear x (times_all rs e))) (sym s) h)) in
     (λ i. s i ∷ o.0 i, o.1)
 
 -- ---- the same rest
