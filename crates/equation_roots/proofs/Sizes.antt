@@ -2,7 +2,7 @@
 use Rattle.std.proofs.Common.{◌≡◌, ◌⊎◌, inl, inr, ℕ, zero, suc, ◌+◌, ◌*◌, ◌/◌, ◌<◌, ◌≤◌, ◌^◌, ℤ, pos, ◌+ℤ◌, ◌*ℤ◌, neg_ℤ, nat_abs, Bool, List, [], ◌∷◌, map, length, get_or, drop, refl, sym, ap, ◌∙◌, subst, arith}
 use Rattle.std.proofs.lemmas.{Int.{ints, unsigned_abs-mul}}
 use Rattle.std.proofs.Math.Nat.{div-mul-le_self, dvd_of_mul-dvd-mul_left, le-mul_of_pos_right, mul-dvd-mul_left}
-use Rattle.std.proofs.lemmas.Nat.{le-div}
+use Rattle.std.proofs.{lemmas.Nat.{le-div, pow-add}, Math.Nat.{pow-le-pow_right}}
 use Rattle.std.specs.Int.{IsGcd}
 use native.Mathlib.Nat.{dvd-mul_right, mul-div_cancel'}
 use Prim.Native.Nat.{◌∣◌}
@@ -10,7 +10,7 @@ use Rattle.calc_bits.specs.Denominators.{magnitude_over}
 use Rattle.calc_terms.specs.{Fractions.{Fraction, times, whole_fraction, zero_fraction, den_pos}, Gcd.{divided, gauss}, Ratio.{with_sign}}
 use Rattle.calc_terms.proofs.{Lowest.{gcd_positive}, Signs.{abs-with_sign}}
 use Rattle.calc_algebra.proofs.MeaningLaws.{whole_one}
-use Rattle.equation_roots.specs.{Coefficients.{Dense}, Sizes.{IsCommon, mass_of, mass_over}, Wholes.{fractions}}
+use Rattle.equation_roots.specs.{Coefficients.{Dense}, Sizes.{HasFewBits, IsCommon, mass_of, mass_over}, Wholes.{fractions}}
 use Rattle.equation_roots.proofs.{CommonFactors.{scaled_entry}, Wide.{abs_neg, handed, told}}
 
 -- ---- the least common multiple
@@ -180,3 +180,27 @@ half_at_most h b e = let f : nat_abs b ≡ 2 * nat_abs h = ap nat_abs (sym e) �
 
 pub handed_item : (zs : List ℤ) (k : ℕ) (x : ℤ) → nat_abs x < 2 ^ 127 → x ≡ get_or zs k (pos 0) → mass_of zs ≤ 2 ^ 62 → nat_abs (handed x) ≤ 2 ^ 62
 handed_item zs k x f e h = let g : nat_abs (handed x) ≡ nat_abs (get_or zs k (pos 0)) = ap nat_abs (told x f ∙ e) in omega (arith, g, item_at_most zs k, h)
+
+power_grows : (i j : ℕ) → i ≤ j → 2 ^ i ≤ 2 ^ j
+power_grows i j h = let p : 0 < 2 = omega arith in pow-le-pow_right p h
+
+pub held_has_few_bits : (p : Dense) (d h l : ℕ) → 0 < d → IsCommon d p → d ≤ 2 ^ l → mass_over d p ≤ d * 2 ^ h → h + l ≤ 62 → HasFewBits p
+held_has_few_bits p d h l positive common low high few = record {
+  denominator = d;
+  positive = positive;
+  fits = omega (arith, low, small);
+  common = common;
+  few = omega (arith, high, both, sum, whole);
+}
+  where
+    small : 2 ^ l ≤ 2 ^ 62
+    small = power_grows l 62 (omega (arith, few))
+
+    whole : 2 ^ (l + h) ≤ 2 ^ 62
+    whole = power_grows (l + h) 62 (omega (arith, few))
+
+    sum : 2 ^ (l + h) ≡ 2 ^ l * 2 ^ h
+    sum = pow-add 2 l h
+
+    both : d * 2 ^ h ≤ 2 ^ l * 2 ^ h
+    both = product_at_most d (2 ^ h) (2 ^ l) (2 ^ h) low (omega arith)

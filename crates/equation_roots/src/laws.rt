@@ -1,10 +1,11 @@
 //! Laws of factorings, each the contract of a function without a body.
-ghost use Rattle.std.specs.Prelude.{◌≡◌, ◌≢◌, ◌^◌, ℕ, List, [], Contains};
+ghost use Rattle.std.specs.Prelude.{◌≡◌, ◌≢◌, ◌+◌, ◌*◌, ◌<◌, ◌≤◌, ◌^◌, ℕ, List, [], Contains};
 ghost use Rattle.calc_terms.specs.Fractions.{Fraction, negative, plus, times, zero_fraction};
 ghost use Rattle.calc_algebra.specs.SquareClasses.{Same, class_coefficient};
 ghost use Rattle.calc_algebra.specs.Surds.{Surd, surd_of, surd_scale, surd_times};
 ghost use Rattle.equation_roots.specs.Coefficients.{Dense, at, worth};
 ghost use Rattle.equation_roots.specs.Factorings.{HasRadicandBelow, IsBelowZero, IsFactoring, IsNotBelowZero, IsPair, Rest, dense_of, less, lower, pair, product_at, rootless, roots_of, upper};
+ghost use Rattle.equation_roots.specs.Sizes.{HasFewBits, IsCommon, mass_over};
 
 /// What is left with a pair of roots is the product of both linear factors.
 #[tactic(auto, using(crate::proofs::Vieta::linear_factors))]
@@ -46,4 +47,9 @@ pub fn rational_roots_are_told()
 pub fn one_factoring()
     ensures { (p w : Dense) (l : Fraction) (qs rs : List Fraction) (rest other : Rest) → l ≢ zero_fraction → ((k : ℕ) → at k w ≡ times l (at k p))
         → IsFactoring p qs rest → IsFactoring w rs other → HasRadicandBelow (10 ^ 12) rest → HasRadicandBelow (10 ^ 12) other → (qs ≡ rs) × (rest ≡ other) }
+{}
+
+/// Coefficients have few bits where a common denominator is at most 2^l, the sum of their magnitudes at most 2^h, and h + l at most 62.
+pub fn held_coefficients_have_few_bits()
+    ensures { (p : Dense) (d h l : ℕ) → 0 < d → IsCommon d p → d ≤ 2 ^ l → mass_over d p ≤ d * 2 ^ h → h + l ≤ 62 → HasFewBits p }
 {}
