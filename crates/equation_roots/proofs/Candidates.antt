@@ -1,13 +1,12 @@
 -- Candidates for rational roots.
-use Rattle.std.proofs.Common.{◌≡◌, ◌≢◌, ◌⊎◌, inl, inr, ℕ, zero, suc, ◌+◌, ◌*◌, ◌<◌, ◌≤◌, ℤ, pos, negsuc, ◌+ℤ◌, ◌*ℤ◌, ◌<ℤ◌, neg_ℤ, nat_abs, Option, Some, None, MatchOption, Result, Ok, Err, IfOk, ◌^◌, Bool, true, false, List, [], ◌∷◌, reverse, length, refl, sym, ap, ◌∙◌, subst, arith}
-use Rattle.std.proofs.lemmas.{Int.{ints, unsigned_abs-mul}, List.{reverse-reverse}, Nat.Gcd.{same_from_IsGcd}}
-use Rattle.std.specs.Int.{IsGcd}
+use Rattle.std.proofs.Common.{◌≡◌, ◌≢◌, ◌⊎◌, inl, inr, ℕ, ◌<◌, ◌≤◌, ℤ, pos, negsuc, ◌+ℤ◌, ◌*ℤ◌, ◌<ℤ◌, neg_ℤ, nat_abs, Option, Some, None, MatchOption, Result, Ok, Err, IfOk, ◌^◌, true, false, List, ◌∷◌, reverse, length, refl, sym, ap, ◌∙◌, subst, arith}
+use Rattle.std.proofs.lemmas.{Int.{ints, unsigned_abs-mul}, List.{reverse-reverse}}
 use native.Mathlib.Nat.{dvd-mul_right}
 use Prim.Native.Nat.{◌∣◌}
 use Rattle.calc_terms.specs.Fractions.{Fraction, lowest, lowest_parts, den_pos, zero_fraction}
 use Rattle.rational128.specs.declared.overflow.Overflow.{Overflow}
 use Rattle.equation_roots.specs.{Coefficients.{value}, Told.{wholes_of}, Wholes.{IsCandidate, fractions, leading, linear_product, read}, declared.wholes.Wholes.{Wholes}}
-use Rattle.equation_roots.proofs.{Linear.{leading-linear, linear-reverse}, RootQuotients.{first_divides, fraction_coprime, root_has_quotient, scaled_zero}, Wide.{abs_zero, handed, times_zero_int, told}}
+use Rattle.equation_roots.proofs.{Linear.{leading-linear, linear-reverse}, RootQuotients.{first_divides, fraction_coprime, root_has_quotient, scaled_zero}, Wide.{handed, times_zero_int, told}}
 
 pub positive_is : (v : ℤ) → pos 0 <ℤ v → v ≡ pos (nat_abs v)
 positive_is (pos n) h = refl

@@ -1,11 +1,11 @@
 -- Coefficients made whole and primitive.
-use Rattle.std.proofs.Common.{◌≡◌, ◌≢◌, ℕ, zero, suc, ◌+◌, ◌-◌, ◌*◌, ◌/◌, ◌<◌, ◌≤◌, ℤ, pos, negsuc, ◌*ℤ◌, ◌+ℤ◌, ◌<ℤ◌, neg_ℤ, nat_abs, Bool, true, false, List, [], ◌∷◌, ◌++◌, map, length, get_or, take, refl, sym, ap, ◌∙◌, subst, arith, below_more}
-use Rattle.std.proofs.lemmas.{Int.{ints, unsigned_abs-mul}, List.{length-map, map-append, take_more}}
+use Rattle.std.proofs.Common.{◌≡◌, ◌≢◌, ℕ, zero, suc, ◌+◌, ◌-◌, ◌*◌, ◌/◌, ◌<◌, ℤ, pos, negsuc, ◌*ℤ◌, ◌<ℤ◌, neg_ℤ, nat_abs, Bool, true, false, List, [], ◌∷◌, ◌++◌, map, length, get_or, take, refl, sym, ap, ◌∙◌, subst, arith, below_more}
+use Rattle.std.proofs.lemmas.{Int.{ints}, List.{length-map, map-append, take_more}}
 use Rattle.std.specs.Int.{IsGcd}
 use Rattle.std.proofs.lemmas.Nat.Gcd.{dvd_trans}
-use native.Mathlib.Nat.{div-mul_cancel, mul-div_cancel', dvd-mul_left, mul_comm, mul_assoc}
+use native.Mathlib.Nat.{div-mul_cancel, mul-div_cancel', dvd-mul_left}
 use Prim.Native.Nat.{◌∣◌}
-use Rattle.calc_terms.specs.{Fractions.{Fraction, lowest, times, plus, whole_fraction, zero_fraction, mul_pos, den_pos, same_lowest, times_lowest, lowest_parts, over, over_back}, Integers.{parts, diffs, eq_diff}, Ratio.{with_sign}}
+use Rattle.calc_terms.specs.{Fractions.{Fraction, times, whole_fraction, zero_fraction, mul_pos, den_pos, same_lowest, times_lowest, lowest_parts, over, over_back}, Integers.{parts, diffs, eq_diff}, Ratio.{with_sign}}
 use Rattle.calc_terms.specs.FractionLaws.{one_times, times_assoc, times_comm}
 use Rattle.calc_terms.specs.{Fractions.{inverse}, Integers.{int_is_negative}}
 use Rattle.calc_terms.proofs.Signs.{abs-with_sign}

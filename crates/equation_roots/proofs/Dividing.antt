@@ -1,5 +1,5 @@
 -- A division by aX + b under way.
-use Rattle.std.proofs.Common.{◌≡◌, ◌≢◌, ℕ, zero, suc, ◌+◌, ◌<◌, ◌≤◌, ℤ, pos, ◌+ℤ◌, ◌-ℤ◌, ◌*ℤ◌, List, [], ◌∷◌, ◌++◌, length, get_or, take, drop, refl, sym, ap, ◌∙◌, arith, append_assoc, length-drop, Bool, true, false}
+use Rattle.std.proofs.Common.{◌≡◌, ◌≢◌, ℕ, ◌+◌, ◌<◌, ◌≤◌, ℤ, pos, ◌+ℤ◌, ◌*ℤ◌, List, [], ◌∷◌, ◌++◌, length, get_or, take, drop, refl, sym, ap, ◌∙◌, arith, append_assoc, length-drop, Bool, true, false}
 use Rattle.std.proofs.{Math.Seq.{take-suc, drop-cons}, lemmas.{Int.{ints}, List.{append-nil, drop_all, length-reverse, reverse-reverse, take-append-drop}}}
 use Rattle.equation_roots.specs.Wholes.{linear_product, read}
 use Rattle.equation_roots.proofs.{Linear.{length-linear}, Wide.{cancel_factor, times_zero_int}}

@@ -1,5 +1,5 @@
 -- What is left of degree at most 2, with its roots.
-use Rattle.std.proofs.Common.{◌≡◌, ◌≢◌, ℕ, zero, suc, ◌+◌, ◌*◌, ◌<◌, ◌≤◌, ◌^◌, ℤ, pos, negsuc, ◌+ℤ◌, ◌-ℤ◌, ◌*ℤ◌, ◌<ℤ◌, neg_ℤ, nat_abs, Bool, true, false, List, [], ◌∷◌, map, length, get_or, refl, sym, ap, ◌∙◌, subst, arith}
+use Rattle.std.proofs.Common.{◌≡◌, ◌≢◌, ℕ, zero, suc, ◌*◌, ◌<◌, ◌≤◌, ◌^◌, ℤ, pos, negsuc, ◌+ℤ◌, ◌-ℤ◌, ◌*ℤ◌, ◌<ℤ◌, neg_ℤ, nat_abs, true, false, List, [], ◌∷◌, map, length, get_or, refl, sym, ap, ◌∙◌, subst, arith}
 use Rattle.std.proofs.lemmas.Int.{ints}
 use Rattle.calc_terms.specs.Fractions.{Fraction, lowest, plus, times, negative, zero_fraction, one_fraction, whole_fraction, mul_pos}
 use Rattle.calc_terms.specs.Integers.{parts, diffs, eq_diff, int_is_negative}
@@ -7,9 +7,10 @@ use Rattle.calc_terms.proofs.SmallLaws.{times_one}
 use Rattle.calc_algebra.specs.Clean.{IsClean}
 use Rattle.equation_roots.specs.{Coefficients.{Dense, at, times_all, times_linear}, Factorings.{IsAboveZero, IsRest, Rest, dense_of, nothing, rootless}}
 use Rattle.equation_roots.specs.{Rationals.{IsInserted}, Rests.{pair_of}, Squares.{Finishes, IsCompleted}, Wholes.{fractions, leading, linear_product}}
-use Rattle.equation_roots.proofs.Formula.{above, coefficients, constant, constant_quotient, middle, middle_sum, pair_constant, pair_product, pair_sum, rational_product, rational_sum, rootless_is, two_factors}
+use Rattle.equation_roots.proofs.Formula.{coefficients, constant, constant_quotient, middle, middle_sum, pair_constant, pair_product, pair_sum, rational_product, rational_sum, rootless_is, two_factors}
 use Rattle.equation_roots.proofs.{Candidates.{positive_abs, positive_is}, Linear.{linear_fractions}, RootQuotients.{zero_above}, Steps.{inserted}}
-use Rattle.equation_roots.proofs.{Values.{SameDense, all_same, all_scaled, at_scaled, same_sym, same_trans}, Wide.{handed, times_zero_int, told}}
+use Rattle.equation_roots.proofs.{Values.{SameDense, all_scaled, at_scaled, same_sym, same_trans}, Wide.{handed, times_zero_int, told}}
+use Rattle.equation_roots.proofs.Sizes.{half_at_most}
 
 -- ---- the square completed
 
@@ -48,6 +49,7 @@ even_completed a b c h s o m u p fa fc fh fs fo fm fu even se oe me ue =
       positive = p;
       linear = even_linear a b h even;
       constant = even_constant a c h ∙ ap (λ z. a *ℤ (h *ℤ h -ℤ z)) (sym under);
+      half_at_most = half_at_most h b even;
       half_fits = fh;
       den_fits = fa;
       under_fits = fu;
@@ -71,6 +73,7 @@ odd_completed a b c n s o f m u p fa fb fc fn fs fo ff fm fu ne se oe fe me ue =
       positive = subst (λ (z : ℤ). pos 0 <ℤ z) (sym den) (twice_positive a p);
       linear = ap (λ z. b *ℤ z) den ∙ odd_linear a b;
       constant = (λ i. c *ℤ (den i *ℤ den i)) ∙ odd_constant a b c ∙ ap (λ z. a *ℤ (b *ℤ b -ℤ z)) (sym under);
+      half_at_most = omega arith;
       half_fits = fb;
       den_fits = fn;
       under_fits = fu;
@@ -81,7 +84,7 @@ odd_completed a b c n s o f m u p fa fb fc fn fs fo ff fm fu ne se oe fe me ue =
 pub same_of : {p w : Dense} → p ≡ w → SameDense p w
 same_of e = record { each = λ k. ap (at k) e }
 
-positive_not_zero : (a : ℤ) → pos 0 <ℤ a → whole_fraction a ≢ zero_fraction
+pub positive_not_zero : (a : ℤ) → pos 0 <ℤ a → whole_fraction a ≢ zero_fraction
 positive_not_zero a h e = let z : a ≡ pos 0 = zero_above a 1 (omega arith) e in absurd (omega (arith, ints, h, ap nat_abs z))
 
 pub finishes_from : (found found' : List Fraction) (left : List ℤ) (a : ℤ) (p : Dense) (rest : Rest) → pos 0 <ℤ a → fractions left ≡ map (times (whole_fraction a)) p

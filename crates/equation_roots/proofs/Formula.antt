@@ -1,14 +1,14 @@
 -- The roots of a polynomial of degree 2 whose square is completed.
-use Rattle.std.proofs.Common.{◌≡◌, ◌≢◌, ℕ, zero, suc, ◌+◌, ◌*◌, ◌<◌, ◌≤◌, ℤ, pos, negsuc, ◌+ℤ◌, ◌-ℤ◌, ◌*ℤ◌, ◌<ℤ◌, neg_ℤ, nat_abs, List, [], ◌∷◌, ◌++◌, map, refl, sym, ap, ◌∙◌, subst, arith}
+use Rattle.std.proofs.Common.{◌≡◌, ℕ, zero, suc, ◌*◌, ◌<◌, ℤ, pos, negsuc, ◌+ℤ◌, ◌-ℤ◌, ◌*ℤ◌, ◌<ℤ◌, neg_ℤ, [], ◌∷◌, ◌++◌, map, refl, sym, ap, ◌∙◌, subst, arith}
 use Rattle.std.proofs.lemmas.Int.{ints}
-use Rattle.calc_terms.specs.{FractionLaws.{negative_lowest, one_times, plus_negative, times_comm, times_plus, zero_plus}, Integers.{parts, diffs, eq_diff, combine}}
-use Rattle.calc_terms.specs.Fractions.{Fraction, lowest, plus, times, negative, zero_fraction, one_fraction, whole_fraction, mul_pos, den_pos, lowest_parts, same_lowest, plus_lowest, times_lowest, lowest_cross, plus_assoc, plus_comm}
-use Rattle.calc_terms.proofs.{SmallFractions.{plus_zero}, SmallLaws.{plus_both, times_one}}
-use Rattle.calc_algebra.specs.{SquareClasses.{Same}, Surds.{Surd, term, surd_of, surd_times}}
-use Rattle.calc_algebra.proofs.TermLaws.{Same-append, Same-append_comm, Same-cons, Same-eq, Same-to_front, Same-refl, extracted, joined_radicand, zero_term}
-use Rattle.calc_algebra.proofs.SquareClassLaws.{Same-trans, Same-sym}
+use Rattle.calc_terms.specs.{FractionLaws.{negative_lowest, plus_negative, times_comm, zero_plus}, Integers.{parts, diffs, eq_diff, combine}}
+use Rattle.calc_terms.specs.Fractions.{Fraction, lowest, plus, times, negative, zero_fraction, one_fraction, whole_fraction, mul_pos, den_pos, lowest_parts, same_lowest, plus_lowest, times_lowest, lowest_cross}
+use Rattle.calc_terms.proofs.{SmallLaws.{plus_both, times_one}}
+use Rattle.calc_algebra.specs.{SquareClasses.{Same}, Surds.{term, surd_of, surd_times}}
+use Rattle.calc_algebra.proofs.TermLaws.{Same-append, Same-cons, Same-eq, Same-to_front, extracted, joined_radicand, zero_term}
+use Rattle.calc_algebra.proofs.SquareClassLaws.{Same-trans}
 use Rattle.calc_algebra.proofs.InverseLaws.{negative_times}
-use Rattle.equation_roots.specs.{Coefficients.{Dense, dense_plus, times_linear}, Factorings.{IsAboveZero, IsBelowZero, lower, upper}, Wholes.{fractions}}
+use Rattle.equation_roots.specs.{Coefficients.{times_linear}, Factorings.{IsAboveZero, IsBelowZero, lower, upper}, Wholes.{fractions}}
 use Rattle.equation_roots.proofs.Vieta.{negative_plus_self, negative_twice}
 
 one_pos : 0 < 1
@@ -72,7 +72,7 @@ module _ (p r : ℤ) (q s : ℕ) (hq : 0 < q) (hs : 0 < s) where
   minus_plus_in = simp (plus_lowest, negative_lowest, mul_pos)
       (same_lowest _ _ _ _ (mul_pos _ _ hs hq) (mul_pos _ _ hq hs) (rw (parts p, parts r) (simp diffs (eq_diff _ _ _ _ (omega arith)))))
 
-difference_back : (x e : Fraction) → plus x (negative (plus x (negative e))) ≡ e
+pub difference_back : (x e : Fraction) → plus x (negative (plus x (negative e))) ≡ e
 difference_back x e = rw (lowest_parts x, lowest_parts e) (back_in _ _ _ _ (den_pos x) (den_pos e))
 
 minus_times : (x e : Fraction) → times (negative x) (negative e) ≡ times x e

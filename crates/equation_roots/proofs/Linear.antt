@@ -1,10 +1,10 @@
 -- Products with aX + b over whole numbers.
-use Rattle.std.proofs.Common.{◌≡◌, ℕ, zero, suc, ◌+◌, ◌-◌, ◌<◌, ℤ, pos, ◌+ℤ◌, ◌*ℤ◌, neg_ℤ, List, [], ◌∷◌, ◌++◌, map, reverse, length, get_or, refl, sym, ap, ◌∙◌, arith}
+use Rattle.std.proofs.Common.{◌≡◌, ℕ, suc, ◌+◌, ◌-◌, ◌<◌, ℤ, pos, ◌+ℤ◌, ◌*ℤ◌, neg_ℤ, List, [], ◌∷◌, ◌++◌, map, reverse, length, get_or, refl, sym, ap, ◌∙◌, arith}
 use Rattle.std.proofs.lemmas.{Int.{ints}, List.{reverse-append}}
 use Rattle.calc_terms.specs.FractionLaws.{negative_lowest}
-use Rattle.calc_terms.specs.Fractions.{Fraction, lowest, plus, times, negative, zero_fraction, whole_fraction, mul_pos, same_lowest, plus_lowest, times_lowest}
+use Rattle.calc_terms.specs.Fractions.{lowest, plus, times, negative, zero_fraction, whole_fraction, mul_pos, same_lowest, plus_lowest, times_lowest}
 use Rattle.calc_terms.specs.Integers.{parts, diffs, eq_diff}
-use Rattle.equation_roots.specs.Coefficients.{Dense, dense_plus, times_linear}
+use Rattle.equation_roots.specs.Coefficients.{dense_plus, times_linear}
 use Rattle.equation_roots.specs.Wholes.{fractions, linear_product, leading}
 
 pub linear-append : (a b x : ℤ) (qs : List ℤ) (q : ℤ) (rs : List ℤ) (y : ℤ) → linear_product a b x (qs ++ q ∷ rs) y ≡ linear_product a b x qs q ++ linear_product a b q rs y

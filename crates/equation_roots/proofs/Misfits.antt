@@ -1,7 +1,7 @@
 -- Operations on whole numbers that do not fit.
-use Rattle.std.proofs.Common.{◌≡◌, ℕ, ◌/◌, ◌<◌, ◌^◌, ℤ, pos, ◌+ℤ◌, ◌*ℤ◌, nat_abs, nat_lt, Bool, true, false, ◌&&◌, refl, sym, ap, ◌∙◌, arith}
+use Rattle.std.proofs.Common.{◌≡◌, ℕ, ◌/◌, ◌<◌, ◌^◌, ℤ, pos, ◌+ℤ◌, ◌*ℤ◌, nat_abs, Bool, true, false, ◌&&◌, refl, ap, ◌∙◌, arith}
 use Rattle.std.proofs.lemmas.{Int.{ints}, Bool.{ltb-true, false_from_ne_true}}
-use Rattle.calc_terms.specs.{Fits.{fits, fraction_fits, sum_fits, add_op, mul_op, operation_fits}, Fractions.{Fraction, plus, times, whole_fraction, times_lowest}, Gcd.{gcd}}
+use Rattle.calc_terms.specs.{Fits.{fits, fraction_fits, add_op, mul_op, operation_fits}, Fractions.{plus, whole_fraction, times_lowest}, Gcd.{gcd}}
 use Rattle.calc_terms.proofs.FractionFacts.{whole_numerator, whole_denominator}
 
 unfit : (z : ℤ) → ¬ (nat_abs z < 2 ^ 127) → fits z ≡ false

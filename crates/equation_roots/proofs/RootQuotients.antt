@@ -1,13 +1,13 @@
 -- A whole polynomial with the root u/v in lowest terms is a multiple of vX - u over whole numbers.
-use Rattle.std.proofs.Common.{◌≡◌, ◌≢◌, ℕ, zero, suc, ◌+◌, ◌*◌, ◌<◌, ℤ, pos, negsuc, ◌+ℤ◌, ◌-ℤ◌, ◌*ℤ◌, neg_ℤ, nat_abs, List, [], ◌∷◌, length, refl, sym, ap, ◌∙◌, subst, arith}
+use Rattle.std.proofs.Common.{◌≡◌, ◌≢◌, ℕ, suc, ◌*◌, ◌<◌, ℤ, pos, negsuc, ◌+ℤ◌, ◌*ℤ◌, neg_ℤ, nat_abs, List, [], ◌∷◌, length, refl, sym, ap, ◌∙◌, subst, arith}
 use Rattle.std.proofs.lemmas.{Bool.{eqb-true}, Int.{ints, unsigned_abs-mul}}
 use Rattle.std.specs.Int.{IsGcd}
-use native.Mathlib.Nat.{dvd-mul_right, mul_comm, mul_assoc}
+use native.Mathlib.Nat.{dvd-mul_right, mul_assoc}
 use Prim.Native.Nat.{◌∣◌}
-use Rattle.calc_terms.specs.{Fractions.{Fraction, lowest, plus, times, zero_fraction, whole_fraction, mul_pos, same_lowest, plus_lowest, times_lowest, over, over_back, second_held}, Gcd.{gauss, gcd_is}, Integers.{parts, diffs, eq_diff, combine}}
+use Rattle.calc_terms.specs.{Fractions.{Fraction, lowest, plus, times, zero_fraction, whole_fraction, mul_pos, same_lowest, plus_lowest, times_lowest, over, over_back, second_held}, Gcd.{gauss, gcd_is}, Integers.{parts, diffs, eq_diff}}
 use Rattle.calc_terms.proofs.FractionFacts.{cross_products}
 use Rattle.equation_roots.specs.{Coefficients.{value}, Wholes.{fractions, linear_product}}
-use Rattle.equation_roots.proofs.Wide.{abs_neg, abs_positive, cancel_zero, times_comm_int, times_zero_int}
+use Rattle.equation_roots.proofs.Wide.{abs_neg, cancel_zero, times_comm_int, times_zero_int}
 
 -- v to the power of the length
 abbrev scale : ℕ → List ℤ → ℕ

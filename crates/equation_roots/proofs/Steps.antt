@@ -1,8 +1,8 @@
 -- Linear factors taken out.
 use Rattle.std.proofs.lemmas.Int.{ints}
-use Rattle.std.proofs.Common.{◌≡◌, ◌≢◌, ℕ, zero, suc, ◌+◌, ◌<◌, ◌≤◌, ℤ, pos, ◌*ℤ◌, ◌+ℤ◌, ◌<ℤ◌, negsuc, neg_ℤ, List, [], ◌∷◌, ◌++◌, map, length, refl, sym, ap, ◌∙◌, subst, arith, length-append}
+use Rattle.std.proofs.Common.{◌≡◌, ◌≢◌, ℕ, zero, suc, ◌+◌, ◌<◌, ℤ, pos, ◌*ℤ◌, ◌+ℤ◌, ◌<ℤ◌, negsuc, neg_ℤ, List, ◌∷◌, ◌++◌, map, length, refl, sym, ap, ◌∙◌, subst, arith, length-append}
 use Rattle.calc_terms.specs.{FractionLaws.{one_times, times_assoc, plus_negative, zero_times, zero_plus}, Fractions.{Fraction, plus, times, negative, zero_fraction, one_fraction, lowest, whole_fraction}}
-use Rattle.calc_terms.proofs.{SmallFractions.{plus_zero}, SmallLaws.{plus_both}}
+use Rattle.calc_terms.proofs.{SmallFractions.{plus_zero}}
 use Rattle.calc_algebra.proofs.{InverseLaws.{product_not_zero, zero_is_not_one}, SurdLaws.{times_zero}}
 use Rattle.equation_roots.specs.{Coefficients.{Dense, at, before, times_all, times_linear, value}, Rationals.{IsInserted}, Wholes.{Divides, fractions, linear_product, leading}}
 use Rattle.equation_roots.proofs.{Linear.{leading-cons, length-linear, leading-linear, linear_fractions}, RootQuotients.{zero_above}, Values.{SameDense, all_same, all_scaled, all_with, at_linear, at_scaled, same_sym, same_trans, value_linear, value_scaled}, Wide.{times_zero_int}}

@@ -1,8 +1,8 @@
 -- Roots that are tried one after another.
-use Rattle.std.proofs.Common.{◌≡◌, ◌≢◌, ◌⊎◌, inl, inr, ℕ, zero, suc, ◌+◌, ◌<◌, ◌≤◌, ℤ, pos, negsuc, neg_ℤ, ◌<ℤ◌, nat_abs, Bool, true, false, List, [], ◌∷◌, ◌++◌, ◌%◌, nat_eq, add-one, below_more, length, get_or, drop, refl, sym, ap, ◌∙◌, subst, arith}
+use Rattle.std.proofs.Common.{◌≡◌, ◌≢◌, ◌⊎◌, inl, inr, ℕ, zero, suc, ◌+◌, ◌<◌, ◌≤◌, ℤ, pos, neg_ℤ, ◌<ℤ◌, nat_abs, Bool, true, false, List, [], ◌∷◌, ◌++◌, ◌%◌, nat_eq, add-one, below_more, length, get_or, drop, refl, sym, ap, ◌∙◌, subst, arith}
 use Rattle.std.proofs.lemmas.{Int.{ints}, Bool.{eq-eqb}, Nat.Gcd.{dvd-zero, mod-eq-zero_of_dvd, same_from_IsGcd}}
 use Rattle.std.specs.Int.{◌∣◌, IsGcd}
-use Rattle.calc_terms.specs.{FractionLaws.{zero_times}, Fractions.{Fraction, plus, times, lowest, lowest_parts, den_pos, whole_fraction, zero_fraction, same_lowest}}
+use Rattle.calc_terms.specs.{FractionLaws.{zero_times}, Fractions.{Fraction, plus, lowest, lowest_parts, den_pos, whole_fraction, zero_fraction, same_lowest}}
 use Rattle.calc_terms.proofs.SmallFractions.{plus_zero}
 use Rattle.equation_roots.specs.{Coefficients.{value}, Rationals.{IsInserted}, Wholes.{Divides, IsCandidate, Marks, fractions, leading, linear_product}}
 use Rattle.equation_roots.proofs.{Candidates.{denominator_divides, numerator_divides, parts_are, positive_abs, positive_is, sign_of}, Linear.{length-linear}, RootQuotients.{fraction_coprime, zero_above}, Steps.{divided_step, divides_trans, zero_step}, Wide.{abs_zero}}

@@ -1,6 +1,6 @@
 -- Coefficients and values of sums, multiples and products with X - q.
 use Rattle.std.proofs.Common.{◌≡◌, ℕ, zero, suc, List, [], ◌∷◌, ◌++◌, map, refl, sym, ap, ◌∙◌}
-use Rattle.calc_terms.specs.FractionLaws.{times_comm, times_assoc, times_plus, zero_plus, zero_times}
+use Rattle.calc_terms.specs.FractionLaws.{times_comm, times_assoc, times_plus, zero_plus}
 use Rattle.calc_terms.specs.Fractions.{Fraction, plus, times, negative, zero_fraction, plus_assoc, plus_comm}
 use Rattle.calc_terms.proofs.{SmallFractions.{plus_zero}, SmallLaws.{plus_both}}
 use Rattle.calc_algebra.proofs.SurdLaws.{times_zero}
@@ -45,7 +45,7 @@ before_scaled : (l : Fraction) (p : Dense) (k : ℕ) → before k (map (times l)
 before_scaled l p zero = sym (times_zero l)
 before_scaled l p (suc k) = at_scaled l p k
 
-swap_factors : (a b c : Fraction) → times a (times b c) ≡ times b (times a c)
+pub swap_factors : (a b c : Fraction) → times a (times b c) ≡ times b (times a c)
 swap_factors a b c = sym (times_assoc a b c) ∙ ap (λ x. times x c) (times_comm a b) ∙ times_assoc b a c
 
 pub linear_scaled : (q l : Fraction) (p : Dense) → SameDense (times_linear q (map (times l) p)) (map (times l) (times_linear q p))

@@ -11,7 +11,7 @@ use Rattle.equation_roots.specs.{Coefficients.{worth}, Factorings.{IsPair, dense
 
 -- ---- fractions
 
-negative_is : (a : Fraction) → times (negative one_fraction) a ≡ negative a
+pub negative_is : (a : Fraction) → times (negative one_fraction) a ≡ negative a
 negative_is a = negative_times one_fraction a ∙ ap negative (one_times a)
 
 pub negative_plus_self : (a : Fraction) → plus (negative a) a ≡ zero_fraction
@@ -48,7 +48,7 @@ product_right u v w s =
 pub product_left : (u v w : Surd) (s : ℕ) → class_coefficient (surd_times (u ++ v) w) s ≡ plus (class_coefficient (surd_times u w) s) (class_coefficient (surd_times v w) s)
 product_left u v w s = ap (λ x. class_coefficient x s) (surd_times-append u v w) ∙ class_coefficient-append (surd_times u w) (surd_times v w) s
 
-scaled_right : (u : Surd) (c : Fraction) (v : Surd) (s : ℕ) → class_coefficient (surd_times u (surd_scale c v)) s ≡ times c (class_coefficient (surd_times u v) s)
+pub scaled_right : (u : Surd) (c : Fraction) (v : Surd) (s : ℕ) → class_coefficient (surd_times u (surd_scale c v)) s ≡ times c (class_coefficient (surd_times u v) s)
 scaled_right u c v s =
     (Agree-surd_times_right u (Agree-sym (surd_times-surd_of c v))).at s ∙ (surd_times_left_comm u (surd_of c) v).at s
     ∙ (surd_times-surd_of c (surd_times u v)).at s ∙ class_coefficient-surd_scale c (surd_times u v) s

@@ -1,5 +1,5 @@
 -- Whole numbers in 128 bits, with their sign.
-use Rattle.std.proofs.Common.{◌≡◌, ◌≢◌, ℕ, zero, suc, ◌+◌, ◌*◌, ◌%◌, ◌<◌, ◌≤◌, ◌^◌, ltb, ℤ, pos, negsuc, ◌+ℤ◌, ◌-ℤ◌, ◌*ℤ◌, neg_ℤ, nat_abs, int_lt, true, false, Option, Some, None, MatchOption, IfSome, refl, sym, ap, ◌∙◌, subst, arith}
+use Rattle.std.proofs.Common.{◌≡◌, ◌≢◌, ℕ, zero, suc, ◌*◌, ◌%◌, ◌<◌, ◌^◌, ltb, ℤ, pos, negsuc, ◌+ℤ◌, ◌-ℤ◌, ◌*ℤ◌, neg_ℤ, nat_abs, int_lt, true, false, Option, Some, None, MatchOption, IfSome, refl, sym, ap, ◌∙◌, subst, arith}
 use Rattle.std.proofs.lemmas.{Bool.{ltb-true}, Int.{ints, to_z-of_z, fits_signed_from_abs, unsigned_abs-mul}, Nat.Gcd.{dvd_of_mod-eq-zero, mod-eq-zero_of_dvd}}
 use native.Mathlib.Nat.{dvd-mul_right}
 use Prim.Native.Nat.{◌∣◌}

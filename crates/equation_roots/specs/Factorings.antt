@@ -1,5 +1,5 @@
 -- Factorings of polynomials in one name into linear factors and what is left.
-use Rattle.std.specs.{Prelude.{ℕ, suc, ◌≡◌, ◌≢◌, ◌≤◌, ⊤, ℤ, pos, negsuc, nat_abs, List, [], ◌∷◌, ◌++◌, length, map, refl}, declared.cmp.Ordering.TheVariants.{Less}}
+use Rattle.std.specs.{Prelude.{ℕ, suc, ◌≡◌, ◌≢◌, ◌≤◌, ◌<◌, ⊤, ℤ, pos, negsuc, nat_abs, List, [], ◌∷◌, ◌++◌, length, map, refl}, declared.cmp.Ordering.TheVariants.{Less}}
 use Rattle.calc_terms.specs.Fractions.{Fraction, plus, times, negative, zero_fraction, one_fraction, lowest, fraction_cmp}
 use Rattle.calc_algebra.specs.{Clean.{IsClean}, Surds.{Surd, term, surd_of, surd_scale, surd_times}, SquareClasses.{Same}}
 use Rattle.equation_roots.specs.Coefficients.{Dense, HasLeading, at, worth, times_all}
@@ -44,6 +44,11 @@ pub record IsPair (b c m s : Fraction) (t : ℕ) : Type 0 where
 abbrev pub less : Surd → Surd → Surd
 less v r = v ++ surd_scale (negative one_fraction) r
 
+-- the product of v - q for each q of a list, times w
+abbrev pub product_at : List Fraction → Surd → Surd → Surd
+product_at [] v w = w
+product_at (q ∷ qs) v w = surd_times (less v (surd_of q)) (product_at qs v w)
+
 abbrev pub IsRest : Rest → Type 0
 IsRest nothing = ⊤
 IsRest (rootless h c) = IsBelowZero (plus (times h h) (negative c))
@@ -58,6 +63,12 @@ surds_of (pair b c m s t) = lower m s t ∷ upper m s t ∷ []
 -- all roots: the rational ones, and then the others
 abbrev pub roots_of : List Fraction → Rest → List Surd
 roots_of qs rest = map surd_of qs ++ surds_of rest
+
+-- a radicand that is left is below n
+abbrev pub HasRadicandBelow : ℕ → Rest → Type 0
+HasRadicandBelow n nothing = ⊤
+HasRadicandBelow n (rootless h c) = ⊤
+HasRadicandBelow n (pair b c m s t) = t < n
 
 abbrev pub AreRising : List Fraction → Type 0
 AreRising [] = ⊤

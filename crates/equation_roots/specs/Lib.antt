@@ -6,6 +6,7 @@ pub mod Rationals
 pub mod Refusals
 pub mod Rests
 pub mod Roots
+pub mod Sizes
 pub mod Squares
 pub mod Wholes
 pub mod Told

@@ -1,11 +1,13 @@
 //! Coefficients made whole, without a common factor, and with a leading coefficient above 0.
-ghost use Rattle.std.specs.Prelude.{◌≡◌, ◌≢◌, ◌<◌, ◌≤◌, ◌*◌, ◌^◌, ℕ, pos, ◌*ℤ◌, nat_abs, map, length, slice_index_or, IfOk, IfErr};
+ghost use Rattle.std.specs.Prelude.{◌≡◌, ◌≢◌, ◌<◌, ◌≤◌, ◌*◌, ◌^◌, ℕ, pos, ◌*ℤ◌, nat_abs, map, length, slice_index_or, IsErr, IfOk, IfErr};
 ghost use Rattle.std.specs.Int.{◌∣◌};
+ghost use Rattle.calc_bits.specs.Denominators.{magnitude_over};
 ghost use Rattle.calc_terms.specs.Fractions.{times, whole_fraction, zero_fraction};
 ghost use Rattle.calc_terms.specs.Rat.{value_of};
 ghost use Rattle.calc_terms.specs.Ratio.{with_sign};
 ghost use Rattle.equation_roots.specs.Coefficients.{HasLeading};
 ghost use Rattle.equation_roots.specs.Refusals.{Overflows};
+ghost use Rattle.equation_roots.specs.Sizes.{HasFewBits, mass_of, mass_over};
 ghost use Rattle.equation_roots.specs.Told.{dense_in, wholes_of};
 ghost use Rattle.equation_roots.specs.Wholes.{IsMultiple, fractions, leading};
 
@@ -21,6 +23,8 @@ pub(crate) fn primitive(coefficients: &[Rat]) -> Result<Wholes, Overflow>
     requires leading { HasLeading (dense_in coefficients.now) }
     ensures multiple { IfOk result (λ w. IsMultiple (dense_in coefficients.now) (wholes_of w)) }
     ensures overflow { IfErr result Overflows }
+    ensures light { IfOk result (λ w. HasFewBits (dense_in coefficients.now) → mass_of (wholes_of w) ≤ 2 ^ 62) }
+    ensures bits { IsErr result → HasFewBits (dense_in coefficients.now) → ⊥ }
 {
     let common = common_denominator(coefficients)?;
     let wholes = scaled(coefficients, common)?;
@@ -32,9 +36,11 @@ pub(crate) fn primitive(coefficients: &[Rat]) -> Result<Wholes, Overflow>
 /// The least common denominator.
 fn common_denominator(coefficients: &[Rat]) -> Result<u128, Overflow>
     ensures common { IfOk result (λ d. (k : ℕ) → k < length coefficients.now → (slice_index_or (dense_in coefficients.now) k zero_fraction).den ∣ d) }
+    ensures least { IfOk result (λ d. (n : ℕ) → ((k : ℕ) → k < length coefficients.now → (slice_index_or (dense_in coefficients.now) k zero_fraction).den ∣ n) → d ∣ n) }
     ensures positive { IfOk result (λ d. 0 < d) }
     ensures fits { IfOk result (λ d. d < 2 ^ 127) }
     ensures overflow { IfErr result Overflows }
+    ensures beyond { IsErr result → (n : ℕ) → 0 < n → ((k : ℕ) → k < length coefficients.now → (slice_index_or (dense_in coefficients.now) k zero_fraction).den ∣ n) → 2 ^ 127 ≤ n }
 {
     let mut common = 1;
     for q in coefficients {
@@ -50,9 +56,11 @@ fn multiple(a: u128, b: u128) -> Result<u128, Overflow>
     requires second { (0 < b) × (b < 2 ^ 127) }
     ensures of_first { IfOk result (λ m. a ∣ m) }
     ensures of_second { IfOk result (λ m. b ∣ m) }
+    ensures least { IfOk result (λ m. (n : ℕ) → a ∣ n → b ∣ n → m ∣ n) }
     ensures positive { IfOk result (λ m. 0 < m) }
     ensures fits { IfOk result (λ m. m < 2 ^ 127) }
     ensures overflow { IfErr result Overflows }
+    ensures beyond { IsErr result → (n : ℕ) → 0 < n → a ∣ n → b ∣ n → 2 ^ 127 ≤ n }
 {
     let common = natural_product(a, b / gcd(a, b))?;
     Ok(common)
@@ -65,6 +73,7 @@ fn natural_product(a: u128, b: u128) -> Result<u128, Overflow>
     ensures value { IfOk result (λ m. m ≡ a * b) }
     ensures fits { IfOk result (λ m. m < 2 ^ 127) }
     ensures overflow { IfErr result Overflows }
+    ensures beyond { IsErr result → 2 ^ 127 ≤ a * b }
 {
     let product = product(a as i128, b as i128)?;
     Ok(product.unsigned_abs())
@@ -78,6 +87,7 @@ fn scaled(coefficients: &[Rat], common: u128) -> Result<Wholes, Overflow>
     requires fits { common < 2 ^ 127 }
     ensures multiple { IfOk result (λ w. fractions (wholes_of w) ≡ map (times (whole_fraction (pos common))) (dense_in coefficients.now)) }
     ensures overflow { IfErr result Overflows }
+    ensures beyond { IsErr result → 2 ^ 127 ≤ mass_over common (dense_in coefficients.now) }
 {
     let mut wholes = Wholes::new();
     for q in coefficients {
@@ -94,6 +104,7 @@ fn scaled_numerator(q: Rat, common: u128) -> Result<i128, Overflow>
     ensures value { IfOk result (λ z. whole_fraction z ≡ times (whole_fraction (pos common)) (value_of q)) }
     ensures fits { IfOk result (λ z. nat_abs z < 2 ^ 127) }
     ensures overflow { IfErr result Overflows }
+    ensures beyond { IsErr result → 2 ^ 127 ≤ magnitude_over common (value_of q) }
 {
     let (num, den) = parts(q);
     let factor = whole(common / den);

@@ -1,8 +1,9 @@
 //! What is left of degree at most 2, by formula.
-ghost use Rattle.std.specs.Prelude.{◌≡◌, ◌<◌, ◌≤◌, ◌+◌, ◌^◌, pos, ◌<ℤ◌, ◌*ℤ◌, nat_abs, length, slice_index_or, IfOk, IfErr};
+ghost use Rattle.std.specs.Prelude.{◌≡◌, ◌<◌, ◌≤◌, ◌+◌, ◌^◌, pos, ◌<ℤ◌, ◌*ℤ◌, nat_abs, length, slice_index_or, IsErr, IfOk, IfErr};
 ghost use Rattle.equation_roots.specs.Rationals.{rationals_of};
 ghost use Rattle.equation_roots.specs.Refusals.{Overflows};
 ghost use Rattle.equation_roots.specs.Rests.{rest_of};
+ghost use Rattle.equation_roots.specs.Sizes.{mass_of};
 ghost use Rattle.equation_roots.specs.Squares.{Finishes, IsCompleted};
 ghost use Rattle.equation_roots.specs.Told.{wholes_of};
 ghost use Rattle.equation_roots.specs.Wholes.{leading};
@@ -23,6 +24,7 @@ pub(crate) fn finish(found: &mut Rationals, left: &Wholes) -> Result<Rest, Overf
     requires positive { pos 0 <ℤ leading (wholes_of left.now) }
     ensures finishes { IfOk result (λ rest. Finishes (rationals_of found.old) (wholes_of left.now) (rationals_of found.new) (rest_of rest)) }
     ensures overflow { IfErr result Overflows }
+    ensures bits { IsErr result → mass_of (wholes_of left.now) ≤ 2 ^ 62 → ⊥ }
 {
     if left.len() == 1 {
         return Ok(Rest::Nothing);
@@ -51,6 +53,7 @@ fn completed(a: i128, b: i128, c: i128) -> Result<Square, Overflow>
     requires positive { pos 0 <ℤ a }
     ensures completed { IfOk result (λ s. IsCompleted a b c s.half s.den s.under) }
     ensures overflow { IfErr result Overflows }
+    ensures bits { IsErr result → nat_abs a ≤ 2 ^ 62 → nat_abs b ≤ 2 ^ 62 → nat_abs c ≤ 2 ^ 62 → ⊥ }
 {
     match exact_quotient(b, 2) {
         Some(half) => {
@@ -87,6 +90,7 @@ fn by_square(found: &mut Rationals, left: &Wholes, square: Square) -> Result<Res
         (slice_index_or (wholes_of left.now) 0 (pos 0)) square.half square.den square.under }
     ensures finishes { IfOk result (λ rest. Finishes (rationals_of found.old) (wholes_of left.now) (rationals_of found.new) (rest_of rest)) }
     ensures overflow { IfErr result Overflows }
+    ensures bits { IsErr result → mass_of (wholes_of left.now) ≤ 2 ^ 62 → ⊥ }
 {
     if is_negative(square.under) {
         return Ok(Rest::Rootless(Quadratic {
@@ -109,7 +113,12 @@ fn by_square(found: &mut Rationals, left: &Wholes, square: Square) -> Result<Res
 }
 
 /// The roots of a polynomial of degree 2 whose discriminant is the square of a whole number.
-fn two_rationals(found: &mut Rationals, left: &Wholes, square: Square, outside: i128) -> Result<Rest, Overflow>
+fn two_rationals(
+    found: &mut Rationals,
+    left: &Wholes,
+    square: Square,
+    outside: i128,
+) -> Result<Rest, Overflow>
     requires three { length (wholes_of left.now) ≡ 3 }
     requires room { length (rationals_of found.old) ≤ 30 }
     requires positive { pos 0 <ℤ slice_index_or (wholes_of left.now) 2 (pos 0) }
@@ -119,6 +128,7 @@ fn two_rationals(found: &mut Rationals, left: &Wholes, square: Square, outside: 
     requires square { square.under ≡ outside *ℤ outside }
     ensures finishes { IfOk result (λ rest. Finishes (rationals_of found.old) (wholes_of left.now) (rationals_of found.new) (rest_of rest)) }
     ensures overflow { IfErr result Overflows }
+    ensures bits { IsErr result → mass_of (wholes_of left.now) ≤ 2 ^ 62 → ⊥ }
 {
     let middle = opposite(square.half);
     let lower = sum(middle, opposite(outside))?;

@@ -5,6 +5,7 @@ ghost use Rattle.equation_roots.specs.Factorings.{IsBeyond, IsFactoring};
 ghost use Rattle.equation_roots.specs.Faults.{IfDegree, IfOverflow};
 ghost use Rattle.equation_roots.specs.Refusals.{Overflows};
 ghost use Rattle.equation_roots.specs.Roots.{rationals_in, rest_in};
+ghost use Rattle.equation_roots.specs.Sizes.{HasFewBits};
 ghost use Rattle.equation_roots.specs.Told.{dense_in};
 
 use crate::fault::RootFault;
@@ -23,6 +24,7 @@ pub fn roots(coefficients: &[Rat]) -> Result<Roots, RootFault>
     ensures degree { IfDegree result (IsBeyond (dense_in coefficients.now)) }
     ensures low { length coefficients.now ≤ 3 → IfDegree result ⊥ }
     ensures overflow { IfOverflow result Overflows }
+    ensures bits { length coefficients.now ≤ 3 → HasFewBits (dense_in coefficients.now) → IfOverflow result (λ _. ⊥) }
 {
     let mut left = primitive(coefficients)?;
     let mut rationals = Rationals::new();

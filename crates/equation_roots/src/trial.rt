@@ -4,6 +4,7 @@ ghost use Rattle.calc_terms.specs.Fractions.{Fraction, lowest, zero_fraction};
 ghost use Rattle.equation_roots.specs.Coefficients.{value};
 ghost use Rattle.equation_roots.specs.Rationals.{rationals_of};
 ghost use Rattle.equation_roots.specs.Refusals.{Overflows};
+ghost use Rattle.equation_roots.specs.Sizes.{mass_of};
 ghost use Rattle.equation_roots.specs.Told.{wholes_of};
 ghost use Rattle.equation_roots.specs.Wholes.{Divides, IsCandidate, Marks, fractions};
 
@@ -23,6 +24,7 @@ pub(crate) fn divide_out_zeros(found: &mut Rationals, left: &mut Wholes)
     requires some { 1 ≤ length (wholes_of left.old) }
     requires room { length (rationals_of found.old) + length (wholes_of left.old) ≤ 33 }
     ensures divides { Divides (rationals_of found.old) (wholes_of left.old) (rationals_of found.new) (wholes_of left.new) }
+    ensures lighter { mass_of (wholes_of left.new) ≤ mass_of (wholes_of left.old) }
     ensures no_zero { 2 ≤ length (wholes_of left.new) → value (fractions (wholes_of left.new)) zero_fraction ≢ zero_fraction }
 {
     'zeros: while 1 < left.len() && left.get(0) == 0 {

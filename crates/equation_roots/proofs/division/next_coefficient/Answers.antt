@@ -1,5 +1,5 @@
-use Rattle.std.proofs.Common.{◌*ℤ◌, ◌+ℤ◌, neg_ℤ, MatchOption, ℤ, ◌≢◌, ◌≡◌, sym, ap, ◌∙◌, subst}
-use Rattle.equation_roots.proofs.Wide.{handed, next_exact, told}
+use Rattle.std.proofs.Common.{◌*ℤ◌, ◌+ℤ◌, neg_ℤ, ap, ◌∙◌}
+use Rattle.equation_roots.proofs.Wide.{next_exact, told}
 use Rattle.equation_roots.proofs.division.next_coefficient.Goals as goal
 
 pub returns-clause-exact : goal.returns-clause-exact

@@ -1,6 +1,5 @@
-use Rattle.std.proofs.Common.{◌≡◌, ◌<◌, ◌+◌, ◌*ℤ◌, ℕ, ℤ, pos, nat_abs, length, get_or, ap, sym, subst, ◌∙◌, arith}
+use Rattle.std.proofs.Common.{ℤ, nat_abs, sym, subst, ◌∙◌, arith}
 use Rattle.std.specs.Int.{◌∣◌}
-use Rattle.equation_roots.specs.Told.{wholes_of}
 use Rattle.equation_roots.proofs.Wide.{told}
 use Rattle.equation_roots.proofs.primitive.reduced.Goals as goal
 

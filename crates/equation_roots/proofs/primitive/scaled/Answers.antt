@@ -1,4 +1,7 @@
-use Rattle.std.proofs.Common.{◌≡◌, ◌<◌, ◌+◌, ℕ, ℤ, pos, map, length, length-append, get_or, ap, sym, subst, ◌∙◌, arith, ◌++◌, ◌∷◌, []}
+use Rattle.std.proofs.Common.{refl, ◌≤◌, ◌^◌, get_or}
+use Rattle.calc_bits.specs.Denominators.{magnitude_over}
+use Rattle.equation_roots.proofs.Sizes.{entry_at_most}
+use Rattle.std.proofs.Common.{◌<◌, ◌+◌, ℕ, ℤ, pos, length, length-append, ap, sym, subst, ◌∙◌, arith}
 use Rattle.std.specs.Int.{◌∣◌}
 use Rattle.std.proofs.lemmas.List.{length-map, map-append}
 use Rattle.calc_terms.specs.{Fractions.{Fraction, times, whole_fraction, zero_fraction}, Rat.{value_of}}
@@ -20,3 +23,10 @@ loop-q-preserved c =
           ∙ map_more (times (whole_fraction (pos c.args.common))) (dense_in c.args.coefficients.now) c.loop-q.q-index zero_fraction (fractions (wholes_of c.loop-q.wholes)) _ l c.loop-q.invariant.made n;
       long = ap length c.push.ensures ∙ length-append (wholes_of c.loop-q.wholes) _ ∙ ap (λ (m : ℕ). m + 1) c.loop-q.invariant.long;
     }
+
+pub returns-in_err-numerator-clause-beyond : goal.returns-in_err-numerator-clause-beyond
+returns-in_err-numerator-clause-beyond c = λ e.
+    let i = item_value value_of c.args.coefficients.now c.loop-q.q-index c.q-item.result zero_fraction c.loop-q-test.true c.q-item.is in
+    let l : c.loop-q.q-index < length (dense_in c.args.coefficients.now) = omega (arith, length-map c.args.coefficients.now value_of, c.loop-q-test.true) in
+    let m : 2 ^ 127 ≤ magnitude_over c.args.common (get_or (dense_in c.args.coefficients.now) c.loop-q.q-index zero_fraction) = subst (λ (q : Fraction). 2 ^ 127 ≤ magnitude_over c.args.common q) i (c.in_err-numerator.ensures.beyond refl) in
+    omega (arith, m, entry_at_most c.args.common (dense_in c.args.coefficients.now) c.loop-q.q-index l)

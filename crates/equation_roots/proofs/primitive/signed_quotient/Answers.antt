@@ -1,4 +1,4 @@
-use Rattle.std.proofs.Common.{◌≡◌, ◌*ℤ◌, ℤ, neg_ℤ, Bool, true, false, ap, sym, subst, ◌∙◌}
+use Rattle.std.proofs.Common.{◌*ℤ◌, ℤ, neg_ℤ, Bool, ap, ◌∙◌}
 use Rattle.calc_terms.specs.{Fractions.{over}, Ratio.{with_sign}}
 use Rattle.equation_roots.proofs.{CommonFactors.{signed_kept, signed_turned}, Wide.{handed, told}}
 use Rattle.equation_roots.proofs.primitive.signed_quotient.Goals as goal

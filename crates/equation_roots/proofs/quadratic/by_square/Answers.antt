@@ -1,7 +1,7 @@
-use Rattle.std.proofs.Common.{◌≡◌, ◌<◌, ◌≤◌, ◌*◌, ◌*ℤ◌, ◌^◌, ℕ, ℤ, pos, neg_ℤ, nat_abs, ap, sym, subst, ◌∙◌, arith, false}
+use Rattle.std.proofs.Common.{◌<◌, ◌≤◌, ◌*ℤ◌, ◌^◌, ℕ, pos, neg_ℤ, nat_abs, ap, sym, subst, ◌∙◌, arith}
 use Rattle.calc_terms.specs.{Fractions.{lowest}, Integers.{int_is_negative}, Rat.{value_of}}
 use Rattle.equation_roots.specs.{Factorings.{IsAboveZero}, Pairs.{beside_of, middle_of}, Rationals.{rationals_of}, Rests.{pair_of}, Squares.{Finishes}, Told.{wholes_of}}
-use Rattle.equation_roots.proofs.{Candidates.{positive_abs}, Formula.{above}, Wide.{abs_positive, handed, same_bits, told}}
+use Rattle.equation_roots.proofs.{Candidates.{positive_abs}, Formula.{above}, Wide.{abs_positive, same_bits, told}}
 use Rattle.equation_roots.proofs.Finishing.{above_is, above_rational, finish_double, finish_pair, finish_rootless, negative_is_below, not_negative_is, outside_fits, outside_positive, positive_whole, radicand_fits, radicand_positive, square_of_outside, zero_fits}
 use Rattle.equation_roots.proofs.quadratic.by_square.Goals as goal
 use mir.Syntax.{w128}

@@ -1,5 +1,5 @@
-use Rattle.std.proofs.Common.{◌≡◌, ◌<◌, ◌≤◌, ℤ, nat_abs, length, ap, subst, ◌∙◌, arith}
-use Rattle.calc_terms.specs.{Fractions.{Fraction, lowest}, Rat.{value_of}}
+use Rattle.std.proofs.Common.{nat_abs, subst, ◌∙◌, arith}
+use Rattle.calc_terms.specs.{Fractions.{Fraction, lowest}}
 use Rattle.equation_roots.specs.{Rationals.{IsInserted, rationals_of}, Told.{wholes_of}}
 use Rattle.equation_roots.proofs.{Candidates.{divided_some, small_fits}, Steps.{divides_refl}, Trials.{candidate_step, quotient_shorter}, Wide.{told}}
 use Rattle.equation_roots.proofs.trial.divide_out.Goals as goal

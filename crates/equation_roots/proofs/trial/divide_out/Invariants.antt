@@ -1,4 +1,4 @@
-use Rattle.std.proofs.Common.{◌≤◌, length}
+use Rattle.std.proofs.Common.{length}
 use Rattle.equation_roots.specs.{Rationals.{rationals_of}, Told.{wholes_of}, Wholes.{Divides}}
 use Rattle.equation_roots.proofs.trial.divide_out.Given as goal
 

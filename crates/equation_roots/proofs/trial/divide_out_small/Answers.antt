@@ -1,4 +1,4 @@
-use Rattle.std.proofs.Common.{◌≡◌, ◌<◌, ◌≤◌, ℕ, ℤ, Bool, List, false, nat_abs, length, get_or, ap, sym, subst, ◌∙◌, arith}
+use Rattle.std.proofs.Common.{Bool, List, false, get_or, ap, sym, ◌∙◌}
 use Rattle.equation_roots.specs.{Rationals.{rationals_of}, Told.{wholes_of}}
 use Rattle.equation_roots.proofs.{Steps.{divides_refl, divides_trans}, Trials.{denominator_none, denominators_more, no_root_kept, unmarked_none}, Wide.{handed, told}}
 use Rattle.equation_roots.proofs.trial.divide_out_small.Goals as goal

@@ -1,5 +1,7 @@
-use Rattle.std.proofs.Common.{◌≡◌, ◌<◌, ◌≤◌, ◌^◌, ℤ, pos, nat_abs, get_or, length, drop, List, length-drop, ap, sym, subst, ◌∙◌, arith}
-use Rattle.calc_terms.specs.{Fractions.{Fraction, zero_fraction}, Rat.{value_of}}
+use Rattle.equation_roots.specs.Sizes.{mass_of}
+use Rattle.equation_roots.proofs.Sizes.{mass_dropped}
+use Rattle.std.proofs.Common.{◌<◌, ◌^◌, ℤ, pos, nat_abs, length, List, length-drop, ap, sym, subst, ◌∙◌, arith}
+use Rattle.calc_terms.specs.{Fractions.{Fraction}}
 use Rattle.calc_terms.proofs.SmallFractions.{zero_value}
 use Rattle.equation_roots.specs.{Rationals.{IsInserted, rationals_of}, Told.{wholes_of}, Wholes.{Divides}}
 use Rattle.equation_roots.proofs.{Steps.{divides_refl}, Trials.{constant_no_zero, zeros_step}, Wide.{same_bits}}
@@ -11,7 +13,7 @@ zero_fits : nat_abs (pos 0) < 2 ^ 127
 zero_fits = omega arith
 
 pub zeros-init : goal.zeros-init
-zeros-init c = record { some = c.requires.some; divides = divides_refl (rationals_of c.args.found.now) (wholes_of c.args.left.now) }
+zeros-init c = record { some = c.requires.some; lighter = omega arith; divides = divides_refl (rationals_of c.args.found.now) (wholes_of c.args.left.now) }
 
 pub zeros-preserved : goal.zeros-preserved
 zeros-preserved c =
@@ -21,6 +23,7 @@ zeros-preserved c =
     (subst (λ (f : Fraction). IsInserted f (rationals_of c.zeros.found) (rationals_of c.insert.new.self)) (zero_value c.whole.result c.whole.ensures) c.insert.ensures) in
     record {
       some = omega (arith, l, ap length c.without_constant.ensures, length-drop 1 (wholes_of c.zeros.left));
+      lighter = omega (arith, c.zeros.invariant.lighter, mass_dropped (wholes_of c.zeros.left), ap mass_of c.without_constant.ensures);
       divides = subst (λ (w : List ℤ). Divides (rationals_of c.args.found.now) (wholes_of c.args.left.now) (rationals_of c.insert.new.self) w) (sym c.without_constant.ensures) d;
     }
 

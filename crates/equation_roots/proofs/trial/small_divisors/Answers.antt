@@ -1,4 +1,4 @@
-use Rattle.std.proofs.Common.{◌≡◌, ◌<◌, ◌+◌, ◌∷◌, [], ℕ, suc, nat_abs, length, length-append, ap, sym, subst, ◌∙◌, arith, false, Bool, List, get_or}
+use Rattle.std.proofs.Common.{◌≡◌, ◌<◌, ◌+◌, ℕ, suc, nat_abs, length, length-append, ap, sym, subst, ◌∙◌, arith, false, Bool, List, get_or}
 use Rattle.std.specs.Int.{◌∣◌}
 use Rattle.equation_roots.proofs.{Trials.{marks_more, no_divisor}, Wide.{told}}
 use Rattle.equation_roots.proofs.trial.small_divisors.Goals as goal

@@ -1,4 +1,4 @@
-use Rattle.std.proofs.Common.{◌≡◌, ◌<◌, ◌≤◌, ℕ, nat_abs, length, ap, sym, ◌∙◌, arith}
+use Rattle.std.proofs.Common.{nat_abs, ap, ◌∙◌, arith}
 use Rattle.equation_roots.specs.{Rationals.{rationals_of}, Told.{wholes_of}}
 use Rattle.equation_roots.proofs.{Steps.{divides_refl, divides_trans}, Trials.{denominator_not, numerator_none, numerators_more}, Wide.{told}}
 use Rattle.equation_roots.proofs.trial.try_denominator.Goals as goal

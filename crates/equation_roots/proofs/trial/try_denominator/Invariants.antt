@@ -1,4 +1,4 @@
-use Rattle.std.proofs.Common.{◌≡◌, ◌≢◌, ◌<◌, ◌≤◌, nat_abs, length}
+use Rattle.std.proofs.Common.{◌≡◌, ◌≢◌, ◌≤◌, nat_abs, length}
 use Rattle.calc_terms.specs.Fractions.{Fraction, zero_fraction}
 use Rattle.equation_roots.specs.{Coefficients.{value}, Rationals.{rationals_of}, Told.{wholes_of}, Wholes.{Divides, fractions}}
 use Rattle.equation_roots.proofs.trial.try_denominator.Given as goal

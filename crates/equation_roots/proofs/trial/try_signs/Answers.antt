@@ -1,4 +1,4 @@
-use Rattle.std.proofs.Common.{◌≡◌, ◌<◌, ◌≤◌, ℕ, ℤ, pos, neg_ℤ, nat_abs, length, ap, sym, subst, ◌∙◌, arith, rules}
+use Rattle.std.proofs.Common.{ℕ, neg_ℤ, nat_abs, ap, subst, ◌∙◌}
 use Rattle.std.specs.Int.{IsGcd}
 use Rattle.equation_roots.specs.{Rationals.{rationals_of}, Told.{wholes_of}}
 use Rattle.equation_roots.proofs.{Steps.{divides_refl, divides_trans}, Trials.{candidate, shares_nothing, signs_none}, Wide.{abs_neg, handed, told}}

@@ -1,4 +1,4 @@
-use Rattle.std.proofs.Common.{◌≡◌, length, take}
+use Rattle.std.proofs.Common.{◌≡◌, take}
 use Rattle.equation_roots.specs.{Told.{wholes_of}, Wholes.{read}}
 use Rattle.equation_roots.proofs.wholes.Wholes.copied.Given as goal
 
