@@ -4,6 +4,8 @@ pub mod Placing
 pub mod Shown
 pub mod UnderWay
 pub mod Serials
+pub mod LatexTexts
+pub mod LatexWalks
 pub mod Given
 pub mod Measures
 pub mod Suffixes

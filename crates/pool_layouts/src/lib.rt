@@ -5,6 +5,7 @@ mod drafter;
 mod extents;
 mod frames;
 mod ink;
+mod latex;
 mod laws;
 mod laying;
 mod lists;
@@ -14,6 +15,7 @@ mod serial;
 mod steps;
 
 pub use drafter::Drafter;
+pub use latex::write_latex;
 pub use laws::{
     base_row_is_within, characters_take_one_column, one_line_is_the_text, rows_are_as_wide,
     serial_text_reads,
