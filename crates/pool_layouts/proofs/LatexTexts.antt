@@ -1,7 +1,7 @@
 -- What is written of the nodes of a layout is its LaTeX text, and there is room for it.
 use Rattle.pool_layouts.proofs.Shared.{◌≡◌, ◌∙◌, ℕ, suc, ◌+◌, ◌*◌, ◌-◌, ◌≤◌, ◌==◌, List, [], ◌∷◌, ◌++◌, length, nat_abs, nat_eq, Bool, true, false, if◌then◌else◌, codes, refl, sym, ap, arith, length-append}
 use Rattle.pool_layouts.proofs.Shared.{append_assoc, append-nil, lowest, decimal, eqb-true, Kind, Payload, rational, named, bare, kind_of_payload, size_of_payload, IsPayload, numerator_is, spelled}
-use Rattle.pool_layouts.proofs.Shared.{Forest, empty, tree, arity, bytes_in, AllNodes, drawn, drawings, drawing, composes, AllComposed, IsValid, AllValid, State, Stands, forest, holds, tree_at, valid, bytes_nodes, one_at}
+use Rattle.pool_layouts.proofs.Shared.{Forest, empty, tree, arity, bytes_in, drawn, drawings, drawing, composes, AllComposed, AllValid, State, Stands, forest, holds, tree_at, valid, bytes_nodes, one_at}
 use Rattle.std.specs.Prelude.{take, drop}
 use Rattle.calc_terms.specs.declared.kind.Kind.TheVariants as kind
 use Rattle.line_text.proofs.Room.{leaf_short}

@@ -1,9 +1,9 @@
 -- A walk over the nodes of a layout that knows what is still to be written of its LaTeX text.
-use Rattle.pool_layouts.proofs.Shared.{◌≡◌, ◌∙◌, ℕ, suc, ◌+◌, ◌-◌, ◌<◌, ◌≤◌, List, [], ◌∷◌, ◌++◌, length, refl, sym, ap, subst, arith, append_assoc, append-nil, length-append, kind_of_payload, Visit}
+use Rattle.pool_layouts.proofs.Shared.{◌≡◌, ◌∙◌, ℕ, suc, ◌+◌, ◌<◌, ◌≤◌, List, [], ◌∷◌, ◌++◌, length, sym, ap, subst, arith, append_assoc, append-nil, length-append, kind_of_payload, Visit}
 use Rattle.pool_layouts.proofs.Shared.{Kind, Label, Forest, empty, tree, join, arity, kids, root_payload, nodes_in, tree_at, visits_of, AreFound, join-empty, visits_length, snoc_same}
 use Rattle.calc_terms.specs.declared.kind.Kind.TheVariants as kind
 use Rattle.tree_handles.proofs.Visiting.{IsSeen, found-join, seen, visit_here, visits_left}
-use Rattle.pool_layouts.proofs.LatexTexts.{latex_parts, latex_node}
+use Rattle.pool_layouts.proofs.LatexTexts.{latex_parts}
 use Rattle.pool_layouts.specs.LatexNodes.{latex_between, latex_close, latex_front}
 
 -- what is owed to a node for the parts that are left

@@ -18,5 +18,6 @@ pub mod Inks
 pub mod Painted
 pub mod RowLines
 pub mod SerialTokens
+pub mod LatexReading
 pub mod OneLines
 pub mod Shared

@@ -1,7 +1,7 @@
-use Rattle.pool_layouts.proofs.Shared.{◌≡◌, ◌∙◌, ◌++◌, ◌∷◌, [], ℕ, List, length, refl, sym, ap, subst, arith, Visit, nodes_in, tree_at, forest, one_at, found, Content, extended, content_is, drawing}
+use Rattle.pool_layouts.proofs.Shared.{◌≡◌, ◌∙◌, ◌++◌, ℕ, List, length, refl, sym, ap, subst, arith, Visit, nodes_in, tree_at, forest, one_at, found, Content, extended, content_is, drawing}
 use Rattle.calc_terms.specs.declared.kind.Kind.TheVariants as kind
 use Rattle.tree_handles.proofs.Visiting.{some_next, next_is}
-use Rattle.pool_layouts.specs.{Latex.{latex}, LatexNodes.{latex_close}}
+use Rattle.pool_layouts.specs.{Latex.{latex}}
 use Rattle.pool_layouts.proofs.LatexTexts.{latex_parts, latex_is, has_room}
 use Rattle.pool_layouts.proofs.Shared.{valid}
 use Rattle.pool_layouts.proofs.LatexWalks.{IsWalk, IsEntered, start, some_left, entered, between_room, front_room, goes_down, closed, close_room, goes_up, done}
