@@ -1,8 +1,8 @@
 //! LaTeX texts of layouts, in one walk over their nodes.
-ghost use Rattle.std.specs.Prelude.{◌≡◌, ◌*◌, ◌+◌, ◌++◌, ◌≤◌, [], length, true, vec_capacity};
+ghost use Rattle.std.specs.Prelude.{◌≡◌, ◌*◌, ◌+◌, ◌≤◌, [], length, true, vec_capacity};
+ghost use Rattle.std.specs.List.{list_all};
 ghost use Rattle.calc_terms.specs.Name.{is_digit};
 ghost use Rattle.calc_terms.specs.Payload.{kind_of_payload};
-ghost use Rattle.std.specs.List.{list_all};
 ghost use Rattle.line_text.specs.Content.{spare_of, extended};
 ghost use Rattle.pool_layouts.specs.Drawings.{IsLayout, drawing};
 ghost use Rattle.pool_layouts.specs.Latex.{is_indexed as is_indexed_name, latex, latex_name};
