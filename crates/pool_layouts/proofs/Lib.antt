@@ -4,6 +4,8 @@ pub mod Placing
 pub mod Shown
 pub mod UnderWay
 pub mod Serials
+pub mod LatexTexts
+pub mod LatexWalks
 pub mod Given
 pub mod Measures
 pub mod Suffixes
@@ -16,5 +18,6 @@ pub mod Inks
 pub mod Painted
 pub mod RowLines
 pub mod SerialTokens
+pub mod LatexReading
 pub mod OneLines
 pub mod Shared

@@ -1,7 +1,7 @@
 -- The extents of layouts: what they are for each kind of node, and that they are small.
 use Rattle.pool_layouts.proofs.Shared.{bytes_nodes, ◌≡◌, ◌∙◌, ℕ, suc, ◌+◌, ◌*◌, ◌<◌, ◌≤◌, ◌≢◌, max, List, [], ◌∷◌, ◌++◌, length, drop, get_or, nat_abs, nat_eq, true, refl, sym, ap, arith}
 use Rattle.pool_layouts.proofs.Shared.{append_assoc, eqb-true, length-append, drop-drop, drop_at, Kind, Payload, rational, named, bare, is_bare, kind_of_payload, size_of_payload, IsPayload}
-use Rattle.pool_layouts.proofs.Shared.{begins_with_letter, spelled, decimal_is, decimal, numerator_is, size_from, Label, Forest, empty, tree, join, arity, node_of, bytes_in, nodes_in, Extent}
+use Rattle.pool_layouts.proofs.Shared.{begins_with_letter, spelled, decimal_is, decimal, numerator_is, size_from, Label, Forest, empty, tree, join, arity, bytes_in, nodes_in, Extent}
 use Rattle.pool_layouts.proofs.Shared.{composed, drawn, drawings, composes, composes_kind, AllComposed, extent_from, extent_of, extents_of, HasSmall, HasPair, IsOver, IsSmall, AllValid, leaf_width}
 use Rattle.pool_layouts.proofs.Shared.{Layout, nothing, beside, leaf_characters, Block, height, picture, pictures, widths, most_above, most_below, side_by_side, lowest, ℤ, Bool, false, Ratio, IsRat}
 use Rattle.pool_layouts.proofs.{Shared.{number_text}, Shown.{inside_list, first_is}, Lines.{signs, all_signs}}

@@ -1,6 +1,6 @@
 -- The layout of a face, by its root and its children.
 use Rattle.pool_layouts.proofs.Shared.{level_is, is_div_is, ◌≡◌, ◌∙◌, if◌then◌else◌, true, nat_le, None, refl, sym, ap, arith, eqb-true, Kind, Payload, bare, kind_of_payload, Tree, Trees, none, more}
-use Rattle.pool_layouts.proofs.Shared.{count, root_kind, is_div, later_of_sum, admits_kind, deciding_kind, rule_of, Place, level_of, is_div_kind, admits_is, grown, compound, takes, takes_kind}
+use Rattle.pool_layouts.proofs.Shared.{count, root_kind, later_of_sum, admits_kind, deciding_kind, rule_of, Place, is_div_kind, admits_is, grown, compound, takes, takes_kind}
 use Rattle.pool_layouts.proofs.Shared.{FirstOfSum, LaterOfSum, LeftOfDifference, RightOfDifference, UnderSign, FirstOfProduct, LaterOfProduct, Base, Layout, plus, minus, times, row, raised, Layouts}
 use Rattle.pool_layouts.proofs.Shared.{beside, one_part, unless, boxed, layout, layout_of_sum, layout_of_terms, layout_of_product, layout_of_factors, drawn, first_place, paren_kind_unless, around_of}
 use Rattle.pool_layouts.proofs.Shared.{within, parts_from, laid}

@@ -1,9 +1,9 @@
 -- One node after another is placed, or refused.
-use Rattle.pool_layouts.proofs.Shared.{was_short, IfOk, IfErr, OnOk, IsOk, ◌↔◌, ◌≡◌, ◌∙◌, ℕ, ◌+◌, ◌-◌, ◌<◌, ◌≤◌, List, [], ◌∷◌, length, Option, Some, None, Result, Ok, Err, refl, sym, ap, subst}
-use Rattle.pool_layouts.proofs.Shared.{arith, leb-true, leb-false, Kind, Payload, bare, kind_of_payload, size_of_payload, Full, State, free_of, length_le_used, taking, Forest, empty, join, arity}
+use Rattle.pool_layouts.proofs.Shared.{was_short, IfOk, IfErr, OnOk, IsOk, ◌↔◌, ◌≡◌, ◌∙◌, ℕ, ◌+◌, ◌-◌, ◌<◌, ◌≤◌, List, [], ◌∷◌, Option, Some, None, Result, Ok, Err, sym, ap, subst}
+use Rattle.pool_layouts.proofs.Shared.{arith, Kind, Payload, bare, kind_of_payload, size_of_payload, Full, State, free_of, taking, Forest, empty, join, arity}
 use Rattle.pool_layouts.proofs.Shared.{bytes_in, one_tree, last_trees, before_last, Ends, Starts, Stands, forest, KeepsRefusals, IsRefused, arity-join, bytes_in-join, join_assoc, refuses_after}
 use Rattle.pool_layouts.proofs.Shared.{before-last, before_none, last_none, before_last-join, last_trees-join, ends_as, free_forest, join-empty, Place, HasLast, IsStopped, PlacesMark, StandsIn}
-use Rattle.pool_layouts.proofs.{Shared.{mark_before, laid, laid_kind, leb, by_test, arity_le}, Sizes.{takes_one, taken_first}}
+use Rattle.pool_layouts.proofs.{Shared.{mark_before, laid, laid_kind}, Sizes.{takes_one, taken_first}}
 use Rattle.calc_terms.specs.declared.kind.Kind.TheVariants as kind
 
 pub ok_as : {T : Type 0} {P Q : T → Type 0} (r : Result T Full) → IfOk r P → ((h : T) → P h → Q h) → IfOk r Q

@@ -5,6 +5,8 @@ pub mod Places
 pub mod Frames
 pub mod Laying
 pub mod Serial
+pub mod Latex
+pub mod LatexNodes
 pub mod Pictures
 pub mod Extents
 pub mod Painting

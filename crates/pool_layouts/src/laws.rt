@@ -5,6 +5,7 @@ ghost use Rattle.calc_language.specs.Texts.{IsWritable, text};
 ghost use Rattle.calc_terms.specs.Trees.{Tree, IsComplete};
 ghost use Rattle.pool_layouts.specs.Columns.{TakeOneColumnEach};
 ghost use Rattle.pool_layouts.specs.Faces.{IsDefined};
+ghost use Rattle.pool_layouts.specs.Latex.{latex};
 ghost use Rattle.pool_layouts.specs.Layouts.{Layout, layout};
 ghost use Rattle.pool_layouts.specs.Pictures.{picture, height, cut};
 ghost use Rattle.pool_layouts.specs.Serial.{serial};
@@ -14,6 +15,11 @@ ghost use Rattle.unicode_width.specs.Width.{str_width};
 #[tactic(auto, using(crate::proofs::SerialTokens::serial_reads))]
 pub fn serial_text_reads()
     ensures { (u : Tree) → IsComplete u → IsDefined u → IsWritable u → Reads (serial (layout u)) u }
+{}
+
+/// A LaTeX text is that of one face at most.
+pub fn latex_tells_the_face()
+    ensures { (t u : Tree) → IsComplete t → IsDefined t → IsWritable t → IsComplete u → IsDefined u → IsWritable u → latex (layout t) ≡ latex (layout u) → t ≡ u }
 {}
 
 /// Each row of a picture has as many characters as the picture is wide, and with the blanks at its

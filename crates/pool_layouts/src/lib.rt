@@ -5,6 +5,7 @@ mod drafter;
 mod extents;
 mod frames;
 mod ink;
+mod latex;
 mod laws;
 mod laying;
 mod lists;
@@ -14,9 +15,10 @@ mod serial;
 mod steps;
 
 pub use drafter::Drafter;
+pub use latex::write_latex;
 pub use laws::{
-    base_row_is_within, characters_take_one_column, one_line_is_the_text, rows_are_as_wide,
-    serial_text_reads,
+    base_row_is_within, characters_take_one_column, latex_tells_the_face, one_line_is_the_text,
+    rows_are_as_wide, serial_text_reads,
 };
 pub use laying::layout_of;
 pub use picture::{rows, write_row};
