@@ -17,9 +17,11 @@ row word.Names = record { short = omega arith; printable = refl }
 row word.Forget = record { short = omega arith; printable = refl }
 row word.After = record { short = omega arith; printable = refl }
 row word.Layout = record { short = omega arith; printable = refl }
+row word.Latex = record { short = omega arith; printable = refl }
 row word.Draw = record { short = omega arith; printable = refl }
 row word.Diff = record { short = omega arith; printable = refl }
 row word.Solve = record { short = omega arith; printable = refl }
+row word.Roots = record { short = omega arith; printable = refl }
 row word.Expand = record { short = omega arith; printable = refl }
 row word.Decimal = record { short = omega arith; printable = refl }
 row word.Sign = record { short = omega arith; printable = refl }
@@ -34,12 +36,14 @@ in_table word.Names = (3, omega arith, refl)
 in_table word.Forget = (4, omega arith, refl)
 in_table word.After = (5, omega arith, refl)
 in_table word.Layout = (6, omega arith, refl)
-in_table word.Draw = (7, omega arith, refl)
-in_table word.Diff = (8, omega arith, refl)
-in_table word.Solve = (9, omega arith, refl)
-in_table word.Expand = (10, omega arith, refl)
-in_table word.Decimal = (11, omega arith, refl)
-in_table word.Sign = (12, omega arith, refl)
+in_table word.Latex = (7, omega arith, refl)
+in_table word.Draw = (8, omega arith, refl)
+in_table word.Diff = (9, omega arith, refl)
+in_table word.Solve = (10, omega arith, refl)
+in_table word.Roots = (11, omega arith, refl)
+in_table word.Expand = (12, omega arith, refl)
+in_table word.Decimal = (13, omega arith, refl)
+in_table word.Sign = (14, omega arith, refl)
 
 pub help_fits : (length all_words ≤ 24) × ((w : Word) → IsRow (help_line w))
 help_fits = (omega arith, row)

@@ -1,12 +1,12 @@
 -- Command lines by their parts.
 use Rattle.calc_commands.proofs.Shared.{by_test, ◌≡◌, ◌∙◌, ℕ, ◌<◌, List, [], ◌∷◌, ◌++◌, length, Bool, true, false, Option, Some, None, cond, refl, sym, ap, subst, arith, ◌&&◌, list_all, lt-ltb}
 use Rattle.calc_commands.proofs.Shared.{append-nil, is_in, bytes_eq-Decides, ltb, eqb-true, ne_eqb, bytes_eq, ◌||◌, not, codes, IfSome, IsNone, option_map, option_and_then, is_name, is_name_byte}
-use Rattle.calc_commands.proofs.Shared.{spelled, is_blank, leading_run, Asked, pool, dump, draw, layout, forget, after, diff, solve, expand, asked_of, begins_dark, Has, IsTextBehind, HasText}
-use Rattle.calc_commands.proofs.Shared.{IsCommandLine, asks_pool, asks_dump, asks_draw, asks_layout, asks_forget, asks_after, asks_diff, asks_solve, asks_expand, value_of, are_blanks, behind_colon}
+use Rattle.calc_commands.proofs.Shared.{spelled, is_blank, leading_run, Asked, pool, dump, draw, layout, latex, forget, after, diff, solve, roots, expand, asked_of, begins_dark, Has, IsTextBehind, HasText}
+use Rattle.calc_commands.proofs.Shared.{IsCommandLine, asks_pool, asks_dump, asks_draw, asks_layout, asks_forget, asks_after, asks_diff, asks_solve, asks_roots, asks_expand, asks_latex, value_of, are_blanks, behind_colon}
 use Rattle.calc_commands.proofs.Shared.{asks_help, asks_names, asks_explain, help, list_names, explain, asked_by, asked_with, BeginsWithWord, all_words, word_among, word_bytes, word_of}
 use Rattle.calc_commands.specs.declared.words.Word.{Word}
 use Rattle.calc_commands.specs.declared.words.Word.TheVariants as word
-use Rattle.calc_commands.proofs.Shared.{argument_of, word_and_rest, text_behind, name_and_text, asked_alone, asked_for, asked_to_derive, asked_in, Command, run_whole, run_all, run_stops, stops}
+use Rattle.calc_commands.proofs.Shared.{argument_of, word_and_rest, text_behind, name_and_text, name_and_text_behind, asked_alone, asked_for, asked_in, Command, run_whole, run_all, run_stops, stops}
 use Rattle.calc_commands.proofs.{Shared.{run_of}, Values.{no_digits, not_digits}, Runs.{all-append, all_other, first_of_all}}
 use Rattle.std.proofs.{Common.{eqb, leb}, lemmas.Bool.{leb-true}}
 use Rattle.calc_commands.proofs.Shared.{asks_decimals, asks_sign, decimals, sign, most_places, places_and_text, asked_to_round, ◌≤◌, le-leb}
@@ -97,6 +97,9 @@ stops_at_blank p f (b ∷ gap) text a l = f b (first_of_all is_blank b gap a)
 
 name_found : (name gap text : List ℕ) → is_name name ≡ true → IsTextBehind gap text → name_and_text (name ++ (gap ++ text)) ≡ Some (name, text)
 name_found name gap text n h = grind (arith, run_of, dark_name, stops_at_blank, no_dark, text_found)
+
+named_found : (name gap text rest : List ℕ) → is_name name ≡ true → IsTextBehind gap text → text_behind rest ≡ Some (name ++ (gap ++ text)) → name_and_text_behind rest ≡ Some (name, text)
+named_found name gap text rest n h e = ap (option_and_then name_and_text) e ∙ name_found name gap text n h
 
 places_found : (digits gap text : List ℕ) (places : ℕ) → value_of digits ≡ Some places → places ≤ most_places → IsTextBehind gap text → places_and_text (digits ++ (gap ++ text)) ≡ Some (places, text)
 places_found digits gap text places v l h =
@@ -245,9 +248,11 @@ alone_sound line word.Names q h e = asks (asks_names h) e
 alone_sound line word.Forget q h e = absurd cc
 alone_sound line word.After q h e = absurd cc
 alone_sound line word.Layout q h e = asks (asks_layout h) e
+alone_sound line word.Latex q h e = asks (asks_latex h) e
 alone_sound line word.Draw q h e = asks (asks_draw h) e
 alone_sound line word.Diff q h e = absurd cc
 alone_sound line word.Solve q h e = absurd cc
+alone_sound line word.Roots q h e = absurd cc
 alone_sound line word.Expand q h e = absurd cc
 alone_sound line word.Decimal q h e = absurd cc
 alone_sound line word.Sign q h e = absurd cc
@@ -273,9 +278,11 @@ with_sound line word.Forget argument q h e =
     by_test (λ t. is_name argument ≡ t → cond t (Some (forget argument)) None ≡ Some q → IsCommandLine line q) (is_name argument) (λ z n k. asks (asks_forget h n) k) (λ z n k. absurd cc) refl e
 with_sound line word.After argument q h e = number_sound line argument q (value_of argument) refl h e
 with_sound line word.Layout argument q h e = absurd cc
+with_sound line word.Latex argument q h e = absurd cc
 with_sound line word.Draw argument q h e = absurd cc
 with_sound line word.Diff argument q h e = absurd cc
 with_sound line word.Solve argument q h e = absurd cc
+with_sound line word.Roots argument q h e = absurd cc
 with_sound line word.Expand argument q h e = absurd cc
 with_sound line word.Decimal argument q h e = absurd cc
 with_sound line word.Sign argument q h e = absurd cc
@@ -297,17 +304,21 @@ expand_sound : (line rest : List ℕ) (q : Asked) → HasWord line (codes "expan
 expand_sound line rest q h None e k = absurd cc
 expand_sound line rest q h (Some text) e k = asks (asks_expand (text_sound h (text_there rest text e))) k
 
-diff_there : (line rest name text : List ℕ) → HasWord line (codes "diff") rest → (bytes : List ℕ) → IsText rest bytes → IsNameAndText bytes name text → IsCommandLine line (diff name text)
-diff_there line rest name text h bytes x y = asks_diff (subst (HasText line (codes "diff")) (y.whole ∙ ap (λ b. name ++ b) y.behind.whole) (text_sound h x)) y.named y.behind.behind
+-- the rule of a word with a name and a text
+abbrev RuleOfName : (line word : List ℕ) → (List ℕ → List ℕ → Asked) → Type 0
+RuleOfName line word ask = (name gap text : List ℕ) → HasText line word (name ++ (gap ++ text)) → is_name name ≡ true → IsTextBehind gap text → IsCommandLine line (ask name text)
 
-diff_sound : (line rest : List ℕ) (q : Asked) → HasWord line (codes "diff") rest → asked_to_derive rest ≡ Some q → IsCommandLine line q
-diff_sound line rest q h k = by (text_behind rest) refl k
+named_there : (line word rest name text : List ℕ) (ask : List ℕ → List ℕ → Asked) → RuleOfName line word ask → HasWord line word rest → (bytes : List ℕ) → IsText rest bytes → IsNameAndText bytes name text → IsCommandLine line (ask name text)
+named_there line word rest name text ask rule h bytes x y = rule name y.behind.gap text (subst (HasText line word) (y.whole ∙ ap (λ b. name ++ b) y.behind.whole) (text_sound h x)) y.named y.behind.behind
+
+named_sound : (line word rest : List ℕ) (ask : List ℕ → List ℕ → Asked) → RuleOfName line word ask → (q : Asked) → HasWord line word rest → option_map (λ p. ask p.0 p.1) (name_and_text_behind rest) ≡ Some q → IsCommandLine line q
+named_sound line word rest ask rule q h k = by (text_behind rest) refl k
   where
-    named : (bytes : List ℕ) → text_behind rest ≡ Some bytes → (found : Option (List ℕ × List ℕ)) → name_and_text bytes ≡ found → option_map (λ p. diff p.0 p.1) found ≡ Some q → IsCommandLine line q
+    named : (bytes : List ℕ) → text_behind rest ≡ Some bytes → (found : Option (List ℕ × List ℕ)) → name_and_text bytes ≡ found → option_map (λ p. ask p.0 p.1) found ≡ Some q → IsCommandLine line q
     named bytes e None f k = absurd cc
-    named bytes e (Some (name, text)) f k = asks (diff_there line rest name text h bytes (text_there rest bytes e) (name_there bytes name text f)) k
+    named bytes e (Some (name, text)) f k = asks (named_there line word rest name text ask rule h bytes (text_there rest bytes e) (name_there bytes name text f)) k
 
-    by : (found : Option (List ℕ)) → text_behind rest ≡ found → option_map (λ p. diff p.0 p.1) (option_and_then name_and_text found) ≡ Some q → IsCommandLine line q
+    by : (found : Option (List ℕ)) → text_behind rest ≡ found → option_map (λ p. ask p.0 p.1) (option_and_then name_and_text found) ≡ Some q → IsCommandLine line q
     by None e k = absurd cc
     by (Some bytes) e k = named bytes e (name_and_text bytes) refl k
 
@@ -342,9 +353,11 @@ by_sound line word.Names rest q h e = plain_sound line word.Names rest q h (argu
 by_sound line word.Forget rest q h e = plain_sound line word.Forget rest q h (argument_of rest) refl e
 by_sound line word.After rest q h e = plain_sound line word.After rest q h (argument_of rest) refl e
 by_sound line word.Layout rest q h e = plain_sound line word.Layout rest q h (argument_of rest) refl e
+by_sound line word.Latex rest q h e = plain_sound line word.Latex rest q h (argument_of rest) refl e
 by_sound line word.Draw rest q h e = plain_sound line word.Draw rest q h (argument_of rest) refl e
-by_sound line word.Diff rest q h e = diff_sound line rest q h e
+by_sound line word.Diff rest q h e = named_sound line (codes "diff") rest diff (λ name gap text t n b. asks_diff t n b) q h e
 by_sound line word.Solve rest q h e = solve_sound line rest q h (text_behind rest) refl e
+by_sound line word.Roots rest q h e = named_sound line (codes "roots") rest roots (λ name gap text t n b. asks_roots t n b) q h e
 by_sound line word.Expand rest q h e = expand_sound line rest q h (text_behind rest) refl e
 by_sound line word.Decimal rest q h e = decimals_sound line rest q h e
 by_sound line word.Sign rest q h e = sign_sound line rest q h (text_behind rest) refl e
@@ -407,9 +420,11 @@ dark_word word.Names = refl
 dark_word word.Forget = refl
 dark_word word.After = refl
 dark_word word.Layout = refl
+dark_word word.Latex = refl
 dark_word word.Draw = refl
 dark_word word.Diff = refl
 dark_word word.Solve = refl
+dark_word word.Roots = refl
 dark_word word.Expand = refl
 dark_word word.Decimal = refl
 dark_word word.Sign = refl
@@ -422,9 +437,11 @@ explain_read word.Names = refl
 explain_read word.Forget = refl
 explain_read word.After = refl
 explain_read word.Layout = refl
+explain_read word.Latex = refl
 explain_read word.Draw = refl
 explain_read word.Diff = refl
 explain_read word.Solve = refl
+explain_read word.Roots = refl
 explain_read word.Expand = refl
 explain_read word.Decimal = refl
 explain_read word.Sign = refl
@@ -434,11 +451,14 @@ complete line pool (asks_pool h) = found_with line (codes "pool") [] pool h refl
 complete line dump (asks_dump h) = found_with line (codes "dump") [] dump h refl refl (λ rest e. ap (option_and_then (asked_for word.Dump)) e)
 complete line draw (asks_draw h) = found_with line (codes "draw") [] draw h refl refl (λ rest e. ap (option_and_then (asked_for word.Draw)) e)
 complete line layout (asks_layout h) = found_with line (codes "layout") [] layout h refl refl (λ rest e. ap (option_and_then (asked_for word.Layout)) e)
+complete line latex (asks_latex h) = found_with line (codes "latex") [] latex h refl refl (λ rest e. ap (option_and_then (asked_for word.Latex)) e)
 complete line (forget x) (asks_forget h n) = found_with line (codes "forget") x (forget x) h refl (dark_name x n) (λ rest e. ap (option_and_then (asked_for word.Forget)) e ∙ forget_read x n)
 complete line (after k) (asks_after {digits} h v) = found_with line (codes "after") digits (after k) h refl (dark_digits digits k v) (λ rest e. ap (option_and_then (asked_for word.After)) e ∙ after_read digits k v)
 complete line (diff name text) (asks_diff {gap = gap} h n b) =
-    found_before line (codes "diff") (name ++ (gap ++ text)) (diff name text) h refl (λ rest e. ap (λ found. option_map (λ p. diff p.0 p.1) (option_and_then name_and_text found)) e ∙ ap (option_map (λ p. diff p.0 p.1)) (name_found name gap text n b))
+    found_before line (codes "diff") (name ++ (gap ++ text)) (diff name text) h refl (λ rest e. ap (option_map (λ p. diff p.0 p.1)) (named_found name gap text rest n b e))
 complete line (solve text) (asks_solve h) = found_before line (codes "solve") text (solve text) h refl (λ rest e. ap (option_map solve) e)
+complete line (roots name text) (asks_roots {gap = gap} h n b) =
+    found_before line (codes "roots") (name ++ (gap ++ text)) (roots name text) h refl (λ rest e. ap (option_map (λ p. roots p.0 p.1)) (named_found name gap text rest n b e))
 complete line (expand text) (asks_expand h) = found_before line (codes "expand") text (expand text) h refl (λ rest e. ap (option_map expand) e)
 complete line list_names (asks_names h) = found_with line (codes "names") [] list_names h refl refl (λ rest e. ap (option_and_then (asked_for word.Names)) e)
 complete line help (asks_help h) = found_with line (codes "help") [] help h refl refl (λ rest e. ap (option_and_then (asked_for word.Help)) e)

@@ -1,5 +1,5 @@
 -- Runs of bytes at the front.
-use Rattle.calc_commands.proofs.Shared.{both, ◌&&◌, list_all, arith, refl}
+use Rattle.calc_commands.proofs.Shared.{both, list_all, refl}
 use Rattle.std.specs.Prelude.{ℕ, ◌≡◌, List, [], ◌∷◌, ◌++◌, Bool, true}
 
 pub all-append : (p : ℕ → Bool) (a b : List ℕ) → list_all p a ≡ true → list_all p b ≡ true → list_all p (a ++ b) ≡ true

@@ -1,12 +1,12 @@
 -- The names that the proofs share.
 pub use Rattle.arrayvec.specs.ArrayVec.{ArrayVec}
-pub use Rattle.calc_commands.specs.Parsing.{are_blanks, argument_of, asked_alone, asked_by, asked_for, asked_in, asked_to_derive, asked_with, BeginsWithWord, behind_colon, is_in, name_and_text, text_behind, word_and_rest, asked_to_round, places_and_text}
+pub use Rattle.calc_commands.specs.Parsing.{are_blanks, argument_of, asked_alone, asked_by, asked_for, asked_in, asked_with, BeginsWithWord, behind_colon, is_in, name_and_text, name_and_text_behind, text_behind, word_and_rest, asked_to_round, places_and_text}
 pub use Rattle.calc_commands.specs.{Reports.{byte_text, dump_of, entries, entry, parting}, Equations.{AreSides, Sides, Splits, all_placed, cut_at, placed, written, written_all}, Ranges.{AreSplit}}
 pub use Rattle.calc_commands.specs.{Ranges.{IsWithin, between, pieces_at, pieces_from, sides_at}, Commands.{Asked, Has, HasText, IsCommandLine, IsTextBehind, after, asked_of, asks_after, asks_diff}}
 pub use Rattle.calc_commands.specs.Words.{all_words, help_line, help_report, newline_before, with_newlines, word_among, word_bytes, word_of}
 pub use Rattle.calc_commands.specs.Commands.{asks_explain, asks_help, asks_names, explain, help, list_names}
 pub use Rattle.calc_commands.specs.Commands.{asks_draw, asks_dump, asks_expand, asks_forget, asks_layout, asks_pool, asks_solve, begins_dark, diff, draw, dump, expand, forget, is_command, layout}
-pub use Rattle.calc_commands.specs.Commands.{asks_decimals, asks_sign, decimals, sign, most_places}
+pub use Rattle.calc_commands.specs.Commands.{asks_decimals, asks_latex, asks_roots, asks_sign, decimals, latex, roots, sign, most_places}
 pub use Rattle.calc_commands.specs.{Commands.{pool, solve}, declared.command.Command.{Command}, declared.equations.EquationRange.{EquationRange}, Numbers.{value_of}}
 pub use Rattle.calc_language.proofs.LeadingRuns.{run_all, run_back, run_front, run_of, run_stops, run_whole, stops}
 pub use Rattle.calc_language.specs.Tokens.{is_blank, leading_run}

@@ -14,10 +14,10 @@ is_command (b ∷ bytes) = if is_blank b then is_command bytes else (b == 58)
 
 -- what a command asks for: a name by its bytes, after how many checks a breaker trips, how many decimals, a text to calculate with, and a word to be explained
 pub data Asked : Type 0 where
-  pool dump draw layout : Asked
+  pool dump draw layout latex : Asked
   forget : List ℕ → Asked
   after : ℕ → Asked
-  diff : List ℕ → List ℕ → Asked
+  diff roots : List ℕ → List ℕ → Asked
   solve expand : List ℕ → Asked
   help list_names : Asked
   explain : Word → Asked
@@ -31,8 +31,10 @@ asked_of (command.Forget name) = forget (name_of name)
 asked_of (command.After checks) = after checks
 asked_of command.Draw = draw
 asked_of command.Layout = layout
+asked_of command.Latex = latex
 asked_of (command.Diff name text) = diff (name_of name) text.now
 asked_of (command.Solve text) = solve text.now
+asked_of (command.Roots name text) = roots (name_of name) text.now
 asked_of (command.Expand text) = expand text.now
 asked_of (command.Decimal places text) = decimals places text.now
 asked_of (command.Sign text) = sign text.now
@@ -79,10 +81,12 @@ pub data IsCommandLine (line : List ℕ) : Asked → Type 0 where
   asks_dump : Has line (codes "dump") [] → IsCommandLine line dump
   asks_draw : Has line (codes "draw") [] → IsCommandLine line draw
   asks_layout : Has line (codes "layout") [] → IsCommandLine line layout
+  asks_latex : Has line (codes "latex") [] → IsCommandLine line latex
   asks_forget : {name : List ℕ} → Has line (codes "forget") name → is_name name ≡ true → IsCommandLine line (forget name)
   asks_after : {digits : List ℕ} {checks : ℕ} → Has line (codes "after") digits → value_of digits ≡ Some checks → IsCommandLine line (after checks)
   asks_diff : {name gap text : List ℕ} → HasText line (codes "diff") (name ++ (gap ++ text)) → is_name name ≡ true → IsTextBehind gap text → IsCommandLine line (diff name text)
   asks_solve : {text : List ℕ} → HasText line (codes "solve") text → IsCommandLine line (solve text)
+  asks_roots : {name gap text : List ℕ} → HasText line (codes "roots") (name ++ (gap ++ text)) → is_name name ≡ true → IsTextBehind gap text → IsCommandLine line (roots name text)
   asks_expand : {text : List ℕ} → HasText line (codes "expand") text → IsCommandLine line (expand text)
   asks_help : Has line (codes "help") [] → IsCommandLine line help
   asks_explain : {w : Word} → Has line (codes "help") (word_bytes w) → IsCommandLine line (explain w)

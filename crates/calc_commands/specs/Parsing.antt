@@ -6,7 +6,7 @@ use Rattle.calc_commands.specs.declared.parts.Class.{Class}
 use Rattle.calc_commands.specs.declared.parts.Class.TheVariants as class
 use Rattle.calc_commands.specs.declared.words.Word.{Word}
 use Rattle.calc_commands.specs.declared.words.Word.TheVariants as word
-use Rattle.calc_commands.specs.{Commands.{Asked, pool, dump, draw, layout, forget, after, diff, solve, expand, decimals, sign, most_places, help, explain, list_names}, Numbers.{value_of}, Words.{word_bytes, word_of}}
+use Rattle.calc_commands.specs.{Commands.{Asked, pool, dump, draw, layout, latex, forget, after, diff, solve, roots, expand, decimals, sign, most_places, help, explain, list_names}, Numbers.{value_of}, Words.{word_bytes, word_of}}
 
 -- a byte is of a class
 abbrev pub is_in : Class → ℕ → Bool
@@ -40,6 +40,10 @@ text_behind rest = let run = leading_run is_blank rest in if (length run.0 == 0)
 abbrev pub name_and_text : List ℕ → Option (List ℕ × List ℕ)
 name_and_text text = let run = leading_run (is_in class.Dark) text in if is_name run.0 then option_map (λ behind. (run.0, behind)) (text_behind run.1) else None
 
+-- blanks, a name, and the text behind it
+abbrev pub name_and_text_behind : List ℕ → Option (List ℕ × List ℕ)
+name_and_text_behind rest = option_and_then name_and_text (text_behind rest)
+
 -- how many places are told, and the text behind that number
 abbrev pub places_and_text : List ℕ → Option (ℕ × List ℕ)
 places_and_text text =
@@ -54,6 +58,7 @@ asked_alone word.Dump = Some dump
 asked_alone word.Names = Some list_names
 asked_alone word.Draw = Some draw
 asked_alone word.Layout = Some layout
+asked_alone word.Latex = Some latex
 asked_alone w = None
 
 -- what it asks for with an argument
@@ -66,16 +71,14 @@ asked_with w argument = None
 abbrev pub asked_for : Word → List ℕ → Option Asked
 asked_for w argument = if length argument == 0 then asked_alone w else asked_with w argument
 
-abbrev pub asked_to_derive : List ℕ → Option Asked
-asked_to_derive rest = option_map (λ found. diff found.0 found.1) (option_and_then name_and_text (text_behind rest))
-
 abbrev pub asked_to_round : List ℕ → Option Asked
 asked_to_round rest = option_map (λ found. decimals found.0 found.1) (option_and_then places_and_text (text_behind rest))
 
 -- what a word and what stands behind it ask for
 abbrev pub asked_by : Word → List ℕ → Option Asked
-asked_by word.Diff rest = asked_to_derive rest
+asked_by word.Diff rest = option_map (λ found. diff found.0 found.1) (name_and_text_behind rest)
 asked_by word.Solve rest = option_map solve (text_behind rest)
+asked_by word.Roots rest = option_map (λ found. roots found.0 found.1) (name_and_text_behind rest)
 asked_by word.Expand rest = option_map expand (text_behind rest)
 asked_by word.Decimal rest = asked_to_round rest
 asked_by word.Sign rest = option_map sign (text_behind rest)

@@ -5,7 +5,7 @@ use Rattle.calc_commands.specs.declared.words.Word.TheVariants as word
 
 -- all words, in the order in which they are told
 abbrev pub all_words : List Word
-all_words = word.Help ∷ word.Pool ∷ word.Dump ∷ word.Names ∷ word.Forget ∷ word.After ∷ word.Layout ∷ word.Draw ∷ word.Diff ∷ word.Solve ∷ word.Expand ∷ word.Decimal ∷ word.Sign ∷ []
+all_words = word.Help ∷ word.Pool ∷ word.Dump ∷ word.Names ∷ word.Forget ∷ word.After ∷ word.Layout ∷ word.Latex ∷ word.Draw ∷ word.Diff ∷ word.Solve ∷ word.Roots ∷ word.Expand ∷ word.Decimal ∷ word.Sign ∷ []
 
 -- a word as it is typed
 abbrev pub word_bytes : Word → List ℕ
@@ -16,9 +16,11 @@ word_bytes word.Names = codes "names"
 word_bytes word.Forget = codes "forget"
 word_bytes word.After = codes "after"
 word_bytes word.Layout = codes "layout"
+word_bytes word.Latex = codes "latex"
 word_bytes word.Draw = codes "draw"
 word_bytes word.Diff = codes "diff"
 word_bytes word.Solve = codes "solve"
+word_bytes word.Roots = codes "roots"
 word_bytes word.Expand = codes "expand"
 word_bytes word.Decimal = codes "decimal"
 word_bytes word.Sign = codes "sign"
@@ -41,6 +43,7 @@ form_of word.Forget = codes " X"
 form_of word.After = codes " K"
 form_of word.Diff = codes " X LINE"
 form_of word.Solve = codes " EQUATIONS"
+form_of word.Roots = codes " X EQUATION"
 form_of word.Expand = codes " LINE"
 form_of word.Decimal = codes " N LINE"
 form_of word.Sign = codes " LINE"
@@ -55,9 +58,11 @@ summary_of word.Names = codes "what is stored, in lines that store it again"
 summary_of word.Forget = codes "what is stored under the name X is forgotten"
 summary_of word.After = codes "a line is interrupted after K nodes"
 summary_of word.Layout = codes "the layout of the last answer in one line"
+summary_of word.Latex = codes "the last answer as LaTeX"
 summary_of word.Draw = codes "the picture of the last answer"
 summary_of word.Diff = codes "the derivative of the line with respect to the name X"
 summary_of word.Solve = codes "the values of the names in linear equations"
+summary_of word.Roots = codes "all roots of a polynomial equation in the name X"
 summary_of word.Expand = codes "the line as a sum of multiples of products of names"
 summary_of word.Decimal = codes "the nearest decimal of the line with N places, at most 38"
 summary_of word.Sign = codes "whether the line is positive, negative or zero"
@@ -71,9 +76,11 @@ example_of word.Names = codes "5->x ; :names"
 example_of word.Forget = codes "5->x ; :forget x"
 example_of word.After = codes ":after 3 ; 1+2+3"
 example_of word.Layout = codes "x/2 ; :layout"
+example_of word.Latex = codes "x/2 ; :latex"
 example_of word.Draw = codes "x/2 ; :draw"
 example_of word.Diff = codes ":diff x x^3/3"
 example_of word.Solve = codes ":solve x+y=3;x-y=1"
+example_of word.Roots = codes ":roots x x^2=x+1"
 example_of word.Expand = codes ":expand (x+y)^2"
 example_of word.Decimal = codes ":decimal 4 sqrt(2)+sqrt(3)"
 example_of word.Sign = codes ":sign sqrt(2)-3/2"
@@ -93,7 +100,7 @@ newline_before (suc at) = 10 ∷ []
 
 -- blanks from the end of a word and its form to the column where all summaries begin
 abbrev pub padding_of : Word → List ℕ
-padding_of w = drop (length (word_bytes w) + length (form_of w)) (replicate 17 32)
+padding_of w = drop (length (word_bytes w) + length (form_of w)) (replicate 18 32)
 
 -- the line of a word
 abbrev pub help_line : Word → List ℕ

@@ -2,10 +2,10 @@
 ghost use Rattle.std.specs.Prelude.{◌≡◌, ◌↔◌, IfSome, IsNone, Some, None};
 ghost use Rattle.std.specs.Option.{option_map};
 ghost use Rattle.calc_commands.specs.Commands.{Asked, IsCommandLine, asked_of, is_command as begins_with_colon};
-ghost use Rattle.calc_commands.specs.Parsing.{asked_alone as asked_by_it, asked_by as asked_behind, asked_for as asked_for_it, asked_in, asked_to_derive as derivative_asked_in, asked_to_round as decimals_asked_in, asked_with as asked_with_it};
+ghost use Rattle.calc_commands.specs.Parsing.{asked_alone as asked_by_it, asked_by as asked_behind, asked_for as asked_for_it, asked_in, asked_to_round as decimals_asked_in, asked_with as asked_with_it};
 
 use crate::numbers::read_number;
-use crate::parts::{argument, name_and_text, places_and_text, text_behind, word_and_rest};
+use crate::parts::{argument, name_and_text_behind, places_and_text, text_behind, word_and_rest};
 use crate::words::Word;
 use calc_terms::Name;
 use calc_tokens::is_blank;
@@ -25,10 +25,14 @@ pub enum Command<'a> {
     Draw,
     /// The serial text of the layout of the last answer.
     Layout,
+    /// The LaTeX of the last answer.
+    Latex,
     /// The derivative of an expression with respect to a name.
     Diff(Name, &'a [u8]),
     /// The solutions of equations.
     Solve(&'a [u8]),
+    /// The roots of an equation in a name.
+    Roots(Name, &'a [u8]),
     /// The expanded form of an expression.
     Expand(&'a [u8]),
     /// A line for each command.
@@ -77,21 +81,20 @@ fn asked_by(word: Word, rest: &[u8]) -> Option<Command<'_>>
     ensures { option_map asked_of result ≡ asked_behind word rest.now }
 {
     match word {
-        Word::Diff => asked_to_derive(rest),
+        Word::Diff => {
+            let (name, text) = name_and_text_behind(rest)?;
+            Some(Command::Diff(name, text))
+        }
         Word::Solve => Some(Command::Solve(text_behind(rest)?)),
+        Word::Roots => {
+            let (name, text) = name_and_text_behind(rest)?;
+            Some(Command::Roots(name, text))
+        }
         Word::Expand => Some(Command::Expand(text_behind(rest)?)),
         Word::Decimal => asked_to_round(rest),
         Word::Sign => Some(Command::Sign(text_behind(rest)?)),
         _ => asked_for(word, argument(rest)?),
     }
-}
-
-/// What stands behind `diff` asks for.
-fn asked_to_derive(rest: &[u8]) -> Option<Command<'_>>
-    ensures { option_map asked_of result ≡ derivative_asked_in rest.now }
-{
-    let (name, text) = name_and_text(text_behind(rest)?)?;
-    Some(Command::Diff(name, text))
 }
 
 /// What stands behind `decimal` asks for.
@@ -136,6 +139,7 @@ fn asked_alone<'a>(word: Word) -> Option<Command<'a>>
         Word::Names => Some(Command::Names),
         Word::Draw => Some(Command::Draw),
         Word::Layout => Some(Command::Layout),
+        Word::Latex => Some(Command::Latex),
         _ => None,
     }
 }

@@ -31,7 +31,7 @@ pub fn write_word_help(word: Word, text: &mut Text)
 
 /// Appends the line of a word.
 fn write_help_line(word: Word, text: &mut Text)
-    requires room { 95 ≤ spare_of text.old }
+    requires room { 97 ≤ spare_of text.old }
     ensures line { text.new ≡ extended text.old (help_line word) }
     ensures short { length text.new.bytes ≤ length text.old.bytes + 78 }
 {

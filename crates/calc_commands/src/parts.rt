@@ -3,7 +3,7 @@ ghost use Rattle.std.specs.Prelude.{◌≡◌, Some, None, MatchOption};
 ghost use Rattle.std.specs.List.{prefix_len};
 ghost use Rattle.calc_language.specs.Tokens.{leading_run};
 ghost use Rattle.calc_terms.specs.Leaf.{name_of};
-ghost use Rattle.calc_commands.specs.Parsing.{argument_of, behind_colon as behind_colon_of, is_in, are_blanks as all_blank, name_and_text as name_and_text_of, places_and_text as places_and_text_of, text_behind as text_behind_of, word_and_rest as word_and_rest_of};
+ghost use Rattle.calc_commands.specs.Parsing.{argument_of, behind_colon as behind_colon_of, is_in, are_blanks as all_blank, name_and_text as name_and_text_of, name_and_text_behind as name_and_text_behind_of, places_and_text as places_and_text_of, text_behind as text_behind_of, word_and_rest as word_and_rest_of};
 
 use crate::numbers::read_number;
 use calc_terms::Name;
@@ -73,8 +73,15 @@ pub(crate) fn text_behind(rest: &[u8]) -> Option<&[u8]>
     }
 }
 
+/// A name behind blanks, and the text behind it.
+pub(crate) fn name_and_text_behind(rest: &[u8]) -> Option<(Name, &[u8])>
+    ensures { MatchOption result (name_and_text_behind_of rest.now ≡ None) (λ found. name_and_text_behind_of rest.now ≡ Some (name_of found.0, found.1.now)) }
+{
+    name_and_text(text_behind(rest)?)
+}
+
 /// A name at the front, and the text behind it.
-pub(crate) fn name_and_text(text: &[u8]) -> Option<(Name, &[u8])>
+fn name_and_text(text: &[u8]) -> Option<(Name, &[u8])>
     ensures { MatchOption result (name_and_text_of text.now ≡ None) (λ found. name_and_text_of text.now ≡ Some (name_of found.0, found.1.now)) }
 {
     let (word, rest) = split(text, Class::Dark);

@@ -12,9 +12,11 @@ pub enum Word {
     Forget,
     After,
     Layout,
+    Latex,
     Draw,
     Diff,
     Solve,
+    Roots,
     Expand,
     Decimal,
     Sign,
@@ -29,16 +31,18 @@ const WORDS: &[Word] = &[
     Word::Forget,
     Word::After,
     Word::Layout,
+    Word::Latex,
     Word::Draw,
     Word::Diff,
     Word::Solve,
+    Word::Roots,
     Word::Expand,
     Word::Decimal,
     Word::Sign,
 ];
 
 /// The blanks before a summary where there is neither word nor form.
-const BLANKS: &[u8] = b"                 ";
+const BLANKS: &[u8] = b"                  ";
 
 impl Word {
     /// All words, in the order in which they are told.
@@ -68,9 +72,11 @@ impl Word {
             Word::Forget => b"forget",
             Word::After => b"after",
             Word::Layout => b"layout",
+            Word::Latex => b"latex",
             Word::Draw => b"draw",
             Word::Diff => b"diff",
             Word::Solve => b"solve",
+            Word::Roots => b"roots",
             Word::Expand => b"expand",
             Word::Decimal => b"decimal",
             Word::Sign => b"sign",
@@ -80,7 +86,7 @@ impl Word {
     /// What stands behind it in a command.
     pub fn form(self) -> &'static [u8]
         ensures value { result.now ≡ form_of self }
-        ensures short { length result.now ≤ 10 }
+        ensures short { length result.now ≤ 11 }
     {
         match self {
             Word::Help => b" [WORD]",
@@ -88,6 +94,7 @@ impl Word {
             Word::After => b" K",
             Word::Diff => b" X LINE",
             Word::Solve => b" EQUATIONS",
+            Word::Roots => b" X EQUATION",
             Word::Expand => b" LINE",
             Word::Decimal => b" N LINE",
             Word::Sign => b" LINE",
@@ -108,9 +115,11 @@ impl Word {
             Word::Forget => b"what is stored under the name X is forgotten",
             Word::After => b"a line is interrupted after K nodes",
             Word::Layout => b"the layout of the last answer in one line",
+            Word::Latex => b"the last answer as LaTeX",
             Word::Draw => b"the picture of the last answer",
             Word::Diff => b"the derivative of the line with respect to the name X",
             Word::Solve => b"the values of the names in linear equations",
+            Word::Roots => b"all roots of a polynomial equation in the name X",
             Word::Expand => b"the line as a sum of multiples of products of names",
             Word::Decimal => b"the nearest decimal of the line with N places, at most 38",
             Word::Sign => b"whether the line is positive, negative or zero",
@@ -130,9 +139,11 @@ impl Word {
             Word::Forget => b"5->x ; :forget x",
             Word::After => b":after 3 ; 1+2+3",
             Word::Layout => b"x/2 ; :layout",
+            Word::Latex => b"x/2 ; :latex",
             Word::Draw => b"x/2 ; :draw",
             Word::Diff => b":diff x x^3/3",
             Word::Solve => b":solve x+y=3;x-y=1",
+            Word::Roots => b":roots x x^2=x+1",
             Word::Expand => b":expand (x+y)^2",
             Word::Decimal => b":decimal 4 sqrt(2)+sqrt(3)",
             Word::Sign => b":sign sqrt(2)-3/2",
@@ -142,7 +153,7 @@ impl Word {
     /// Blanks from the end of its form to the column where all summaries begin.
     pub(crate) fn padding(self) -> &'static [u8]
         ensures value { result.now ≡ padding_of self }
-        ensures short { length result.now ≤ 17 }
+        ensures short { length result.now ≤ 18 }
     {
         &BLANKS[self.bytes().len() + self.form().len()..]
     }
