@@ -250,6 +250,24 @@ module _ {x : List ℕ} {v : Polynomial} {qs : List Fraction} {h k : ℕ} (s : S
               let apart : n ≡ k → ⊥ = λ r. (let t = eq-eqb k h (sym r ∙ e) in cc) in
               old.leading (omega arith) (ap (λ (i : ℕ). get_or qs i zero_fraction) (sym e) ∙ sym (written_other n apart) ∙ z)
 
+-- the only term of a tree is written
+pub only_up_to : (x : List ℕ) (t : Tree) (o : IsOnly (x ∷ []) t) (cs new : List Rat) (z : Rat) (k : ℕ) → cs ≡ replicate 33 z → value_of z ≡ zero_fraction → IsNoted x o.summand-is cs new (Some k)
+    → AreUpTo x (o.summand-is ∷ []) (map value_of new) k
+only_up_to x t o cs new z k e is ((within, power), written-is) =
+    subst (λ (qs : List Fraction). AreUpTo x (o.summand-is ∷ []) qs k) (sym written-is)
+    (up_to o.summand-is (none_up_to x cs z e is) refl power within (λ l. o.nonzero (λ q. (let none-left = one_power x {j = k} {k = 0} (sym power ∙ q) in absurd (omega arith)))) (by k))
+  where
+    by : (n : ℕ) → ((0 < n) × (n ≡ n)) ⊎ ((n ≤ 0) × (n ≡ 0))
+    by zero = inr (omega arith, refl)
+    by (suc n) = inl (omega arith, refl)
+
+-- the next term is written
+pub next_up_to : (x : List ℕ) (w : Polynomial) (i : ℕ) (u : Tree) (p : IsNextPower (x ∷ []) w i u) (cs new : List Rat) (h k n : ℕ) → AreUpTo x (take i w) (map value_of cs) h
+    → IsNoted x p.summand-is cs new (Some k) → ((h < k) × (n ≡ k)) ⊎ ((k ≤ h) × (n ≡ h)) → AreUpTo x (take (suc i) w) (map value_of new) n
+next_up_to x w i u p cs new h k n old ((within, power), written-is) c =
+    subst (λ (v : Polynomial). AreUpTo x v (map value_of new) n) (sym p.more)
+    (subst (λ (qs : List Fraction). AreUpTo x (take i w ++ p.summand-is ∷ []) qs n) (sym written-is) (up_to p.summand-is old p.new power within (λ l. p.nonzero) c))
+
 -- ---- all of them
 
 cut : (n : ℕ) (qs : List Fraction) (k : ℕ) → ((j : ℕ) → n ≤ j → get_or qs j zero_fraction ≡ zero_fraction) → get_or qs k zero_fraction ≡ get_or (take n qs) k zero_fraction
@@ -272,7 +290,14 @@ module _ {x : List ℕ} {w v : Polynomial} (cs : List Rat) {h : ℕ} (up : AreUp
   pub none_above : HasPowerAbove 32 x v → ⊥
   none_above (k, l, z) = z (sym (same.at (power_of x k)) ∙ up.coefficients.powers k ∙ up.rest k (omega (arith, up.few)))
 
--- one above 32
-pub one_above : (x : List ℕ) {w v : Polynomial} {k : ℕ} (s : Summand) → 32 < k → s.monomial ≡ power_of x k → coefficient_at s.monomial w ≡ s.coefficient → s.coefficient ≢ zero_fraction → AreSame w v
-    → HasPowerAbove 32 x v
-one_above x {v = u} {k} s l e whole nonzero same = (k, l, λ z. nonzero (sym whole ∙ same.at s.monomial ∙ ap (λ m. coefficient_at m u) e ∙ z))
+-- ---- one above 32
+
+above_at : (x : List ℕ) {w v : Polynomial} (s : Summand) → IsPower x s.monomial None → coefficient_at s.monomial w ≡ s.coefficient → s.coefficient ≢ zero_fraction → AreSame w v → HasPowerAbove 32 x v
+above_at x {v = u} s (k, l, e) whole nonzero same = (k, l, λ z. nonzero (sym whole ∙ same.at s.monomial ∙ ap (λ m. coefficient_at m u) e ∙ z))
+
+pub only_above : (x : List ℕ) (t : Tree) (o : IsOnly (x ∷ []) t) → IsPower x (o.summand-is).monomial None → HasPowerAbove 32 x (polynomial_of t)
+only_above x t o (k, l, e) =
+    above_at x o.summand-is (k, l, e) (alone_at o.summand-is) (o.nonzero (λ q. (let none-left = one_power x {j = k} {k = 0} (sym e ∙ q) in absurd (omega arith)))) o.same
+
+pub next_above : (x : List ℕ) (t u : Tree) (i : ℕ) (p : IsNextPower (x ∷ []) (normal (polynomial_of t)) i u) → IsPower x (p.summand-is).monomial None → HasPowerAbove 32 x (polynomial_of t)
+next_above x t u i p h = above_at x p.summand-is h p.whole p.nonzero (same_normal (polynomial_of t))
