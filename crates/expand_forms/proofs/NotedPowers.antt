@@ -218,7 +218,7 @@ module _ {x : List ℕ} {v : Polynomial} {qs : List Fraction} {h k : ℕ} (s : S
       by true e = (k, sym (one_monomial s.monomial m e) ∙ power)
       by false e =
           let same : coefficient_at m (v ++ s ∷ []) ≡ coefficient_at m v =
-              coefficient_append m v (s ∷ []) ∙ ap (λ b. plus (coefficient_at m v) (if b then plus s.coefficient zero_fraction else zero_fraction)) e ∙ plus_zero (coefficient_at m v) in
+          coefficient_append m v (s ∷ []) ∙ ap (λ b. plus (coefficient_at m v) (if b then plus s.coefficient zero_fraction else zero_fraction)) e ∙ plus_zero (coefficient_at m v) in
           old.coefficients.others m (λ q. z (same ∙ q))
 
   up_to : {n : ℕ} → (1 ≤ k → s.coefficient ≢ zero_fraction) → ((h < k) × (n ≡ k)) ⊎ ((k ≤ h) × (n ≡ h)) → AreUpTo x (v ++ s ∷ []) written n

@@ -25,6 +25,9 @@ use tree_handles::{child_ids, kind};
 /// So many powers have a place: those from 0 to 32.
 pub const POWERS: usize = 33;
 
+/// The highest of them.
+const HIGHEST: i128 = 32;
+
 /// The coefficients of the powers of a name in an expanded tree that has no other name: that of the power k at the place k. The answer
 /// is how many there are up to the highest power. There is none where an exponent is above 32, and what stands in the places then does
 /// not matter.
@@ -59,12 +62,7 @@ pub fn powers_of(
 }
 
 /// Notes the coefficient of a term at the place of its power of a name, and tells this place, where there is one.
-fn note_term(
-    pool: &Pool,
-    term: Id,
-    name: Name,
-    coefficients: &mut [Rat; POWERS],
-) -> Option<usize>
+fn note_term(pool: &Pool, term: Id, name: Name, coefficients: &mut [Rat; POWERS]) -> Option<usize>
     requires stands { Stands pool.now }
     requires expression { IsExpression term (forest pool.now) }
     requires term { (s : Summand) × IsSummandTree (name_of name ∷ []) s (plain (tree_at term (forest pool.now))) }
@@ -102,7 +100,7 @@ fn placed_power(factor: Factor) -> Option<usize>
     ensures { (f : FactorOf) → IsRead factor f → MatchOption result (32 < f.exponent) (λ k. (k ≤ 32) × (k ≡ f.exponent)) }
 {
     let exponent = factor.exponent.num();
-    if exponent > 32 {
+    if exponent > HIGHEST {
         return None;
     }
     Some(exponent as usize)

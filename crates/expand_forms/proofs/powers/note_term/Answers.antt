@@ -26,6 +26,8 @@ pub bounds-coefficients-power : goal.bounds-coefficients-power
 bounds-coefficients-power c = omega (arith, within _ _ c.in_ok-power.power c.requires.term c.in_ok-power.ensures)
 
 pub returns : goal.returns
-returns c = λ s is.
-    (c.in_ok-power.ensures s.monomial (has_monomial is) is.named, map-set value_of c.args.coefficients.now c.in_ok-power.power c.coefficient.result
-    ∙ ap (set (map value_of c.args.coefficients.now) c.in_ok-power.power) (c.coefficient.ensures ∙ ap coefficient_in is.tree ∙ term_coefficient s))
+returns c = λ s is. (
+  c.in_ok-power.ensures s.monomial (has_monomial is) is.named,
+  map-set value_of c.args.coefficients.now c.in_ok-power.power c.coefficient.result
+      ∙ ap (set (map value_of c.args.coefficients.now) c.in_ok-power.power) (c.coefficient.ensures ∙ ap coefficient_in is.tree ∙ term_coefficient s),
+)

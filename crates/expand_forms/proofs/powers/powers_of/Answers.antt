@@ -130,10 +130,10 @@ returns c =
     ] in
     let last = last_child c.requires.stands c.requires.expression c.loop-term.invariant.ids c.in-None.ensures.steps.0 in
     let few : length (normal (polynomial_of s)) ≤ length c.loop-term.yielded =
-        omega (arith, last, ap count (sum_terms_in s m), count_is (x ∷ []) s c.requires.expanded (among_one x (names s) c.requires.one_name)) in
+    omega (arith, last, ap count (sum_terms_in s m), count_is (x ∷ []) s c.requires.expanded (among_one x (names s) c.requires.one_name)) in
     let up : AreUpTo x (normal (polynomial_of s)) (map value_of c.loop-term.coefficients) c.loop-term.highest =
-        subst (λ (v : Polynomial). AreUpTo x v (map value_of c.loop-term.coefficients) c.loop-term.highest) (taken_all (normal (polynomial_of s)) (length c.loop-term.yielded) few)
-        c.loop-term.invariant.noted in
+    subst (λ (v : Polynomial). AreUpTo x v (map value_of c.loop-term.coefficients) c.loop-term.highest) (taken_all (normal (polynomial_of s)) (length c.loop-term.yielded) few)
+    c.loop-term.invariant.noted in
     let same = same_normal (polynomial_of s) in
     record {
       some = (omega arith, omega (arith, up.few), all_coefficients c.loop-term.coefficients up same);
