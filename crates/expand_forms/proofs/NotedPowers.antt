@@ -10,7 +10,7 @@ use Rattle.expansions.specs.Polynomials.{IsBelowAll}
 use Rattle.expand_forms.specs.Powers.{AreCoefficients, HasPowerAbove, IsNoted, IsPower, power_of}
 use Rattle.expansions.proofs.{NameLists.{AllHaveNames, all_have, has_contained, later_names}, MonomialTrees.{less_apart, not_same, same_itself, same_is as one_monomial}, NormalForms.{absent}, SameCoefficients.{coefficient_append}}
 use Rattle.calc_terms.specs.declared.kind.Kind.TheVariants as kind
-use Rattle.std.proofs.Common.{get_or, set}
+use Rattle.std.proofs.Common.{get_or, ltb, max, set}
 use Rattle.std.specs.Prelude.{MatchOption, Option, Some, None}
 use Rattle.std.proofs.lemmas.List.{get_or-set_same, get_or-set_other, get_or_past, length-map, length-replicate, length-set, take-map}
 
@@ -261,12 +261,20 @@ only_up_to x t o cs new z k e is ((within, power), written-is) =
     by zero = inr (omega arith, refl)
     by (suc n) = inl (omega arith, refl)
 
+greater : (h k : ℕ) → ((h < k) × (max h k ≡ k)) ⊎ ((k ≤ h) × (max h k ≡ h))
+greater h k = by (ltb h k) refl
+  where
+    by : (b : Bool) → ltb h k ≡ b → ((h < k) × (max h k ≡ k)) ⊎ ((k ≤ h) × (max h k ≡ h))
+    by true e = inl (grind arith, grind arith)
+    by false e = inr (grind arith, grind arith)
+
 -- the next term is written
 pub next_up_to : (x : List ℕ) (w : Polynomial) (i : ℕ) (u : Tree) (p : IsNextPower (x ∷ []) w i u) (cs new : List Rat) (h k n : ℕ) → AreUpTo x (take i w) (map value_of cs) h
-    → IsNoted x p.summand-is cs new (Some k) → ((h < k) × (n ≡ k)) ⊎ ((k ≤ h) × (n ≡ h)) → AreUpTo x (take (suc i) w) (map value_of new) n
-next_up_to x w i u p cs new h k n old ((within, power), written-is) c =
+    → IsNoted x p.summand-is cs new (Some k) → n ≡ max h k → AreUpTo x (take (suc i) w) (map value_of new) n
+next_up_to x w i u p cs new h k n old ((within, power), written-is) e =
     subst (λ (v : Polynomial). AreUpTo x v (map value_of new) n) (sym p.more)
-    (subst (λ (qs : List Fraction). AreUpTo x (take i w ++ p.summand-is ∷ []) qs n) (sym written-is) (up_to p.summand-is old p.new power within (λ l. p.nonzero) c))
+    (subst (λ (qs : List Fraction). AreUpTo x (take i w ++ p.summand-is ∷ []) qs n) (sym written-is)
+    (subst (AreUpTo x (take i w ++ p.summand-is ∷ []) (set (map value_of cs) k (p.summand-is).coefficient)) (sym e) (up_to p.summand-is old p.new power within (λ l. p.nonzero) (greater h k))))
 
 -- ---- all of them
 

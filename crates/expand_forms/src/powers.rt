@@ -48,15 +48,11 @@ pub fn powers_of(
 {
     *coefficients = [Rat::whole(0); POWERS];
     if !matches!(kind(pool, expanded), Kind::Add) {
-        let power = note_term(pool, expanded, name, coefficients)?;
-        return Some(power + 1);
+        return Some(note_term(pool, expanded, name, coefficients)? + 1);
     }
-    let mut highest = 0;
+    let mut highest: usize = 0;
     for term in child_ids(pool, expanded, 0) {
-        let power = note_term(pool, term, name, coefficients)?;
-        if power > highest {
-            highest = power;
-        }
+        highest = highest.max(note_term(pool, term, name, coefficients)?);
     }
     Some(highest + 1)
 }

@@ -25,14 +25,14 @@ module _ (c : Then-not-matches) where
 pub note_term-requires-clause-term : goal.note_term-requires-clause-term
 note_term-requires-clause-term c = let o = only (goal.at.note_term-requires-clause-term c).Then-not-matches in (o.summand-is, o.is)
 
-pub returns-in_err-power-clause-none : goal.returns-in_err-power-clause-none
-returns-in_err-power-clause-none c =
-    let k = (goal.at.returns-in_err-power-clause-none c).Then-not-matches in
+pub returns-in_err-note_term-clause-none : goal.returns-in_err-note_term-clause-none
+returns-in_err-note_term-clause-none c =
+    let k = (goal.at.returns-in_err-note_term-clause-none c).Then-not-matches in
     let o = only k in
-    (λ e. only_above (name_of c.args.name) (t k) o (c.in_err-power.ensures o.summand-is o.is), λ h. c.from_residual.ensures)
+    (λ e. only_above (name_of c.args.name) (t k) o (c.in_err-note_term.ensures o.summand-is o.is), λ h. c.from_residual.ensures)
 
 pub overflow_add-result : goal.overflow_add-result
-overflow_add-result c = let o = only (goal.at.overflow_add-result c).Then-not-matches in record { fits = omega (arith, (c.in_ok-power.ensures o.summand-is o.is).0.0) }
+overflow_add-result c = let o = only (goal.at.overflow_add-result c).Then-not-matches in record { fits = omega (arith, (c.in_ok-note_term.ensures o.summand-is o.is).0.0) }
 
 pub returns-then-not-matches : goal.returns-then-not-matches
 returns-then-not-matches c =
@@ -40,7 +40,7 @@ returns-then-not-matches c =
     let o = only k in
     let x = name_of c.args.name in
     let cs = c.note_term.new.coefficients in
-    let up = only_up_to x (t k) o _ cs c.whole-coefficients.result c.in_ok-power.power refl (zero_value c.whole-coefficients.result c.whole-coefficients.ensures) (c.in_ok-power.ensures o.summand-is o.is) in
+    let up = only_up_to x (t k) o _ cs c.whole-coefficients.result c.in_ok-note_term.field-0 refl (zero_value c.whole-coefficients.result c.whole-coefficients.ensures) (c.in_ok-note_term.ensures o.summand-is o.is) in
     record {
       some = (omega arith, omega (arith, up.few), all_coefficients cs up o.same);
       leading = last_coefficient cs up o.same;
@@ -86,25 +86,11 @@ note_term-requires-in-loop-term c = let p = next (goal.at.note_term-requires-in-
   term = (p.summand-is, p.is);
 }
 
-pub returns-in_err-power-2-clause-none : goal.returns-in_err-power-2-clause-none
-returns-in_err-power-2-clause-none c =
-    let k = (goal.at.returns-in_err-power-2-clause-none c).In-Some in
+pub returns-in_err-note_term-2-clause-none : goal.returns-in_err-note_term-2-clause-none
+returns-in_err-note_term-2-clause-none c =
+    let k = (goal.at.returns-in_err-note_term-2-clause-none c).In-Some in
     let p = next k in
-    (λ e. next_above (name_of c.args.name) (u k) _ (i k) p (c.in_err-power-2.ensures p.summand-is p.is), λ h. c.from_residual-in_err-power-2.ensures)
-
-pub loop-term-preserved-then-power-highest : goal.loop-term-preserved-then-power-highest
-loop-term-preserved-then-power-highest c =
-    let k = (goal.at.loop-term-preserved-then-power-highest c).In-Some in
-    let p = next k in
-    let n = next_child c.requires.stands c.requires.expression c.loop-term.invariant.ids c.in-Some.ensures.steps in
-    let w = normal (polynomial_of (u k)) in
-    let new = c.note_term-in-loop-term.new.coefficients in
-    record {
-      ids = n.left-are ∙ ap (λ (j : ℕ). root_ids (rest_trees j (kids_of c.args.expanded (forest c.args.pool.now)))) (more k);
-      noted = subst (λ (j : ℕ). AreUpTo (name_of c.args.name) (take j w) (map value_of new) c.in_ok-power-2.power) (more k)
-          (next_up_to (name_of c.args.name) w (i k) _ p c.loop-term.coefficients new c.loop-term.highest c.in_ok-power-2.power c.in_ok-power-2.power c.loop-term.invariant.noted
-          (c.in_ok-power-2.ensures p.summand-is p.is) (inl (c.if-power-highest.true, refl)));
-    }
+    (λ e. next_above (name_of c.args.name) (u k) _ (i k) p (c.in_err-note_term-2.ensures p.summand-is p.is), λ h. c.from_residual-in_err-note_term-2.ensures)
 
 pub loop-term-preserved : goal.loop-term-preserved
 loop-term-preserved c =
@@ -115,9 +101,9 @@ loop-term-preserved c =
     let new = c.note_term-in-loop-term.new.coefficients in
     record {
       ids = n.left-are ∙ ap (λ (j : ℕ). root_ids (rest_trees j (kids_of c.args.expanded (forest c.args.pool.now)))) (more k);
-      noted = subst (λ (j : ℕ). AreUpTo (name_of c.args.name) (take j w) (map value_of new) c.loop-term.highest) (more k)
-          (next_up_to (name_of c.args.name) w (i k) _ p c.loop-term.coefficients new c.loop-term.highest c.in_ok-power-2.power c.loop-term.highest c.loop-term.invariant.noted
-          (c.in_ok-power-2.ensures p.summand-is p.is) (inr (omega (arith, c.if-power-highest.false), refl)));
+      noted = subst (λ (j : ℕ). AreUpTo (name_of c.args.name) (take j w) (map value_of new) c.max-highest.result) (more k)
+          (next_up_to (name_of c.args.name) w (i k) _ p c.loop-term.coefficients new c.loop-term.highest c.in_ok-note_term-2.field-0 c.max-highest.result c.loop-term.invariant.noted
+          (c.in_ok-note_term-2.ensures p.summand-is p.is) c.max-highest.ensures);
     }
 
 pub returns : goal.returns
