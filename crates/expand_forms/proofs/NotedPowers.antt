@@ -1,11 +1,10 @@
 -- The coefficients of an expanded tree in one name.
 use Rattle.calc_terms.proofs.SmallFractions.{plus_zero}
 use Rattle.expand_forms.proofs.Shared.{◌≡◌, ◌≢◌, ◌≤◌, ◌<◌, ◌⊎◌, ◌+◌, ◌-◌, ◌==◌, ℕ, zero, suc, List, [], ◌∷◌, ◌++◌, Bool, true, false, length, take, map, refl, sym, ap, ◌∙◌, subst, arith, eq-eqb, eqb-true, if◌then◌else◌, Less}
-use Rattle.expand_forms.proofs.Shared.{AreAmong, AreMonomials, AreSame, Factor, Fraction, IsBeforeAll, IsExpanded, IsMonomial, IsNamed, IsNormal, IsSummandTree, Monomial, Polynomial, Summand, Tree, Trees, add}
-use Rattle.expand_forms.proofs.Shared.{coefficient_at, count, expanded, expanded_terms, factor, is_same_monomial, led, monomial_cmp, more, names, none, normal, normal_all, normal_is, nth, num, plus, polynomial_of}
+use Rattle.expand_forms.proofs.Shared.{AreAmong, AreMonomials, AreSame, Factor, Fraction, IsBeforeAll, IsExpanded, IsMonomial, IsNamed, IsNormal, IsSummandTree, Monomial, Polynomial, Summand, Tree, Trees}
+use Rattle.expand_forms.proofs.Shared.{coefficient_at, count, expanded_terms, factor, is_same_monomial, monomial_cmp, more, names, none, normal, normal_all, normal_is, nth, num, plus, polynomial_of}
 use Rattle.expand_forms.proofs.Shared.{root_kind, same_is, same_normal, same_trans, sum_tree, summand, term_tree, term_trees, terms_in, tree_named, tree_normal, zero_fraction, zero_plus, contained_has}
 use Rattle.expand_forms.proofs.Shared.{AllHave, HasName, Contains, product_tree, monomial_tree, is_one_fraction, one_is, one_not_zero, false_from_ne_true, inl, inr, replicate, value_of, Rat}
-use Rattle.expand_forms.proofs.{PlacedTerms.{count_terms}}
 use Rattle.expansions.specs.Polynomials.{IsBelowAll}
 use Rattle.expand_forms.specs.Powers.{AreCoefficients, HasPowerAbove, IsNoted, IsPower, power_of}
 use Rattle.expansions.proofs.{NameLists.{AllHaveNames, all_have, has_contained, later_names}, MonomialTrees.{less_apart, not_same, same_itself, same_is as one_monomial}, NormalForms.{absent}, SameCoefficients.{coefficient_append}}

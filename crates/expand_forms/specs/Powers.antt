@@ -1,5 +1,5 @@
 -- The coefficients of the powers of a name in a polynomial.
-use Rattle.std.specs.Prelude.{ℕ, suc, ◌≡◌, ◌≢◌, ◌≤◌, ◌<◌, List, [], map, slice_index_or, slice_set, Option, Some, None}
+use Rattle.std.specs.Prelude.{ℕ, ◌≡◌, ◌≢◌, ◌≤◌, ◌<◌, List, [], map, slice_index_or, slice_set, Option, Some, None}
 use Rattle.calc_terms.specs.{Fractions.{Fraction, zero_fraction}, Rat.{value_of}, declared.rat.Rat.{Rat}}
 use Rattle.expansions.specs.{Named.{led}, Polynomials.{Monomial, Polynomial, Summand, coefficient_at}}
 

@@ -1,4 +1,4 @@
-use Rattle.expand_forms.proofs.Shared.{List, Monomial, Option, Some, None, Summand, Tree, ap, sym, subst, ◌∙◌, ◌∷◌, [], ◌≡◌, ◌≤◌, ℕ, arith, map, value_of, coefficient_in, term_coefficient, HasMonomial, IsNamed, IsSummandTree, name_of, plain, tree_at, forest}
+use Rattle.expand_forms.proofs.Shared.{List, Monomial, Some, Summand, Tree, ap, sym, subst, ◌∙◌, ◌∷◌, [], ◌≤◌, ℕ, arith, map, value_of, coefficient_in, term_coefficient, HasMonomial, IsNamed, IsSummandTree, name_of}
 use Rattle.expand_forms.proofs.ReadTerms.{has_monomial}
 use Rattle.expand_forms.specs.Powers.{IsNoted, IsPower}
 use Rattle.std.proofs.lemmas.List.{map-set}

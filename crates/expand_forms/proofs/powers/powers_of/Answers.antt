@@ -1,5 +1,5 @@
-use Rattle.expand_forms.proofs.Shared.{◌≡◌, ◌<◌, ◌≤◌, ◌++◌, ◌∷◌, ◌∙◌, inl, inr, [], ℕ, suc, length, map, take, true, false, refl, sym, ap, subst, arith, length-append, Rat, Tree, Trees, count, forest, is_add}
-use Rattle.expand_forms.proofs.Shared.{kids_of, name_of, names, nth, plain, polynomial_of, normal, rest_trees, root_ids, root_kind, same_normal, sum_kind, terms_in, tree_at, value_of, AreAmong, Polynomial}
+use Rattle.expand_forms.proofs.Shared.{◌≡◌, ◌<◌, ◌≤◌, ◌++◌, ◌∷◌, ◌∙◌, [], ℕ, suc, length, map, take, true, refl, sym, ap, subst, arith, length-append, Tree, Trees, count, forest, is_add}
+use Rattle.expand_forms.proofs.Shared.{kids_of, name_of, names, nth, plain, polynomial_of, normal, rest_trees, root_ids, root_kind, same_normal, sum_kind, tree_at, value_of, Polynomial}
 use Rattle.expand_forms.proofs.Shared.{next_child, last_child, zero_value, taken_all}
 use Rattle.expand_forms.proofs.{NotedPowers.{AreUpTo, IsNextPower, IsOnly, all_coefficients, among_one, last_coefficient, next_above, next_up_to, none_above, none_up_to, only_above, only_term, only_up_to, power_at}}
 use Rattle.expand_forms.proofs.{ReadTerms.{count_is}, TermReadings.{sum_terms_in}, powers.powers_of.Goals.{in-Add, in_default, In-Some, Then-not-matches}}
