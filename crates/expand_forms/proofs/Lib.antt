@@ -35,3 +35,4 @@ pub mod PackedTerms
 pub mod ReadTerms
 pub mod PlacedTerms
 pub mod ValueNodes
+pub mod NotedPowers

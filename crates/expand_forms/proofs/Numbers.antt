@@ -1,5 +1,7 @@
 -- Rationals as literals.
 use Rattle.expand_forms.proofs.Shared.{value_by, opposite_by, clash, arith, ◌≡◌, ℤ, Bool, true, false, ◌↔◌, IsTrue, Some, false_from_ne_true, opposite}
+use Rattle.expand_forms.proofs.Shared.{ap, sym, ◌∙◌, pos, to_z, of_z, w128, told, whole_numerator, IsRat, IsRead, Factor}
+use Rattle.expand_forms.specs.declared.factors.Factor.{Factor as Read}
 use Rattle.expand_forms.proofs.Shared.{whole_value, Rat, Fraction, negative, ratio_of, value_of, ratio_parts, negative_parts, is_small}
 
 -- a rational that is whole is small where its numerator is
@@ -12,4 +14,9 @@ small_none r b h f = grind (arith, value_by, false_from_ne_true, clash, ratio_pa
 pub opposite_whole : (q : Fraction) → whole_value (negative q) ≡ opposite (whole_value q)
 opposite_whole q = grind (arith, negative_parts, opposite_by)
 
--- ---- bits of an integer
+-- ---- the exponent of a factor, as its numerator
+
+pub exponent_read : (z : ℤ) (x : Read) (f : Factor) → IsRead x f → z ≡ (ratio_of x.exponent).num → IsRat (ratio_of x.exponent) → to_z w128 (of_z w128 z) ≡ pos f.exponent
+exponent_read z x f r e is =
+    ap (λ (y : ℤ). to_z w128 (of_z w128 y)) e ∙ told (ratio_of x.exponent).num (omega (arith, is.num_fits)) ∙ sym (ratio_parts x.exponent).num
+    ∙ ap (λ (q : Fraction). q.num) r.exponent ∙ whole_numerator (pos f.exponent)

@@ -8,3 +8,4 @@ pub mod PowersOfSums
 pub mod Listed
 pub mod ByValues
 pub mod Parts
+pub mod Powers

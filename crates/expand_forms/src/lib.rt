@@ -16,6 +16,7 @@ mod packing;
 mod parts;
 mod placing;
 mod polynomial;
+mod powers;
 mod powers_of_sums;
 mod products;
 mod reading;
@@ -28,4 +29,5 @@ mod walking;
 
 pub use expansion::expand;
 pub use polynomial::is_polynomial;
+pub use powers::{POWERS, powers_of};
 pub use term_lists::TermLists;

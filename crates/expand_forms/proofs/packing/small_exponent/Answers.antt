@@ -1,12 +1,5 @@
-use Rattle.expand_forms.proofs.Shared.{ap, sym, ◌∙◌, ℤ, nat_abs, ◌≡◌, pos, arith, to_z, of_z, ints, w128, told, ratio_of, ratio_parts, whole_numerator, IsRat, IsRead, Factor, Fraction}
-use Rattle.expand_forms.specs.declared.factors.Factor.{Factor as Read}
+use Rattle.expand_forms.proofs.{Shared.{ap, ◌≡◌, nat_abs, pos, arith, to_z, of_z, ints, w128}, Numbers.{exponent_read}}
 use Rattle.expand_forms.proofs.packing.small_exponent.Goals as goal
-
--- a numerator
-exponent_read : (z : ℤ) (x : Read) (f : Factor) → IsRead x f → z ≡ (ratio_of x.exponent).num → IsRat (ratio_of x.exponent) → to_z w128 (of_z w128 z) ≡ pos f.exponent
-exponent_read z x f r e is =
-    ap (λ (y : ℤ). to_z w128 (of_z w128 y)) e ∙ told (ratio_of x.exponent).num (omega (arith, is.num_fits)) ∙ sym (ratio_parts x.exponent).num
-    ∙ ap (λ (q : Fraction). q.num) r.exponent ∙ whole_numerator (pos f.exponent)
 
 pub overflow_cast-result : goal.overflow_cast-result
 overflow_cast-result c =
