@@ -1,4 +1,5 @@
 -- Lemmas on command lines that calculate.
+use Rattle.calc_commands.specs.Commands.{asks_roots, roots}
 use Rattle.std.proofs.Common.{◌≤◌, List, ℕ, ◌++◌, length, length-append, Option, arith}
 use Rattle.calc_session.proofs.Shared.{HasText, IsCommandLine, asks_decimals, asks_diff, asks_solve, asks_expand, asks_sign, decimals, diff, most_places, sign, solve, expand, Full, CountsRefusal, IsCountedBut, Seen, Counts, pool_of}
 
@@ -8,6 +9,9 @@ within {line} {word} {text} h = grind (arith, length-append)
 
 pub text_within : {line x text : List ℕ} → IsCommandLine line (diff x text) → length text ≤ length line
 text_within (asks_diff {name = name} {gap = gap} {text = text} h n b) = let all = within h in let a = length-append gap text in let c = length-append name (gap ++ text) in omega (arith, all, a, c)
+
+pub rooted_within : {line x text : List ℕ} → IsCommandLine line (roots x text) → length text ≤ length line
+rooted_within (asks_roots {name = name} {gap = gap} {text = text} h n b) = let all = within h in let a = length-append gap text in let c = length-append name (gap ++ text) in omega (arith, all, a, c)
 
 pub equations_within : {line text : List ℕ} → IsCommandLine line (solve text) → length text ≤ length line
 equations_within (asks_solve h) = within h

@@ -1,7 +1,7 @@
 -- Lemmas on what the derivative of a tree comes to.
 use Rattle.std.proofs.Common.{◌≡◌, ℕ, ◌+◌, ◌≤◌, ◌<◌, List, [], ◌∷◌, Option, None, subst, arith}
-use Rattle.calc_session.proofs.Shared.{IsWritable, Tree, size, HasDerivative, derivative, free_of, Forest, tree_of, Gives, IsHanded, KeepsFront, without_root, Stands, forest, behind_first, behind_new}
-use Rattle.calc_session.proofs.Shared.{front_after_one, front_at, front_end, front_same, front_without, given_rest, given_told, ends_at, ends_without, Evaluation, ComesTo, IsDisplayOf}
+use Rattle.calc_session.proofs.Shared.{IsWritable, Tree, size, HasDerivative, derivative, free_of, Forest, tree_of, Gives, KeepsFront, without_root, Stands, forest, behind_first, behind_new}
+use Rattle.calc_session.proofs.Shared.{front_after_one, front_at, front_end, front_same, front_without, given_rest, given_told, Evaluation, ComesTo, IsDisplayOf}
 use Rattle.calc_session.proofs.{Shared.{IsReplyToDerivative, IsReduction, reported}, EvaluationLemmas.{comes_as, free_same}}
 use Rattle.breakers.specs.State.{State as Breaker}
 use Rattle.node_pool.specs.State.{State}

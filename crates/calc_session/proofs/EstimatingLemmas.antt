@@ -1,8 +1,8 @@
 -- Lemmas on decimals and signs of trees.
-use Rattle.std.proofs.Common.{◌≡◌, ◌↔◌, ℕ, List, Option, Some, None, Result, Ok, Err, Bool, true, false, ◌⊎◌, inl, inr, sym, ap, subst, refl}
+use Rattle.std.proofs.Common.{◌≡◌, ◌↔◌, ℕ, List, Option, None, Result, Err, Bool, true, false, ◌⊎◌, inl, inr, sym, ap, subst, refl}
 use Rattle.std.specs.Prelude.{IsSome}
-use Rattle.calc_session.proofs.Shared.{Refusal, Evaluation, Face, Found, Refused, Undefined, Handle, Tree, IsReplyToMade, IsReduction, IsReplyToTree, IsReplyWith, Reply, State, report}
-use Rattle.calc_session.proofs.Shared.{has_no_value, holds_its_name, is_answered, is_made, is_not_made, is_shown, is_stored, lacks_bytes, refused, undefined, reported, IsWritable, Forest, ComesTo, reply_of, reason_of, refusal_of_evaluation}
+use Rattle.calc_session.proofs.Shared.{Refusal, Evaluation, Face, Found, Refused, Undefined, Tree, IsReduction, IsReplyToTree, IsReplyWith, Reply, State, report}
+use Rattle.calc_session.proofs.Shared.{has_no_value, holds_its_name, is_answered, is_made, is_not_made, is_shown, is_stored, lacks_bytes, refused, reported, IsWritable, Forest, ComesTo, reply_of, reason_of}
 use Rattle.breakers.specs.State.{State as Breaker}
 use Rattle.calc_session.specs.{Estimating.{IsReplyOnNumber, is_no_number, is_not_reduced}, Lacking.{IsReducedToNone, LacksNumber}, Replies.{no_decimal}}
 use Rattle.calc_session.specs.Estimating as estimating

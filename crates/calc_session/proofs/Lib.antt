@@ -18,6 +18,10 @@ pub mod FormLemmas
 pub mod PlacingLemmas
 pub mod FormFaces
 pub mod SolutionLemmas
+pub mod RootFaces
+pub mod RootLemmas
+pub mod OnlyNames
+pub mod RootingLemmas
 pub mod SolutionMeanings
 pub mod SolvingLemmas
 pub mod SideLemmas

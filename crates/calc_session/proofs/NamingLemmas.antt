@@ -1,5 +1,5 @@
 -- What is stored, in lines that store it again.
-use Rattle.std.proofs.Common.{◌≡◌, ◌∙◌, ◌≤◌, ◌<◌, ◌+◌, ◌*◌, ◌++◌, ◌∷◌, [], ℕ, zero, suc, List, Some, true, length, take, map, get_or, slice_get, refl, sym, ap, subst, arith, cond, codes}
+use Rattle.std.proofs.Common.{◌≡◌, ◌∙◌, ◌≤◌, ◌<◌, ◌+◌, ◌*◌, ◌++◌, ◌∷◌, [], ℕ, zero, suc, List, Some, true, length, take, get_or, slice_get, refl, sym, ap, subst, arith, cond, codes}
 use Rattle.std.proofs.lemmas.List.{length-append, length-map, take_all}
 use Rattle.calc_commands.proofs.HelpLines.{three, told_line}
 use Rattle.calc_commands.specs.Words.{newline_before, with_newlines}

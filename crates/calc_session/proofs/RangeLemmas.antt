@@ -1,8 +1,7 @@
 -- Lemmas on equations by where they stand in a text, from left to right.
 use Rattle.std.proofs.{Common.{◌≡◌, ◌∙◌, ℕ, zero, suc, ◌+◌, ◌<◌, List, [], ◌∷◌, ◌++◌, length, get_or, map, take, drop, refl, sym, ap, subst, arith}, lemmas.Grind.{take_at_read}}
 use Rattle.std.proofs.lemmas.List.{map-append}
-use Rattle.calc_session.proofs.Shared.{AllZip, Equation, EquationRange, Pieces, AreSplit, pieces_at, Reason, refused, IsNoEquation, IsReplyToEquations, ReadsEquation, are_not_read, State}
-use Rattle.breakers.specs.State.{State as Breaker}
+use Rattle.calc_session.proofs.Shared.{AllZip, Equation, EquationRange, Pieces, pieces_at, Reason, IsNoEquation, ReadsEquation}
 use Rattle.calc_session.specs.Solving.{later as later_unread}
 
 module _ (n : ℕ) (text : List ℕ) where

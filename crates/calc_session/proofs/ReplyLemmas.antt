@@ -1,6 +1,6 @@
 -- Lemmas on replies and what the code answers for them.
-use Rattle.std.proofs.Common.{arith, ◌≡◌, ℕ, List, ◌++◌, append_assoc, ap}
-use Rattle.calc_session.proofs.Shared.{signed_decimal, ratio_of, value_of, Rat, Content, extended, parts_themselves, denominator_text, operand_text}
+use Rattle.std.proofs.Common.{arith, ◌≡◌, ◌++◌}
+use Rattle.calc_session.proofs.Shared.{signed_decimal, ratio_of, value_of, Rat, parts_themselves, denominator_text, operand_text}
 
 -- ---- the text of a rational
 

@@ -22,7 +22,7 @@ pub use Rattle.calc_session.specs.{Arguments.{forms_a_store, forms_no_line, is_m
 pub use Rattle.calc_session.specs.{Asking.{is_nothing, is_text}, Calculating.{ExpressionBecomes, IsReplyToExpression, is_no_expression, is_read, made_in}, Commanding.{IsReplyToArming}}
 pub use Rattle.calc_session.specs.Commanding.{IsReplyToCommand, IsTold, arms_a_breaker, finds_no_breaker, forgets, is_to_be_drawn, keeps_ans, knows_no_name, layout_reply, refuses, tells}
 pub use Rattle.calc_session.specs.{Counting.{AsksForTooMuch, IsCountedBut, IsKnownOf, LacksBytesFor}, Deriving.{IsReplyToDerivative, LacksDerivative, has_none}, Drawing.{IsDrawn, IsDrawnInPart}}
-pub use Rattle.calc_session.specs.{Drawing.{first_rows, lack_in, row_text, rows_text, serial_in, told_at}, Evaluations.{HasFittingRationals, IsAnswerTo, IsFitting, IsReduction, IsReplyWith}}
+pub use Rattle.calc_session.specs.{Drawing.{first_rows, lack_in, row_text, rows_text, line_in, serial_in, told_at, told_by}, Evaluations.{HasFittingRationals, IsAnswerTo, IsFitting, IsReduction, IsReplyWith}}
 pub use Rattle.calc_session.specs.Evaluations.{OverflowsAt, Unmade, has_no_value, holds_its_name, is_answered, is_made, is_not_made, is_shown, is_stored, lacks_bytes, made}
 pub use Rattle.calc_session.specs.{Expanding.{IsReplyToExpansion, LacksExpansionRoom, is_expanded, is_no_polynomial}, Forms.{IsLast, IsPlaced, IsSmall, IsSmallForm, form_room}}
 pub use Rattle.calc_session.specs.{Kept.{IsKept, IsReady, seen_of, state_in}, Pools.{IsRolledBack, after}, Reading.{IsUnstorable, ReadsAs, ReadsTree, finds_names_full, is_ans}, Replies.{Reason}}

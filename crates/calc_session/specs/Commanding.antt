@@ -1,11 +1,11 @@
 -- The replies to commands, by cases on what is asked for.
 use Rattle.std.specs.{Prelude.{ℕ, ◌≡◌, List, Option, true, false, Result, Ok, Err, codes}, List.{list_any}, Str.{bytes_eq}}
 use Rattle.breakers.specs.{Breakers.{armed_first}, State.{State as Breaker}}
-use Rattle.calc_commands.specs.{Commands.{Asked, pool, dump, draw, layout, forget, after as arm, diff, solve, expand, decimals, sign, help, explain, list_names}, Reports.{pool_report, dump_of, unknown_report, after_report}, Words.{help_report, word_report}}
+use Rattle.calc_commands.specs.{Commands.{Asked, pool, dump, draw, layout, latex, forget, after as arm, diff, solve, roots, expand, decimals, sign, help, explain, list_names}, Reports.{pool_report, dump_of, unknown_report, after_report}, Words.{help_report, word_report}}
 use Rattle.calc_terms.specs.Trees.{Tree}
 use Rattle.name_table.specs.Tables.{is_stored}
 use Rattle.node_pool.specs.{declared.full.Full.{Full}, State.{State as PoolState}}
-use Rattle.calc_session.specs.{Arguments.{bytes_before}, Calculating.{IsReplyToExpression}, Deriving.{IsReplyToDerivative}, Drawing.{serial_in}, Estimating.{IsReplyToDecimal, IsReplyToSign}, Expanding.{IsReplyToExpansion}, Naming.{names_report}, Replies.{Reason}}
+use Rattle.calc_session.specs.{Arguments.{bytes_before}, Calculating.{IsReplyToExpression}, Deriving.{IsReplyToDerivative}, Drawing.{latex_in, serial_in}, Estimating.{IsReplyToDecimal, IsReplyToSign}, Expanding.{IsReplyToExpansion}, Naming.{names_report}, Replies.{Reason}, Rooting.{IsReplyToRooting}}
 use Rattle.calc_session.specs.{Replies.{Reply, report, forgot, drawn, refused, reserved, full}, Solving.{IsReplyToEquations}, States.{State, free_bytes}}
 
 -- a pool with the session's nodes, before it refused anything
@@ -33,10 +33,12 @@ IsTold room bits old before after line pool reply = (reply ≡ report (pool_repo
 IsTold room bits old before after line dump reply = (reply ≡ report (dump_of (pool_in old))) × (after ≡ before)
 IsTold room bits old before after line draw reply = ⊥
 IsTold room bits old before after line layout reply = (reply ≡ layout_reply (serial_in old)) × (after ≡ before)
+IsTold room bits old before after line latex reply = (reply ≡ layout_reply (latex_in old)) × (after ≡ before)
 IsTold room bits old before after line (forget x) reply = IsReplyToForgetting old x reply × (after ≡ before)
 IsTold room bits old before after line (arm checks) reply = IsReplyToArming checks before after reply
 IsTold room bits old before after line (diff x text) reply = IsReplyToExpression old before after (bytes_before line text) text (IsReplyToDerivative room bits (free_bytes old) before after x) reply
 IsTold room bits old before after line (solve text) reply = IsReplyToEquations old before after (bytes_before line text) text reply
+IsTold room bits old before after line (roots x text) reply = IsReplyToRooting old before after (bytes_before line text) x text reply
 IsTold room bits old before after line (expand text) reply = IsReplyToExpression old before after (bytes_before line text) text (IsReplyToExpansion (free_bytes old) before after) reply
 IsTold room bits old before after line help reply = (reply ≡ report help_report) × (after ≡ before)
 IsTold room bits old before after line list_names reply = (reply ≡ report (names_report old)) × (after ≡ before)

@@ -3,9 +3,10 @@ use Rattle.std.specs.{Prelude.{ℕ, zero, suc, ◌≡◌, List, [], ◌∷◌, �
 use Rattle.calc_edges.specs.{Faults.{StopsAtFailure}, declared.failures.Failures.{Failures}, Taken.{AppendsPart}}
 use Rattle.calc_terms.specs.Trees.{Tree}
 use Rattle.node_pool.specs.{declared.full.Full.{Full}, State.{State as PoolState, free_of}}
-use Rattle.pool_layouts.specs.{Building.{laying}, Layouts.{Layout, layout}, Pictures.{Block, cut, height, picture}, Serial.{serial}}
+use Rattle.pool_layouts.specs.{Building.{laying}, Layouts.{Layout, layout}, Pictures.{Block, cut, height, picture}, Serial.{serial}, Latex.{latex}}
 use Rattle.tree_handles.specs.{Expressions.{plain}, Inside.{tree_at}, Standing.{forest}}
 use Rattle.calc_session.specs.declared.answers.DrawFault.{DrawFault}
+use Rattle.calc_session.specs.{declared.drawing.Notation.{Notation}, declared.drawing.Notation.TheVariants.{Serial, Latex}}
 use Rattle.calc_session.specs.declared.answers.DrawFault.TheVariants as fault
 use Rattle.calc_session.specs.States.{State, free_bytes, trees}
 
@@ -42,9 +43,22 @@ told_of_answer told s = told_of_layout told (free_bytes s) (plain (tree_at s.tab
 abbrev pub rows_in : State → Result (List ℕ) Full
 rows_in s = told_of_answer rows_text s
 
+-- what is told of a layout in one line
+abbrev pub told_by : Notation → Layout → List ℕ
+told_by Serial = serial
+told_by Latex = latex
+
+-- the text of its layout, as it is told so
+abbrev pub line_in : Notation → State → Result (List ℕ) Full
+line_in notation s = told_of_answer (told_by notation) s
+
 -- the serial text of its layout
 abbrev pub serial_in : State → Result (List ℕ) Full
 serial_in s = told_of_answer serial s
+
+-- and its LaTeX text
+abbrev pub latex_in : State → Result (List ℕ) Full
+latex_in s = told_of_answer latex s
 
 -- the refusal, where there is one
 abbrev pub lack_in : Result (List ℕ) Full → Option Full

@@ -12,6 +12,7 @@ pub mod SolutionTexts
 pub mod Forms
 pub mod Solving
 pub mod Solved
+pub mod RootTexts
 pub mod Rooting
 pub mod Rooted
 pub mod SolutionsMeant

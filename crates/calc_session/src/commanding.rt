@@ -12,11 +12,11 @@ ghost use Rattle.tree_handles.specs.Standing.{Stands, forest};
 ghost use Rattle.calc_session.specs.Answers.{AnswersBy, AnswersUntold, CountsRefusal, TellsAs, refusal_of_pool};
 ghost use Rattle.calc_session.specs.Commanding.{IsReplyToArming, IsReplyToCommand, layout_reply};
 ghost use Rattle.calc_session.specs.Counting.{AsksForTooMuch, IsCountedBut, LacksBytesFor};
-ghost use Rattle.calc_session.specs.Drawing.{serial_in};
+ghost use Rattle.calc_session.specs.Drawing.{line_in};
 ghost use Rattle.calc_session.specs.Kept.{IsKept, state_in};
 
 use crate::differentiating::Derivative;
-use crate::drawing::write_layout;
+use crate::drawing::{Notation, write_layout};
 use crate::estimating::{DecimalPlaces, NumberSign};
 use crate::evaluating::refused;
 use crate::expanding::Expansion;
@@ -93,11 +93,13 @@ impl Parts {
                 LineAnswer::Report
             }
             Command::Draw => LineAnswer::Draw,
-            Command::Layout => self.tell_layout(),
+            Command::Layout => self.tell_layout(Notation::Serial),
+            Command::Latex => self.tell_layout(Notation::Latex),
             Command::Diff(name, expression) => {
                 self.calculate(&Derivative { name, reducer }, line, expression, watch)
             }
             Command::Solve(equations) => self.solve(line, equations, watch),
+            Command::Roots(name, equation) => self.tell_roots(name, line, equation, watch),
             Command::Expand(expression) => self.calculate(&Expansion, line, expression, watch),
             Command::Help => {
                 write_help(&mut self.text);
@@ -141,12 +143,12 @@ impl Parts {
         LineAnswer::Report
     }
 
-    /// Tells the serial text of the layout of the last answer.
+    /// Tells the layout of the last answer in one line.
     #[inline(never)]
-    fn tell_layout(&mut self) -> LineAnswer
+    fn tell_layout(&mut self, notation: Notation) -> LineAnswer
         requires kept { IsKept self.old }
         requires empty { self.old.text.bytes ≡ [] }
-        ensures told { TellsAs (λ reply. reply ≡ layout_reply (serial_in (state_in self.old))) result self.new.text.bytes }
+        ensures told { TellsAs (λ reply. reply ≡ layout_reply (line_in notation (state_in self.old))) result self.new.text.bytes }
         ensures no_interruption { (place : ℕ) → result ≡ LineAnswer.Refused (Refusal.Interrupted place) → ⊥ }
         ensures counted { CountsRefusal (refusal_of_pool result) self.old.work.pool self.new.work.pool }
         ensures same { state_in self.new ≡ state_in self.old }
@@ -156,6 +158,7 @@ impl Parts {
         match write_layout(
             &mut self.work.pool,
             answer,
+            notation,
             &mut self.drafter,
             &mut self.text,
         ) {

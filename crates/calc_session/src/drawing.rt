@@ -4,12 +4,12 @@ ghost use Rattle.std.specs.Io.KnownBytes.{Appends};
 ghost use Rattle.calc_edges.specs.Faults.{HasCause, IsCalm, StopsAtFailure};
 ghost use Rattle.calc_edges.specs.Taken.{AppendsPart};
 ghost use Rattle.pool_layouts.specs.Drawings.{IsLayout, drawing};
-ghost use Rattle.pool_layouts.specs.Serial.{serial};
+ghost use Rattle.line_text.specs.Content.{extended, spare_of};
 ghost use Rattle.tree_handles.specs.Expressions.{IsExpression};
 ghost use Rattle.tree_handles.specs.Forest.{bytes_in};
 ghost use Rattle.tree_handles.specs.Inside.{tree_at};
 ghost use Rattle.tree_handles.specs.Standing.{Stands, forest};
-ghost use Rattle.calc_session.specs.Drawing.{FailsToDraw, IsDrawn, StopsDrawing, lack_in, rows_text, told_at};
+ghost use Rattle.calc_session.specs.Drawing.{told_by, FailsToDraw, IsDrawn, StopsDrawing, lack_in, rows_text, told_at};
 ghost use Rattle.calc_session.specs.Pools.{IsRolledBack};
 
 use crate::DrawFault;
@@ -17,7 +17,7 @@ use calc_edges::{Failed, Sink, write_all};
 use line_text::Text;
 use node_pool::{Full, Id, Pool};
 use pool_checkpoints::{open_mark, roll_back};
-use pool_layouts::{Drafter, layout_of, rows, write_row, write_serial};
+use pool_layouts::{Drafter, layout_of, rows, write_latex, write_row, write_serial};
 
 /// Writes the rows of the picture of a tree.
 #[inline(never)]
@@ -89,10 +89,20 @@ fn write_rows<K: Sink>(
     Ok(())
 }
 
-/// Writes the serial text of the layout of a tree.
+/// How a layout is told in one line.
+#[derive(Clone, Copy)]
+pub enum Notation {
+    /// Its serial text.
+    Serial,
+    /// Its LaTeX text.
+    Latex,
+}
+
+/// Writes the layout of a tree in one line.
 pub fn write_layout(
     pool: &mut Pool,
     answer: Id,
+    notation: Notation,
     drafter: &mut Drafter,
     text: &mut Text,
 ) -> Result<(), Full>
@@ -101,10 +111,10 @@ pub fn write_layout(
     requires empty { text.old.bytes ≡ [] }
     requires room { 2 * pool.old.size ≤ text.old.capacity }
     requires served { pool.old.size ≤ drafter.old.pool_size }
-    ensures told { OnOk result (told_at serial answer pool.old ≡ Ok text.new.bytes) }
-    ensures full { IfErr result (λ full. told_at serial answer pool.old ≡ Err full) }
+    ensures told { OnOk result (told_at (told_by notation) answer pool.old ≡ Ok text.new.bytes) }
+    ensures full { IfErr result (λ full. told_at (told_by notation) answer pool.old ≡ Err full) }
     ensures untold { OnErr result (text.new.bytes ≡ []) }
-    ensures undone { IsRolledBack (lack_in (told_at serial answer pool.old)) pool.old pool.new }
+    ensures undone { IsRolledBack (lack_in (told_at (told_by notation) answer pool.old)) pool.old pool.new }
     ensures capacity { text.new.capacity ≡ text.old.capacity }
     ensures served { drafter.new.pool_size ≡ drafter.old.pool_size }
     ensures stands { Stands pool.new }
@@ -112,7 +122,7 @@ pub fn write_layout(
     let mark = open_mark(pool);
     match layout_of(pool, answer, drafter) {
         Ok(layout) => {
-            write_serial(pool, layout.id(), text);
+            write_in(pool, layout.id(), notation, drafter, text);
             roll_back(pool, mark);
             Ok(())
         }
@@ -120,5 +130,20 @@ pub fn write_layout(
             roll_back(pool, mark);
             Err(full)
         }
+    }
+}
+
+/// Appends the text of a layout.
+fn write_in(pool: &Pool, layout: Id, notation: Notation, drafter: &mut Drafter, text: &mut Text)
+    requires stands { Stands pool.now }
+    requires layout { IsLayout layout (forest pool.now) }
+    requires room { 2 * bytes_in (tree_at layout (forest pool.now)) ≤ spare_of text.old }
+    requires served { pool.now.size ≤ drafter.old.pool_size }
+    ensures written { text.new ≡ extended text.old (told_by notation (drawing (tree_at layout (forest pool.now)))) }
+    ensures served { drafter.new.pool_size ≡ drafter.old.pool_size }
+{
+    match notation {
+        Notation::Serial => write_serial(pool, layout, text),
+        Notation::Latex => write_latex(pool, layout, drafter, text),
     }
 }

@@ -15,6 +15,7 @@ mod laws;
 mod naming;
 mod parts;
 mod reading;
+mod root_text;
 mod rooting;
 mod session;
 mod solution_text;

@@ -1,4 +1,4 @@
-use Rattle.std.proofs.Common.{◌≡◌, ◌≤◌, ◌∙◌, true, false, refl, sym, ap, arith}
+use Rattle.std.proofs.Common.{◌≡◌, ◌≤◌, ◌∙◌, true, refl, sym, ap, arith}
 use Rattle.calc_session.proofs.Shared.{err_from_is_err_and, front_after, refuses_after, is_one_fraction, name_of, named, rational, size_of_payload, ratio_of, value_of, num, symbol, mult, none, more, size, AddsAll, added_begin, added_few, adds_free}
 use Rattle.calc_session.proofs.{Shared.{free_of, multiple_of}, PlacingLemmas.{adds_by, adds_node, adds_placed, adds_two, front_of_all, front_node, not_once, not_one_den, once, tests_one}}
 use Rattle.calc_session.proofs.{PlacingLemmas.{tests_other}, forms.place_multiple.Goals.{After-number, else-num-eq1-via-then-num-eq1+else-is_whole, else-num-eq1-via-else-num-eq1}}

@@ -1,4 +1,4 @@
-use Rattle.std.proofs.Common.{◌≤◌, ◌≡◌, List, ℕ, length, sym, ap, subst, arith}
+use Rattle.std.proofs.Common.{◌≤◌, ◌≡◌, List, ℕ, length, ap, subst, arith}
 use Rattle.std.proofs.lemmas.List.{length-append}
 use Rattle.calc_language.specs.{Texts.{text}, Tokens.{arrow_sign}}
 use Rattle.calc_session.proofs.NamingLemmas.{line_short, line_written, root_bytes, root_expression, root_short, root_writable}

@@ -1,14 +1,13 @@
-use Rattle.std.proofs.Common.{◌≡◌, ◌∙◌, ◌+◌, ◌^◌, refl, sym, ap, subst}
+use Rattle.std.proofs.Common.{◌≡◌, ◌∙◌, ◌+◌, refl, ap, subst}
 use Rattle.calc_terms.specs.Trees.{is_num}
 use Rattle.calc_algebra.specs.Numbers.{value}
 use Rattle.calc_session.proofs.Shared.{states, size, free_of, tree_of, plain, tree_at, forest, without_root, given_handed, given_told, is_number, expression, seen}
 use Rattle.calc_session.proofs.EstimatingLemmas.{comes_to_none, no_rational}
-use Rattle.decimals.specs.declared.decimal.Decimal.{Decimal}
 use Rattle.decimals.specs.declared.sign.Sign.{Sign}
-use Rattle.decimals.specs.{Decimals.{IsDecimalOf, decimal_value}, Signs.{IsSignOf}}
-use Rattle.enclosures.specs.Rounding.{IsClose, IsNear}
+use Rattle.decimals.specs.{Signs.{IsSignOf}}
+use Rattle.enclosures.specs.Rounding.{IsNear}
 use Rattle.calc_terms.specs.Fractions.{zero_fraction}
-use Rattle.calc_session.specs.Estimating.{LeavesDecimalOpen, LeavesSignOpen, TellsDecimal, TellsSign, is_open, is_told}
+use Rattle.calc_session.specs.Estimating.{LeavesSignOpen, TellsSign, is_open, is_told}
 use Rattle.calc_session.proofs.estimating.NumberSignCalculation.run.Goals.{After-id}
 use Rattle.calc_session.proofs.estimating.NumberSignCalculation.run.Goals as goal
 

@@ -1,8 +1,9 @@
 use Rattle.calc_session.proofs.Shared.{◌≡◌, ◌∙◌, inl, refl, ap, subst, arith, states, IsCommandLine, pool, dump, layout, decimals, diff, sign, solve, expand, asked_of, pool_report, dump_of, name_of, Content, CountsRefusal}
-use Rattle.calc_session.proofs.Shared.{refusal_of_pool, IsTold, is_to_be_drawn, layout_reply, serial_in, drawn, report, state_in, Command}
-use Rattle.calc_session.proofs.{CalculatingLemmas.{equations_within, expression_within, places_within, rounded_within, signed_within, text_within}, CommandLemmas.{calm_told, written}, CountingLemmas.{counted_as, none_known}}
+use Rattle.calc_session.proofs.Shared.{refusal_of_pool, IsTold, is_to_be_drawn, layout_reply, line_in, drawn, report, state_in, Command}
+use Rattle.calc_session.proofs.{CalculatingLemmas.{equations_within, expression_within, rooted_within, rounded_within, signed_within, text_within}, CommandLemmas.{calm_told, written}, CountingLemmas.{counted_as, none_known}}
 use Rattle.calc_session.proofs.{EvaluationLemmas.{none_rose}, TellingLemmas.{tells_as, told_command}}
-use Rattle.calc_commands.specs.{Commands.{after as arms, explain, help, list_names}, Words.{help_report, word_report}}
+use Rattle.calc_commands.specs.{Commands.{after as arms, latex, roots, explain, help, list_names}, Words.{help_report, word_report}}
+use Rattle.calc_session.specs.declared.drawing.Notation.TheVariants.{Serial, Latex}
 use Rattle.calc_session.specs.declared.answers.LineAnswer.TheVariants as answer
 use Rattle.calc_session.proofs.parts.Parts.perform.Goals as goal
 
@@ -71,9 +72,24 @@ returns-in-Layout g c =
     let is_told = IsTold g.R.Reducer.room g.R.Reducer.bits s before before c.args.line.now layout in
     record {
       answers = rw (c.in-Layout.is) (told_command g.R.Reducer.room g.R.Reducer.bits s (state_in c.tell_layout.new.self) before before c.args.line.now layout c.tell_layout.result text told.same
-          (tells_as (λ reply. reply ≡ layout_reply (serial_in s)) is_told c.tell_layout.result text (λ r e. (e, refl)) told.told));
+          (tells_as (λ reply. reply ≡ layout_reply (line_in Serial s)) is_told c.tell_layout.result text (λ r e. (e, refl)) told.told));
       interrupted = calm_told c.tell_layout.result before before told.no_interruption (none_rose before);
       counted = rw (c.in-Layout.is) (inl (none_known (refusal_of_pool c.tell_layout.result) (λ lack k. k), told.counted));
+      kept = told.kept;
+    }
+
+pub returns-in-Latex : goal.returns-in-Latex
+returns-in-Latex g c =
+    let before = states g.B.Breaker.state c.args.watch.now in
+    let s = state_in c.args.self.now in
+    let told = c.tell_layout-in-Latex.ensures in
+    let text = c.tell_layout-in-Latex.new.self.text.bytes in
+    let is_told = IsTold g.R.Reducer.room g.R.Reducer.bits s before before c.args.line.now latex in
+    record {
+      answers = rw (c.in-Latex.is) (told_command g.R.Reducer.room g.R.Reducer.bits s (state_in c.tell_layout-in-Latex.new.self) before before c.args.line.now latex c.tell_layout-in-Latex.result text told.same
+          (tells_as (λ reply. reply ≡ layout_reply (line_in Latex s)) is_told c.tell_layout-in-Latex.result text (λ r e. (e, refl)) told.told));
+      interrupted = calm_told c.tell_layout-in-Latex.result before before told.no_interruption (none_rose before);
+      counted = rw (c.in-Latex.is) (inl (none_known (refusal_of_pool c.tell_layout-in-Latex.result) (λ lack k. k), told.counted));
       kept = told.kept;
     }
 
@@ -108,6 +124,23 @@ returns-in-Solve g c =
       answers = rw (c.in-Solve.is) (told_command g.R.Reducer.room g.R.Reducer.bits s (state_in c.solve.new.self) before after c.args.line.now (solve c.in-Solve.equations.now) c.solve.result text told.same told.told);
       interrupted = told.interrupted;
       counted = rw (c.in-Solve.is) (inl (none_known (refusal_of_pool c.solve.result) (λ lack k. k), told.counted));
+      kept = told.kept;
+    }
+
+pub tell_roots-requires-clause-behind : goal.tell_roots-requires-clause-behind
+tell_roots-requires-clause-behind g c = rooted_within (subst (λ (k : Command). IsCommandLine c.args.line.now (asked_of k)) c.in-Roots.is c.requires.asked)
+
+pub returns-in-Roots : goal.returns-in-Roots
+returns-in-Roots g c =
+    let before = states g.B.Breaker.state c.args.watch.now in
+    let after = states g.B.Breaker.state c.tell_roots.new.watch in
+    let s = state_in c.args.self.now in
+    let told = c.tell_roots.ensures in
+    let text = c.tell_roots.new.self.text.bytes in
+    record {
+      answers = rw (c.in-Roots.is) (told_command g.R.Reducer.room g.R.Reducer.bits s (state_in c.tell_roots.new.self) before after c.args.line.now (roots (name_of c.in-Roots.name) c.in-Roots.equation.now) c.tell_roots.result text told.same told.told);
+      interrupted = told.interrupted;
+      counted = rw (c.in-Roots.is) (inl (none_known (refusal_of_pool c.tell_roots.result) (λ lack k. k), told.counted));
       kept = told.kept;
     }
 
