@@ -132,7 +132,7 @@ def check_example(folder):
     words = ["-m", "nbconvert", "--execute", str(EXAMPLE), "--output-dir", folder]
     held = [called(*words, "--to", "notebook", "--output", "again.ipynb"), called(*words, "--to", "html", "--output", "page.html")]
     shown, page = shown_by(f"{folder}/again.ipynb"), Path(folder, "page.html").read_text()
-    return all(held) and shown == shown_by(EXAMPLE) and any(shown) and all(it in page for it in ("2+√(5)", "! overflow 2^127", "a=2,b=1"))
+    return all(held) and shown == shown_by(EXAMPLE) and any(shown) and all(it in page for it in (r"2+\sqrt{5}", "! overflow 2^127", "a=2,b=1"))
 
 
 def main():
