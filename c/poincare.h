@@ -98,12 +98,13 @@ enum {
     POINCARE_INTERRUPTED = 110,    /* a stopper or a count interrupted it */
     POINCARE_CIRCULAR = 111,       /* what is to be stored holds its own name */
     POINCARE_COMMAND = 112,        /* it begins like a command and is none */
-    POINCARE_NOT_POLYNOMIAL = 114, /* `:expand` is asked of what is no polynomial */
+    POINCARE_NOT_POLYNOMIAL = 114, /* `:expand` or `:roots` is asked of what is no polynomial */
     POINCARE_NO_DERIVATIVE = 115,  /* `:diff` is asked of a power that it does not derive */
     POINCARE_NOT_LINEAR = 116,     /* `:solve` is asked of an equation that is not linear */
-    POINCARE_TOO_MANY = 117,       /* `:solve` is asked of over six equations, or of over six names */
+    POINCARE_TOO_MANY = 117,       /* `:solve` is asked of over six equations or names, or `:roots` of a second name */
     POINCARE_NO_DECIMAL = 118,     /* `:decimal` or `:sign` is asked of what is no Number */
     POINCARE_UNDECIDED = 119,      /* 896 binary places do not tell the decimal or the sign */
+    POINCARE_DEGREE = 120,         /* `:roots` meets a degree above 32, or 3 or more after rational roots */
 
     /* Of poincare_text, poincare_draw and poincare_answers: there are more bytes than there is room for. The front that
      * fits is written, and count says how many there are. */

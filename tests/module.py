@@ -56,6 +56,18 @@ def check_types():
         return same == ["2×√(2)"] * 4 and session.line("ans").text == "2×√(2)"
 
 
+def check_commands():
+    """Roots are told as texts: none, all values, or why they are not told. The last answer is told as LaTeX, if that finds room."""
+    with poincare.Session() as session, poincare.Session(64) as small:
+        told = [session.roots("x", it) for it in ("x^2=x+1", "x^3=x^2", "x^2+1=0", "x=x")]
+        texts = [session.line(it).text and session.latex() for it in ("√(2)/x1", "2+")]
+        small.line("170141183460469231731687303715884105727")
+        refused = [raised_by(session.roots, "x", it) for it in ("x^3=2", "x=y", "x")]
+        return (told == [["1/2-√(5)/2", "1/2+√(5)/2"], ["0", "0", "1"], [], None] and refused == [ValueError] * 3
+                and texts == [r"\frac{\sqrt{2}}{x_{1}}"] * 2 and raised_by(small.latex) is poincare.PoolFull
+                and session.line(":roots x x^3=2").refusal is poincare.Refusal.DEGREE)
+
+
 def check_copies():
     """A session is neither copied nor pickled, and stays as it is."""
     with poincare.Session() as session:
@@ -317,7 +329,7 @@ def check_hints():
     return all(held) and piped == poincare.answers(lines) and "note" not in piped
 
 
-CHECKS = [check_types, check_copies, check_answers_once, check_threads, check_tasks, check_dropped, check_handlers,
+CHECKS = [check_types, check_commands, check_copies, check_answers_once, check_threads, check_tasks, check_dropped, check_handlers,
           check_asking_handlers, check_forks, check_locales, check_words_of_the_prompt, check_hints]
 
 if __name__ == "__main__":

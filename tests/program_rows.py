@@ -45,7 +45,7 @@ def tables():
     """The rows of the gate: each session's words, input and output."""
     for file in sorted(TABLES.glob("*.rt")):
         for text in re.findall(r'&str = "\\\n(.*?)\n";', file.read_text(), re.DOTALL):
-            for block in text.strip("\n").split("\n\n"):
+            for block in text.replace("\\\\", "\\").strip("\n").split("\n\n"):
                 yield session_of(block.split("\n"))
 
 

@@ -109,7 +109,7 @@ def table():
         for line in lines:
             print(line)
         for answer in answers:
-            print("| " + answer)
+            print("| " + answer.replace("\\", "\\\\"))
         print()
 
 

@@ -76,6 +76,10 @@ tried "a deep equation"
 tried "a deep equation of products"
 echo ":solve u+v+w+x+y+z=1;u-v+w=2;v-w+x=3;w-x+y=4;x-y+z=5;u+2v+3w+4x+5y+6z=6" >"$folder/input"
 tried "six equations in six names"
+{ printf ":roots x "; repeat 61 "(1+"; printf x; repeat 61 ")"; echo "=1"; } >"$folder/input"
+tried "a deep equation whose root is told"
+{ printf ":roots x (x-1)^32=0\n:roots x "; repeat 31 "-"; echo "((x-2)^20×(x+1/3)^10×(x^2-2))=0"; } >"$folder/input"
+tried "32 roots, and a deep product of 32 factors"
 
 # signs NUMBER LINE: the line below so many minus signs
 signs() {

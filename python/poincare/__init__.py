@@ -79,6 +79,7 @@ class Refusal(enum.Enum):
     TOO_MANY = 17
     NO_DECIMAL = 18
     UNDECIDED = 19
+    DEGREE = 20
 
 
 @dataclass(frozen=True)
@@ -107,7 +108,7 @@ class Pool(NamedTuple):
 
 
 class PoolFull(Exception):
-    """A picture finds no room in the pool. The text is the program's: `! full needed N free M`."""
+    """A picture or a text in LaTeX finds no room in the pool. The text is the program's: `! full needed N free M`."""
 
 
 def _bytes_of(line: str | bytes) -> bytes:
@@ -191,6 +192,28 @@ class Session:
         told = Rounded(answer.text.removeprefix("≈"))
         told.error = decimal.Decimal(5).scaleb(-places - 1) if answer.text.startswith("≈") else decimal.Decimal(0)
         return told
+
+    def roots(self, name: str, equation: str) -> list[str] | None:
+        """The real roots of a polynomial equation in a name, as texts such as `1/2+√(5)/2`, each as often as it is a root.
+
+        Rational roots come first, rising. The list is empty where there is no root, and None where every value is one, as
+        of `x=x`. Raises ValueError where the roots are not told, with the reason as the program writes it.
+
+            session.roots("x", "x^2=x+1")  gives  ["1/2-√(5)/2", "1/2+√(5)/2"]
+        """
+        answer = self.line(f":roots {name} {equation}")
+        if answer.kind is not Kind.REPORT:
+            raise ValueError(answer.text)
+        if answer.text == f"{name} free":
+            return None
+        return [] if answer.text == "none" else [told.removeprefix(f"{name}=") for told in answer.text.split(";")]
+
+    def latex(self) -> str:
+        """The last answer as LaTeX, for math mode. Raises PoolFull where its layout finds no room in the pool."""
+        answer = self.line(":latex")
+        if answer.refusal is Refusal.FULL:
+            raise PoolFull(answer.text)
+        return answer.text
 
     def picture(self) -> str:
         """The last answer, drawn: rows, each ended by a newline. Raises PoolFull where it finds no room in the pool."""

@@ -7,11 +7,13 @@ from . import Answer, Kind, Session
 HELP = """\
 A line is answered as it stands: 1/(√(2)+√(3)), x+1→y, 0.1+0.2.
 For √( and → you may type sqrt( and ->. ans is the last answer.
-:draw draws it. :diff x LINE, :solve EQUATIONS, :expand LINE and :decimal N LINE calculate.
+:draw draws it. :diff x LINE, :solve EQUATIONS, :roots x EQUATION, :expand LINE
+and :decimal N LINE calculate.
 """
 
 COMMANDS = (
-    ":after", ":decimal", ":diff", ":draw", ":dump", ":expand", ":forget", ":help", ":layout", ":names", ":pool", ":sign", ":solve",
+    ":after", ":decimal", ":diff", ":draw", ":dump", ":expand", ":forget", ":help", ":latex", ":layout", ":names", ":pool", ":roots",
+    ":sign", ":solve",
 )
 
 # What is a function elsewhere, and here a name like any other.

@@ -3,7 +3,7 @@
     python -m poincare.kernel install [--user | --sys-prefix | --prefix P]
     python -m poincare.kernel remove
 
-It needs `ipykernel`. An answer is shown as text and, where the library tells it, as LaTeX; `:draw` shows its picture. A
+It needs `ipykernel`. An answer is shown as text and, where that finds room, as LaTeX; `:draw` shows its picture. A
 question mark shows what is told of lines and commands, and `?:diff` or `:diff?` what is told of one. The names that are
 stored and the commands are completed. Interrupt stops the line that runs, and the lines after it are not answered.
 """
@@ -96,9 +96,11 @@ class PoincareKernel(Kernel):
             return str(full)
 
     def _latex(self) -> str:
-        """The last answer as LaTeX, where the library tells it."""
-        told = self._session.line(":latex")
-        return told.text if told.kind is Kind.REPORT else ""
+        """The last answer as LaTeX, or nothing where that finds no room."""
+        try:
+            return self._session.latex()
+        except PoolFull:
+            return ""
 
     def _note_names(self, line: str, answer: Answer) -> None:
         """Keeps which names are stored, for completion."""

@@ -167,6 +167,8 @@ static void check_codes(void) {
         {":solve x^2=1", POINCARE_NOT_LINEAR, "! not linear 1"},
         {":solve a+b+c+d+e+f+g=1", POINCARE_TOO_MANY, "! too many"},
         {":decimal 2 x", POINCARE_NO_DECIMAL, "! no decimal"},
+        {":roots x x^3=2", POINCARE_DEGREE, "! degree"},
+        {":roots x x^2=2", POINCARE_REPORT, "x=-√(2);x=√(2)"},
         {":decimal 2 1/8", POINCARE_REPORT, "≈0.13"},
         {":sign 1-√(2)", POINCARE_REPORT, "negative"},
         {":after 1", POINCARE_REPORT, "after 1"},

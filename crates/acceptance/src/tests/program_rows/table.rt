@@ -255,25 +255,31 @@ y = 6
 :names = 5→x
 | 7→y
 
-:help = :help [WORD]      these lines, or that of a word with an example
-| :pool             how full the pool is
-| :dump             the bytes of the pool
-| :names            what is stored, in lines that store it again
-| :forget X         what is stored under the name X is forgotten
-| :after K          a line is interrupted after K nodes
-| :layout           the layout of the last answer in one line
-| :draw             the picture of the last answer
-| :diff X LINE      the derivative of the line with respect to the name X
-| :solve EQUATIONS  the values of the names in linear equations
-| :expand LINE      the line as a sum of multiples of products of names
-| :decimal N LINE   the nearest decimal of the line with N places, at most 38
-| :sign LINE        whether the line is positive, negative or zero
-:help diff = :diff X LINE      the derivative of the line with respect to the name X
+:help = :help [WORD]       these lines, or that of a word with an example
+| :pool              how full the pool is
+| :dump              the bytes of the pool
+| :names             what is stored, in lines that store it again
+| :forget X          what is stored under the name X is forgotten
+| :after K           a line is interrupted after K nodes
+| :layout            the layout of the last answer in one line
+| :latex             the last answer as LaTeX
+| :draw              the picture of the last answer
+| :diff X LINE       the derivative of the line with respect to the name X
+| :solve EQUATIONS   the values of the names in linear equations
+| :roots X EQUATION  all roots of a polynomial equation in the name X
+| :expand LINE       the line as a sum of multiples of products of names
+| :decimal N LINE    the nearest decimal of the line with N places, at most 38
+| :sign LINE         whether the line is positive, negative or zero
+:help diff = :diff X LINE       the derivative of the line with respect to the name X
 | for example :diff x x^3/3
-:help help = :help [WORD]      these lines, or that of a word with an example
+:help help = :help [WORD]       these lines, or that of a word with an example
 | for example :help diff
-:help  diff  = :diff X LINE      the derivative of the line with respect to the name X
+:help  diff  = :diff X LINE       the derivative of the line with respect to the name X
 | for example :diff x x^3/3
+:help latex = :latex             the last answer as LaTeX
+| for example x/2 ; :latex
+:help roots = :roots X EQUATION  all roots of a polynomial equation in the name X
+| for example :roots x x^2=x+1
 :help Diff = ! command
 :help diff x = ! command
 :help nothing = ! command
@@ -484,6 +490,140 @@ x^y×x^z = x^(y+z)
 √(95)+√(27) = 3×√(3)+√(95)
 
 -a-b = -a-b
+
+:roots x x^2=x+1 = x=1/2-√(5)/2;x=1/2+√(5)/2
+:roots x x^2=2 = x=-√(2);x=√(2)
+:roots x x^2=2x-1 = x=1;x=1
+:roots x x^2+1=0 = none
+:roots x x^2=0 = x=0;x=0
+:roots x 2x=3 = x=3/2
+:roots x x^2-x=(x-1)×(x+1) = x=1
+:roots x x=x = x free
+:roots x x=x+1 = none
+:roots x 0=0 = x free
+:roots x 0=1 = none
+:roots x x^2/3-x/7=1/5 = x=3/14-√(3165)/70;x=3/14+√(3165)/70
+:roots x 4x^2=9 = x=-3/2;x=3/2
+:roots x -x^2=-8 = x=-2×√(2);x=2×√(2)
+:roots x 3x^2+6x=1 = x=-1-2×√(3)/3;x=-1+2×√(3)/3
+:roots rate 1000×(1+rate)^2=1210 = rate=-21/10;rate=1/10
+
+:roots x x^3=1 = x=1
+:roots x x^3=2 = ! degree
+:roots x x^3-6x^2+11x=6 = x=1;x=2;x=3
+:roots x 6x^3+6x=11x^2+1 = x=1/3;x=1/2;x=1
+:roots x (3x-2)×(x^2-2)=0 = x=2/3;x=-√(2);x=√(2)
+:roots x x^5=x^3 = x=-1;x=0;x=0;x=0;x=1
+:roots x x^4=5x^2-4 = x=-2;x=-1;x=1;x=2
+:roots x x^4=5x^2-6 = ! degree
+:roots x (x-1000)^3=0 = x=1000;x=1000;x=1000
+:roots x (x-1001)^3=0 = ! degree
+:roots x (x-1001)^2×(x-1)=0 = x=1;x=1001;x=1001
+:roots x (1000x-999)×(x^2+x+1)=0 = x=999/1000
+:roots x x^32×x=0 = ! degree
+:roots x x^32×x=x^33 = ! not polynomial
+:roots x x^32×x=x×x^32 = x free
+
+:roots = ! command
+:roots x = ! command
+:roots x x = ! command
+:roots x x= = ! command
+:roots x =x = ! command
+:roots x x=1=1 = ! command
+:roots x x=1;x=2 = ! command
+:roots x x=1;2 = ! command
+:roots x=1 = ! command
+:roots 2 x=1 = ! command
+:roots x x=1→y = ! command
+:roots x 2+=1 = ! syntax
+:roots x x=$ = ! character 12
+:roots x x=y = ! too many
+:roots x a×x^2=b = ! too many
+:roots x √(y)=1 = ! too many
+:roots x √(x)=1 = ! not polynomial
+:roots x 1/x=2 = ! not polynomial
+:roots x x^2=√(2) = ! not polynomial
+:roots x x^0=1 = ! not polynomial
+:roots x undef=x = ! not polynomial
+:roots x x^2+13043817825332782213x+1=0 = ! overflow 13043817825332782213×13043817825332782213
+
+5→x = 5
+:roots x x^2=25 = x free
+:roots x x^2=2 = none
+:roots y y^2=x+4 = y=-3;y=3
+:forget x = forgot x
+:roots x x^2=25 = x=-5;x=5
+ans = 5
+:roots ans ans=1 = none
+:after 2 = after 2
+:roots x x=1 = ! interrupted
+:after 3 = after 3
+:roots x x=1 = x=1
+:pool = pool 16/32768 nodes 1 trees 1
+
+$ --pool 64
+:roots x x=1 = x=1
+:roots x x^2=2 = ! full needed 16 free 8
+:roots x x+1=undef = ! full needed 8 free 0
+
+:roots x x^2=1002301750441 = x=-√(1002301750441);x=√(1002301750441)
+:roots x x^2=170141183460469231731687303715884105727 = x=-√(170141183460469231731687303715884105727);x=√(170141183460469231731687303715884105727)
+:roots x x^2=100140049 = x=-10007;x=10007
+
+1/(1+√(2)+√(3)) = 1/(1+√(2)+√(3))
+:latex = \\frac{1}{1+\\sqrt{2}+\\sqrt{3}}
+x^2×rate2/√(x1) = rate2×x^2/√(x1)
+:latex = \\frac{\\mathrm{rate2} \\times x^{2}}{\\sqrt{x_{1}}}
+-3/4+√(17)/4 = -3/4+√(17)/4
+:latex = -\\frac{3}{4}+\\frac{\\sqrt{17}}{4}
+(1/2+x)^2/√(x) = (1/2+x)^2/√(x)
+:latex = \\frac{\\left(\\frac{1}{2}+x\\right)^{2}}{\\sqrt{x}}
+2^(1/3) = 2^(1/3)
+:latex = 2^{\\frac{1}{3}}
+(x-1)×(x+1) = (-1+x)×(1+x)
+:latex = \\left(-1+x\\right) \\times \\left(1+x\\right)
+2^-x^2 = 2^-x^2
+:latex = 2^{-x^{2}}
+:latex x = ! command
+0 = 0
+:latex = 0
+
+√(x)/2 = √(x)/2
+:latex = \\frac{\\sqrt{x}}{2}
+x+y-2×z = x+y-2×z
+:latex = x+y-2 \\times z
+1/(1+1/(1+1/x)) = 1/(1+1/(1+1/x))
+:latex = \\frac{1}{1+\\frac{1}{1+\\frac{1}{x}}}
+(a+b)^2 = (a+b)^2
+:latex = \\left(a+b\\right)^{2}
+-x^(-y) = -x^-y
+:latex = -x^{-y}
+(a/b)^2 = a^2/b^2
+:latex = \\frac{a^{2}}{b^{2}}
+x^y^z = x^y^z
+:latex = x^{y^{z}}
+abcdefg×(x+1/2) = abcdefg×(1/2+x)
+:latex = \\mathrm{abcdefg} \\times \\left(\\frac{1}{2}+x\\right)
+170141183460469231731687303715884105727/3 = 170141183460469231731687303715884105727/3
+:latex = \\frac{170141183460469231731687303715884105727}{3}
+2^(x+1) = 2^(1+x)
+:latex = 2^{1+x}
+√((a+b)/(c-d)) = √((a+b)/(c-d))
+:latex = \\sqrt{\\frac{a+b}{c-d}}
+7→x1 = 7
+:latex = 7
+x1+y12 = 7+y12
+:latex = 7+y_{12}
+
+$ --pool 64
+170141183460469231731687303715884105727 = 170141183460469231731687303715884105727
+:latex = ! full needed 40 free 24
+
+$ --pool 200
+a+b+c+d+e = a+b+c+d+e
+:layout = ! full needed 8 free 0
+:latex = ! full needed 8 free 0
+:pool = pool 88/200 nodes 6 trees 1
 
 ";
 

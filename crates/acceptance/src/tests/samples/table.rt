@@ -352,6 +352,159 @@ ans
 :decimal 39 1/3
 | ! command
 
+√(x)/2
+:latex
+| √(x)/2
+| \\frac{\\sqrt{x}}{2}
+
+:roots x x^2=x+1
+:roots x x^3=2
+| x=1/2-√(5)/2;x=1/2+√(5)/2
+| ! degree
+
+:roots x x^2=x+1
+| x=1/2-√(5)/2;x=1/2+√(5)/2
+
+:roots x x^2=2
+:roots x -x^2=-8
+| x=-√(2);x=√(2)
+| x=-2×√(2);x=2×√(2)
+
+:roots x x^2=2x-1
+:roots x x^2=0
+| x=1;x=1
+| x=0;x=0
+
+:roots x x^2+1=0
+:roots x x=x+1
+| none
+| none
+
+:roots x x=x
+:roots x 0=1
+| x free
+| none
+
+:roots x 2x=3
+:roots x x^2-x=(x-1)×(x+1)
+| x=3/2
+| x=1
+
+:roots rate 1000×(1+rate)^2=1210
+| rate=-21/10;rate=1/10
+
+:roots x x^3=1
+:roots x 6x^3+6x=11x^2+1
+| x=1
+| x=1/3;x=1/2;x=1
+
+:roots x (3x-2)×(x^2-2)=0
+| x=2/3;x=-√(2);x=√(2)
+
+:roots x x^5=x^3
+| x=-1;x=0;x=0;x=0;x=1
+
+:roots x x^3=2
+:roots x x^4=5x^2-6
+| ! degree
+| ! degree
+
+:roots x (x-1000)^3=0
+:roots x (x-1001)^3=0
+| x=1000;x=1000;x=1000
+| ! degree
+
+:roots x (x-1001)^2×(x-1)=0
+| x=1;x=1001;x=1001
+
+5→x
+:roots x x^2=25
+:roots y y^2=x+4
+| 5
+| x free
+| y=-3;y=3
+
+:roots x x=y
+:roots x √(y)=1
+| ! too many
+| ! too many
+
+:roots x √(x)=1
+:roots x 1/x=2
+| ! not polynomial
+| ! not polynomial
+
+:roots x x^2+13043817825332782213x+1=0
+| ! overflow 13043817825332782213×13043817825332782213
+
+:roots x 2+=1
+:roots x x=$
+| ! syntax
+| ! character 12
+
+:roots x x
+:roots x x=1;x=2
+:roots x x=1→y
+| ! command
+| ! command
+| ! command
+
+:after 2
+:roots x x=1
+:roots x x=1
+| after 2
+| ! interrupted
+| x=1
+
+$ --pool 64
+:roots x x^2=2
+| ! full needed 16 free 8
+
+1/(1+√(2)+√(3))
+:latex
+| 1/(1+√(2)+√(3))
+| \\frac{1}{1+\\sqrt{2}+\\sqrt{3}}
+
+x^2×rate2/√(x1)
+:latex
+| rate2×x^2/√(x1)
+| \\frac{\\mathrm{rate2} \\times x^{2}}{\\sqrt{x_{1}}}
+
+(1/2+x)^2/√(x)
+:latex
+| (1/2+x)^2/√(x)
+| \\frac{\\left(\\frac{1}{2}+x\\right)^{2}}{\\sqrt{x}}
+
+-3/4+√(17)/4
+:latex
+| -3/4+√(17)/4
+| -\\frac{3}{4}+\\frac{\\sqrt{17}}{4}
+
+2^-x^2
+:latex
+2^(1/3)
+:latex
+| 2^-x^2
+| 2^{-x^{2}}
+| 2^(1/3)
+| 2^{\\frac{1}{3}}
+
+√((a+b)/(c-d))
+:latex
+| √((a+b)/(c-d))
+| \\sqrt{\\frac{a+b}{c-d}}
+
+:latex
+:latex x
+| 0
+| ! command
+
+$ --pool 64
+170141183460469231731687303715884105727
+:latex
+| 170141183460469231731687303715884105727
+| ! full needed 40 free 24
+
 1/(√(2)+√(3))
 :decimal 10 ans
 x+1→y
@@ -359,6 +512,7 @@ y^2-x^2
 :expand ans
 :diff x √(y)
 :solve y=3
+:roots x x^2=x+1
 2^127
 √(z)/(1+z)
 :draw
@@ -369,6 +523,7 @@ y^2-x^2
 | 1+2×x
 | 1/(2×√(1+x))
 | x=2
+| x=1/2-√(5)/2;x=1/2+√(5)/2
 | ! overflow 2^127
 | √(z)/(1+z)
 |  _
