@@ -561,8 +561,10 @@ ans = 5
 :roots x x=1 = x=1
 :pool = pool 16/32768 nodes 1 trees 1
 
-$ --pool 64
+$ --pool 128
 :roots x x=1 = x=1
+
+$ --pool 64
 :roots x x^2=2 = ! full needed 16 free 8
 :roots x x+1=undef = ! full needed 8 free 0
 
