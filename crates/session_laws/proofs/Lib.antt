@@ -5,7 +5,9 @@ pub mod MadeTrees
 pub mod SlopeLemmas
 pub mod ExpandedLines
 pub mod OneReading
+pub mod RootValues
 pub mod EquationLines
+pub mod RootLines
 pub mod EnoughLemmas
 pub mod LargeTrees
 pub mod NamedLines

@@ -2,5 +2,6 @@ pub mod Meant
 pub mod Enough
 pub mod Slopes
 pub mod ExpansionsMeant
+pub mod RootsMeant
 pub mod StoredAgain
 pub mod Decided

@@ -5,7 +5,7 @@ ghost use Rattle.breakers.specs.State.{State as Breaker};
 ghost use Rattle.calc_algebra.specs.BadAndEasy.{IsEasy};
 ghost use Rattle.calc_algebra.specs.Numbers.{is_number};
 ghost use Rattle.calc_algebra.specs.Rewritings.{Reduces};
-ghost use Rattle.calc_commands.specs.Commands.{IsCommandLine, diff, expand, layout, solve};
+ghost use Rattle.calc_commands.specs.Commands.{IsCommandLine, diff, expand, layout, roots, solve};
 ghost use Rattle.calc_language.specs.Reads.{Stores};
 ghost use Rattle.calc_language.specs.Texts.{text};
 ghost use Rattle.calc_measures.specs.Measures.{bits as bits_of, room as room_of};
@@ -48,6 +48,7 @@ ghost use Rattle.session_laws.specs.Decided.{HasPlainValue, HasSmallRoots, IsSet
 ghost use Rattle.session_laws.specs.Enough.{HasBytesFor, HoldsNoSmallTree, IsAnswered, ReadsFilled};
 ghost use Rattle.session_laws.specs.ExpansionsMeant.{AsksExpansionOf, HaveSameCoefficients, TellsExpansion};
 ghost use Rattle.session_laws.specs.Meant.{HasNoMeaning, HasSmallRadicands, MeanTheSame, MeansNothing, ShowsMeaning};
+ghost use Rattle.session_laws.specs.RootsMeant.{TellsRootsOf};
 ghost use Rattle.session_laws.specs.Slopes.{TellsDerivative};
 ghost use Rattle.session_laws.specs.StoredAgain.{IsStoredAgain};
 
@@ -198,6 +199,12 @@ pub fn derivatives_are_told()
 pub fn solutions_mean_what_they_say()
     ensures { (room bits : Option (Tree → ℕ)) (old : State) (before after : List Breaker) (line text told : List ℕ)
         → IsCommandLine line (solve text) → IsReply room bits old before after line (report told) → TellsSolutionsOf old line told }
+{}
+
+/// What is told of a line that asks for roots says which fractions make both sides mean the same, and by which factoring.
+pub fn roots_mean_what_they_say()
+    ensures { (room bits : Option (Tree → ℕ)) (old : State) (before after : List Breaker) (line x text told : List ℕ)
+        → IsCommandLine line (roots x text) → IsReply room bits old before after line (report told) → TellsRootsOf old line x told }
 {}
 
 /// A line that asks for solutions is answered by what is split, read, built, filled and solved, and by nothing else.

@@ -12,6 +12,6 @@ pub use laws::{
     one_value_has_one_text, other_trees_are_not_expanded, pictures_depend_on_the_answer,
     polynomials_are_expanded, same_coefficients_same_text, sessions_answer_their_lines,
     sessions_hold_no_small_tree, sessions_with_room_are_never_full, solutions_are_calculated,
-    solutions_mean_what_they_say, told_stores_mean_the_same, undef_has_no_meaning,
+    roots_mean_what_they_say, solutions_mean_what_they_say, told_stores_mean_the_same, undef_has_no_meaning,
     words_ask_for_options,
 };
