@@ -20,3 +20,4 @@ pub mod LastAnswers
 pub mod RoomLemmas
 pub mod StoredAgain
 pub mod Shared
+pub mod DecimalLines

@@ -1,17 +1,17 @@
 -- What the answers to lines that ask for roots mean.
-use Rattle.std.proofs.Common.{◌≡◌, ◌∙◌, ℕ, List, [], ◌∷◌, ◌++◌, Option, true, refl, sym, ap, subst, arith}
+use Rattle.std.proofs.Common.{◌≡◌, ◌∙◌, ℕ, List, [], ◌++◌, Option, true, refl, sym, ap, subst}
 use Rattle.std.specs.Prelude.{Contains, ◌↔◌}
 use Rattle.breakers.specs.State.{State as Breaker}
-use Rattle.calc_algebra.proofs.{SquareClassLaws.{Same-Agree, Same-refl, Same-sym, Same-trans}, SurdLaws.{Agree, Agree-Same, class_coefficient-append, class_coefficient-surd_scale}}
+use Rattle.calc_algebra.proofs.{SquareClassLaws.{Same-Agree, Same-refl, Same-sym, Same-trans}, SurdLaws.{Agree-Same, class_coefficient-append, class_coefficient-surd_scale}}
 use Rattle.calc_algebra.specs.{Meanings.{Assignment, Gives, IsAssignment, Means}, SquareClasses.{Same, class_coefficient}, Surds.{Surd, surd_of, surd_scale}}
 use Rattle.calc_commands.specs.Commands.{IsCommandLine, roots}
-use Rattle.calc_terms.specs.{Fractions.{Fraction, minus_one_fraction, negative, plus, times, zero_fraction, one_fraction}, Trees.{Tree, sub}}
+use Rattle.calc_terms.specs.{Fractions.{Fraction, minus_one_fraction, negative, plus, times, zero_fraction}, Trees.{Tree, sub}}
 use Rattle.equation_roots.proofs.{Completeness.{rational_is_told, told_solves}, Worths.{rational_is_zero, value_is_zero, worth_is_zero}}
 use Rattle.equation_roots.specs.{Coefficients.{value}, Factorings.{Rest, roots_of}}
 use Rattle.expansions.proofs.{TreeMeanings.{tree_worth}, ValueLaws.{given_is}}
 use Rattle.expansions.specs.{PolynomialTrees.{is_polynomial, polynomial_of}, Values.{given, polynomial_value}}
 use Rattle.linear_solve.specs.Equations.{Equation}
-use Rattle.calc_session.specs.{Arguments.{bytes_before}, Replies.{Reply, report}, RootTexts.{root_trees}, States.{State}, Steps.{IsReply}}
+use Rattle.calc_session.specs.{Arguments.{bytes_before}, Replies.{Reply, report}, States.{State}, Steps.{IsReply}}
 use Rattle.calc_session.specs.Rooting.{HoldsOnly, IsFactoredIn, IsReplyToDifference, IsReplyToPolynomial, IsReplyToRooting, IsZeroIn, does_not_fit, holds_another_name, is_beyond, is_expanded, is_made, is_not_expanded, is_not_made, is_not_one, is_not_read, is_not_written, is_read, is_told, is_zero, lacks_bytes}
 use Rattle.calc_terms.specs.FractionLaws.{plus_negative}
 use Rattle.calc_terms.specs.Fractions.{plus_assoc, plus_comm}
@@ -78,8 +78,7 @@ module _ (x : List ℕ) (e : Equation) (is : is_polynomial (sub e.left e.right) 
   these_solve : {qs : List Fraction} {rest : Rest} → IsFactoredIn x difference qs rest
       → (f : Assignment) (q : Fraction) (u w : Surd) → IsAssignment f → Gives f x q → Means e.left f u → Means e.right f w → Same u w ↔ Contains qs q
   these_solve {qs} {rest} h f q u w once g l r =
-      let same : polynomial_value f difference ≡ value h.coefficients q = value_by_coefficients x f h.are ∙ ap (value h.coefficients) (given_is f once x q g) in
-      (
+      let same : polynomial_value f difference ≡ value h.coefficients q = value_by_coefficients x f h.are ∙ ap (value h.coefficients) (given_is f once x q g) in (
         λ k. rational_is_told h.coefficients qs rest q h.factoring (worth_is_zero h.coefficients q (sym same ∙ is_worth_zero f once u w l r k)),
         λ c. are_same f once u w l r (same ∙ value_is_zero h.coefficients q (told_solves h.coefficients qs rest (surd_of q) h.factoring (among_roots qs rest q c))),
       )

@@ -1,7 +1,7 @@
 -- What a polynomial in one name is worth, by its coefficients.
 use Rattle.expansions.proofs.Shared.{◌≡◌, ℕ, zero, suc, ◌+◌, [], ◌∷◌, Bool, true, false, refl, sym, ap, ◌∙◌, subst, arith, if◌then◌else◌, Ordering, Less, Equal, Greater, Assignment, zero_is, fraction_power, one_times, zero_plus}
-use Rattle.expansions.proofs.Shared.{zero_times, Fraction, is_zero_fraction, plus, plus_assoc, plus_both, times, times_assoc, times_comm, times_plus, times_zero, zero_fraction, one_fraction, Monomial, Polynomial, Summand, coefficient_at, is_same_monomial, summand}
-use Rattle.expansions.proofs.Shared.{joined, monomial_cmp, normal, with_summand, without_zeros, factor_value, given, monomial_value, polynomial_value, summand_value, times_one, plus_left_comm, plus_times, plus_zero}
+use Rattle.expansions.proofs.Shared.{zero_times, Fraction, is_zero_fraction, plus, plus_assoc, plus_both, times, times_assoc, times_comm, times_plus, times_zero, zero_fraction, Monomial, Polynomial, Summand, coefficient_at, is_same_monomial, summand}
+use Rattle.expansions.proofs.Shared.{joined, monomial_cmp, with_summand, without_zeros, given, monomial_value, polynomial_value, summand_value, times_one, plus_left_comm, plus_times, plus_zero}
 use Rattle.expansions.proofs.{MonomialTrees.{equal_is, not_same, same_is, same_itself}, SameCoefficients.{normal_same}}
 use Rattle.expansions.specs.Sums.{AreSame}
 use Rattle.std.specs.Prelude.{List, ◌≢◌, slice_index_or}

@@ -1,6 +1,6 @@
 -- Lines of `:names` that are answered again.
-use Rattle.session_laws.proofs.Shared.{◌≡◌, ◌∙◌, ℕ, List, [], ◌∷◌, Option, Some, None, refl, sym, ap, subst, arith, map, KeepsMeanings, reduced_face_means, face, Tree, names, IsReplyWith, IsReduction, is_answered, lacks_bytes, IsReplyToTree, is_not_made, is_made}
-use Rattle.session_laws.proofs.Shared.{Reply, stored, State, free_bytes, trees, IsReply, NamedTree, filled, values, value_in, Entry, entries, Contains}
+use Rattle.session_laws.proofs.Shared.{◌≡◌, ◌∙◌, ℕ, List, [], ◌∷◌, Option, Some, refl, sym, ap, subst, arith, map, KeepsMeanings, reduced_face_means, face, Tree, IsReplyWith, IsReduction, is_answered, lacks_bytes, IsReplyToTree, is_not_made, is_made}
+use Rattle.session_laws.proofs.Shared.{Reply, stored, State, free_bytes, trees, IsReply, NamedTree, filled, values, value_in, Entry, entries}
 use Rattle.session_laws.proofs.{AskedLines.{valued}, MadeTrees.{made_is}}
 use Rattle.calc_session.specs.Evaluations.{does_not_fit, is_interrupted}
 use Rattle.session_laws.specs.StoredAgain.{IsStoredAgain}

@@ -5,3 +5,4 @@ pub mod ExpansionsMeant
 pub mod RootsMeant
 pub mod StoredAgain
 pub mod Decided
+pub mod DecimalsMeant

@@ -1,11 +1,11 @@
 //! Laws of lines and of whole sessions, each the contract of a function without a body.
-ghost use Rattle.std.specs.Prelude.{◌≡◌, ◌≢◌, ◌≤◌, ◌+◌, ◌↔◌, ℕ, List, Err, None, Some, Option, Contains, length, Ok, true, false};
+ghost use Rattle.std.specs.Prelude.{◌≡◌, ◌≢◌, ◌≤◌, ◌+◌, ◌↔◌, ◌⊎◌, ℕ, List, Err, None, Some, Option, Contains, length, Ok, true, false};
 ghost use Rattle.breakers.specs.Breakers.{TripsWithin as TripsIn};
 ghost use Rattle.breakers.specs.State.{State as Breaker};
 ghost use Rattle.calc_algebra.specs.BadAndEasy.{IsEasy};
-ghost use Rattle.calc_algebra.specs.Numbers.{is_number};
+ghost use Rattle.calc_algebra.specs.Numbers.{is_number, value};
 ghost use Rattle.calc_algebra.specs.Rewritings.{Reduces};
-ghost use Rattle.calc_commands.specs.Commands.{IsCommandLine, diff, expand, layout, roots, solve};
+ghost use Rattle.calc_commands.specs.Commands.{IsCommandLine, decimals, diff, expand, layout, roots, sign, solve};
 ghost use Rattle.calc_language.specs.Reads.{Stores};
 ghost use Rattle.calc_language.specs.Texts.{text};
 ghost use Rattle.calc_measures.specs.Measures.{bits as bits_of, room as room_of};
@@ -13,11 +13,12 @@ ghost use Rattle.calc_session.specs.Arguments.{ReadsText, bytes_before};
 ghost use Rattle.calc_session.specs.Calculating.{IsReplyToExpression, made_in};
 ghost use Rattle.calc_session.specs.Deriving.{IsReplyToDerivative};
 ghost use Rattle.calc_session.specs.Drawing.{rows_in};
+ghost use Rattle.calc_session.specs.Estimating.{IsReplyToDecimal, IsReplyToSign};
 ghost use Rattle.calc_session.specs.Expanding.{IsReplyToExpansion, expansion_text};
 ghost use Rattle.calc_session.specs.Forms.{form_room};
 ghost use Rattle.calc_session.specs.Naming.{store_line};
 ghost use Rattle.calc_session.specs.Reading.{ReadsTree};
-ghost use Rattle.calc_session.specs.Replies.{Reply, circular, full, not_polynomial, refused, report, shown, stored, text_of, undefined};
+ghost use Rattle.calc_session.specs.Replies.{Reply, circular, full, no_decimal, not_polynomial, refused, report, shown, stored, text_of, undecided, undefined};
 ghost use Rattle.calc_session.specs.SolutionsMeant.{AsksToSolve, TellsSolutionsOf};
 ghost use Rattle.calc_session.specs.Solving.{IsReplyToEquations, first_not_linear};
 ghost use Rattle.calc_session.specs.States.{State, first_state, free_bytes, trees};
@@ -44,7 +45,9 @@ ghost use Rattle.poincare_run.specs.Steps.{Chain, LineStep, Moment, Turn};
 ghost use Rattle.poincare_run.specs.declared.words.Options.{Options};
 ghost use Rattle.reduce_port.specs.Bounds.{MayExceed};
 ghost use Rattle.reduce_port.specs.Checks.{TripsWithin};
+ghost use Rattle.enclosures.specs.Rounding.{count_roots};
 ghost use Rattle.session_laws.specs.Decided.{HasPlainValue, HasSmallRoots, IsSettled, ShowsSmallRoots, last_answer};
+ghost use Rattle.session_laws.specs.DecimalsMeant.{HasNumber, TellsDecimalOf, TellsSignOf};
 ghost use Rattle.session_laws.specs.Enough.{HasBytesFor, HoldsNoSmallTree, IsAnswered, ReadsFilled};
 ghost use Rattle.session_laws.specs.ExpansionsMeant.{AsksExpansionOf, HaveSameCoefficients, TellsExpansion};
 ghost use Rattle.session_laws.specs.Meant.{HasNoMeaning, HasSmallRadicands, MeanTheSame, MeansNothing, ShowsMeaning};
@@ -260,6 +263,45 @@ pub fn polynomials_are_expanded()
         → length line ≤ line_limit → AsksExpansionOf old line t → is_polynomial t ≡ true → bits_of t ≤ bits_limit → expansion_room t ≤ free_bytes old
         → ((place : ℕ) → ¬ (TripsWithin (nodes t) before after place))
         → IsReply room bits old before after line reply → reply ≡ report (expansion_text t) }
+{}
+
+/// What is told of a line that asks for a decimal is that of a Number whose value is each meaning of what the line becomes, or
+/// `undef` where this has none.
+pub fn decimals_mean_what_they_say()
+    ensures { (room bits : Option (Tree → ℕ)) (old : State) (before after : List Breaker) (line text told : List ℕ) (places : ℕ)
+        → IsCommandLine line (decimals places text) → IsReply room bits old before after line (report told) → TellsDecimalOf old text places told }
+{}
+
+/// The same of a line that asks for a sign.
+pub fn signs_mean_what_they_say()
+    ensures { (room bits : Option (Tree → ℕ)) (old : State) (before after : List Breaker) (line text told : List ℕ)
+        → IsCommandLine line (sign text) → IsReply room bits old before after line (report told) → TellsSignOf old text told }
+{}
+
+/// A line that asks for a decimal or a sign is answered by what is read, built, filled, reduced and told, and by nothing else.
+pub fn decimals_are_calculated()
+    ensures decimals { (room bits : Option (Tree → ℕ)) (old : State) (before after : List Breaker) (line text : List ℕ) (places : ℕ) (reply : Reply)
+        → length line ≤ line_limit → IsCommandLine line (decimals places text) → IsReply room bits old before after line reply
+        → IsReplyToExpression old before after (bytes_before line text) text (IsReplyToDecimal room bits places (free_bytes old) before after) reply }
+    ensures signs { (room bits : Option (Tree → ℕ)) (old : State) (before after : List Breaker) (line text : List ℕ) (reply : Reply)
+        → length line ≤ line_limit → IsCommandLine line (sign text) → IsReply room bits old before after line reply
+        → IsReplyToExpression old before after (bytes_before line text) text (IsReplyToSign room bits (free_bytes old) before after) reply }
+{}
+
+/// Where the text is read and filled, neither room nor bits are exceeded, and no breaker trips, a decimal or `undef` is told, or
+/// it is refused as no decimal or as undecided.
+pub fn decimals_are_told()
+    ensures { (room bits : Option (Tree → ℕ)) (old : State) (before after : List Breaker) (line text : List ℕ) (places : ℕ) (reply : Reply) (tokens : List Placed) (tree t : Tree) (left : ℕ)
+        → length line ≤ line_limit → IsCommandLine line (decimals places text) → ReadsText text tokens None tree → made_in old tree ≡ fills left t
+        → ¬ (MayExceed room t (free_bytes old)) → ¬ (MayExceed bits t bits_limit) → ((place : ℕ) → ¬ (TripsWithin (nodes t) before after place))
+        → IsReply room bits old before after line reply → ((told : List ℕ) × (reply ≡ report told)) ⊎ (reply ≡ refused no_decimal) ⊎ (reply ≡ refused undecided) }
+{}
+
+/// A decimal is undecided only for a Number of two roots and more.
+pub fn undecided_decimals_have_two_roots()
+    ensures { (room bits : Option (Tree → ℕ)) (old : State) (before after : List Breaker) (line text : List ℕ) (places : ℕ)
+        → length line ≤ line_limit → IsCommandLine line (decimals places text) → IsReply room bits old before after line (refused undecided)
+        → (number : Tree) × HasNumber old text number × (2 ≤ count_roots (value number)) }
 {}
 
 /// Words have the options that they ask for: they spell settings, one after another and each option at most
