@@ -1,5 +1,5 @@
 -- After each line the pool holds exactly the stored trees.
-use Rattle.session_laws.proofs.Shared.{arith, ◌≡◌, ◌∙◌, ℕ, List, [], ◌∷◌, true, Option, Some, None, refl, sym, ap, subst, IsHeld, held_by, Table, with_answer, without_name, IsStorable}
+use Rattle.session_laws.proofs.Shared.{arith, ◌≡◌, ◌∙◌, ℕ, List, [], ◌∷◌, true, Option, Some, None, refl, sym, ap, subst, IsHeld, held_by, Table, with_answer, without_name, IsStorable, is_undef, false}
 use Rattle.session_laws.proofs.Shared.{Forest, empty, tree, flatten, forest_of, join, root_id, holds, plains, forest_of_whole, Tree, more, none, face, filled, values}
 use Rattle.session_laws.proofs.Shared.{Reason, Reply, shown, stored, forgot, refused, State, first_state, free_bytes, trees, IsReply, IsReplyToTree, Leaves, LeavesAnswer, LeavesOthers, Step, is_not_made, is_made, IsReduction, IsReplyWith, has_no_value, holds_its_name, is_shown, is_stored}
 use Rattle.session_laws.proofs.Shared.{lacks_bytes, is_answered, Chain, Moment, Turn}
@@ -30,6 +30,7 @@ pub record Displays (old : State) (line : List ℕ) (store : Option (List ℕ)) 
   pub reads : ReadsText line tokens store tree
   pub storable : IsStorable store old.table
   pub reduces : Reduces (filled (values old.table (trees old)) tree) answer
+  pub defined : is_undef answer ≡ false
   pub clear : LacksName store answer
   pub face_is : t ≡ face answer
 
@@ -41,6 +42,7 @@ reply_store (Some y) (Some x) u t e = let f : stored u y ≡ stored t x = e in (
 
 record IsDisplayed (answer : Tree) (s store : Option (List ℕ)) (t : Tree) : Type 0 where
   store_is : s ≡ store
+  defined : is_undef answer ≡ false
   clear : LacksName store answer
   face_is : t ≡ face answer
 
@@ -49,8 +51,8 @@ displayed_with answer s reply None t (has_no_value d) e = absurd cc
 displayed_with answer s reply (Some x) t (has_no_value d) e = absurd cc
 displayed_with answer s reply None t (holds_its_name d m) e = absurd cc
 displayed_with answer s reply (Some x) t (holds_its_name d m) e = absurd cc
-displayed_with answer s reply store t (is_shown d) e = let p = reply_store None store (face answer) t e in record { store_is = p.0; clear = subst (λ r. LacksName r answer) p.0 tt; face_is = sym p.1 }
-displayed_with answer s reply store t (is_stored {x = y} d m) e = let p = reply_store (Some y) store (face answer) t e in record { store_is = p.0; clear = subst (λ r. LacksName r answer) p.0 m; face_is = sym p.1 }
+displayed_with answer s reply store t (is_shown d) e = let p = reply_store None store (face answer) t e in record { store_is = p.0; defined = d; clear = subst (λ r. LacksName r answer) p.0 tt; face_is = sym p.1 }
+displayed_with answer s reply store t (is_stored {x = y} d m) e = let p = reply_store (Some y) store (face answer) t e in record { store_is = p.0; defined = d; clear = subst (λ r. LacksName r answer) p.0 m; face_is = sym p.1 }
 
 no_refusal : (store : Option (List ℕ)) (t : Tree) {reason : Reason} → refused reason ≡ displayed store t → ⊥
 no_refusal None t e = cc
@@ -77,6 +79,7 @@ module _ (room bits : Option (Tree → ℕ)) (before after : List Breaker) (old 
             reads = subst (λ s. ReadsText line h.tokens s h.tree) d.store_is h.reads.reads.reads;
             storable = subst (λ s. IsStorable s old.table) d.store_is h.reads.storable;
             reduces = subst (λ v. Reduces v r) e a.reduces;
+            defined = d.defined;
             clear = d.clear;
             face_is = d.face_is;
           }
@@ -92,12 +95,17 @@ lacking_face : (store : Option (List ℕ)) (answer : Tree) → HasNoNewName answ
 lacking_face None answer n h = tt
 lacking_face (Some x) answer n h = λ m. h (n.name x m)
 
+-- its symbols are names
+pub named_answer : (old : State) (line : List ℕ) (store : Option (List ℕ)) (t : Tree) → IsHeld old.table (trees old) → (d : Displays old line store t) → HasNames d.answer
+named_answer old line store t held d =
+    let all = becomes_named old.table (trees old) d.tree held.writable (read_named d.reads) in
+    with_names d.answer (λ x m. its_names (filled (values old.table (trees old)) d.tree) all x (d.reduces.no_new_name.name x m))
+
 -- it can be written, and holds no name of the table
 kept_face : (old : State) (line : List ℕ) (store : Option (List ℕ)) (t : Tree) → IsHeld old.table (trees old) → Displays old line store t → IsKeepable store old.table t
 kept_face old line store t held d =
     let u = filled (values old.table (trees old)) d.tree in
-    let all : HasNames u = becomes_named old.table (trees old) d.tree held.writable (read_named d.reads) in
-    let named : HasNames d.answer = with_names d.answer (λ x m. its_names u all x (d.reduces.no_new_name.name x m)) in
+    let named = named_answer old line store t held d in
     let no_new = face_names d.answer d.reduces.reduced named in
     let display : IsDisplayOf store u (face d.answer) = record {
       writable = face_written d.answer d.reduces.reduced named;
@@ -131,12 +139,18 @@ ready_with : (store : Option (List ℕ)) {t : Table} {others f : Forest} {i : �
 ready_with None held g s = ready_answer held g
 ready_with (Some x) held g s = ready_named x held g s.0 s.1
 
-held_answer : (store : Option (List ℕ)) (t : Tree) (old new : State) → IsHeld old.table (trees old) → IsStorable store old.table → IsKeepable store old.table t → LeavesAnswer store t old new → IsHeld new.table (trees new)
-held_answer store t old new held storable keep leaves =
+-- the new tree stands last
+pub answer_left : {store : Option (List ℕ)} {t : Tree} {old new : State} (Told : Tree → Type 0) (leaves : LeavesAnswer store t old new) → Told t → Gives (trees old) (join (trees old) leaves.tree) (root_id leaves.tree) Told
+answer_left {t = t} {old = old} Told leaves told =
     let i = root_id leaves.tree in
     let alone = leaves.tree_is.plain_trees in
     let ends : Ends i leaves.tree (trees old) (join (trees old) leaves.tree) = record { whole = refl; alone = stands_alone leaves.tree t alone; root = refl; clear = not_root i old.nodes (leaves.new_nodes i (root_holds leaves.tree t alone)) } in
-    let g : Gives (trees old) (join (trees old) leaves.tree) i (IsKeepable store old.table) = gives ends leaves.tree_is keep in
+    gives ends leaves.tree_is told
+
+held_answer : (store : Option (List ℕ)) (t : Tree) (old new : State) → IsHeld old.table (trees old) → IsStorable store old.table → IsKeepable store old.table t → LeavesAnswer store t old new → IsHeld new.table (trees new)
+held_answer store t old new held storable keep leaves =
+    let i = root_id leaves.tree in
+    let g = answer_left (IsKeepable store old.table) leaves keep in
     held_left (with_answer store i old.table) (join (trees old) leaves.tree) new leaves.table
     (leaves.nodes ∙ ap (λ u. flatten (held_by u (join (trees old) leaves.tree))) leaves.table)
     (ready_with store held g storable)

@@ -21,3 +21,5 @@ pub mod RoomLemmas
 pub mod StoredAgain
 pub mod Shared
 pub mod DecimalLines
+pub mod StoredValues
+pub mod RestoredNames

@@ -165,6 +165,13 @@ line_named ts (Some x) t (us, e, h) n = sum_tree_named us t h (named_front us (a
 pub read_named : {text : List ℕ} {tokens : List Placed} {store : Option (List ℕ)} {t : Tree} → ReadsText text tokens store t → HasNames t
 read_named {text} {tokens} {store} {t} r = line_named (bare tokens) store t r.line-is (scanned_named (only_tokens text tokens r.cut))
 
+-- the name of a store
+store_named : (ts : List Token) (x : List ℕ) (t : Tree) → IsLine ts (Some x) t → AreNamedTokens ts → is_name x ≡ true
+store_named ts x t (us, e, h) n = (named_back us (arrow_mark ∷ name x ∷ []) (subst AreNamedTokens e n)).1.0
+
+pub read_name : {text : List ℕ} {tokens : List Placed} {x : List ℕ} {t : Tree} → ReadsText text tokens (Some x) t → is_name x ≡ true
+read_name {text} {tokens} {x} {t} r = store_named (bare tokens) x t r.line-is (scanned_named (only_tokens text tokens r.cut))
+
 -- ---- the names in a tree
 
 abbrev AreNames : List (List ℕ) → Type 0

@@ -1,5 +1,5 @@
 //! Laws of lines and of whole sessions, each the contract of a function without a body.
-ghost use Rattle.std.specs.Prelude.{◌≡◌, ◌≢◌, ◌≤◌, ◌+◌, ◌↔◌, ◌⊎◌, ℕ, List, Err, None, Some, Option, Contains, length, Ok, true, false};
+ghost use Rattle.std.specs.Prelude.{◌≡◌, ◌≢◌, ◌≤◌, ◌+◌, ◌↔◌, ◌⊎◌, ℕ, List, [], Err, None, Some, Option, Contains, length, Ok, true, false};
 ghost use Rattle.breakers.specs.Breakers.{TripsWithin as TripsIn};
 ghost use Rattle.breakers.specs.State.{State as Breaker};
 ghost use Rattle.calc_algebra.specs.BadAndEasy.{IsEasy};
@@ -16,7 +16,7 @@ ghost use Rattle.calc_session.specs.Drawing.{rows_in};
 ghost use Rattle.calc_session.specs.Estimating.{IsReplyToDecimal, IsReplyToSign};
 ghost use Rattle.calc_session.specs.Expanding.{IsReplyToExpansion, expansion_text};
 ghost use Rattle.calc_session.specs.Forms.{form_room};
-ghost use Rattle.calc_session.specs.Naming.{store_line};
+ghost use Rattle.calc_session.specs.Naming.{store_line, store_lines};
 ghost use Rattle.calc_session.specs.Reading.{ReadsTree};
 ghost use Rattle.calc_session.specs.Replies.{Reply, circular, full, no_decimal, not_polynomial, refused, report, shown, stored, text_of, undecided, undefined};
 ghost use Rattle.calc_session.specs.SolutionsMeant.{AsksToSolve, TellsSolutionsOf};
@@ -53,7 +53,7 @@ ghost use Rattle.session_laws.specs.ExpansionsMeant.{AsksExpansionOf, HaveSameCo
 ghost use Rattle.session_laws.specs.Meant.{HasNoMeaning, HasSmallRadicands, MeanTheSame, MeansNothing, ShowsMeaning};
 ghost use Rattle.session_laws.specs.RootsMeant.{TellsRootsOf};
 ghost use Rattle.session_laws.specs.Slopes.{TellsDerivative};
-ghost use Rattle.session_laws.specs.StoredAgain.{IsStoredAgain};
+ghost use Rattle.session_laws.specs.StoredAgain.{AreStoredAgain, AreStores, IsStoredAgain, ReadAsStores, stored_in};
 
 /// What is reduced to Undef means nothing.
 pub fn undef_has_no_meaning()
@@ -334,4 +334,17 @@ pub fn told_stores_mean_the_same()
     ensures { (room bits : Option (Tree → ℕ)) (old : State) (before after : List Breaker) (v : NamedTree) (t : Tree) (x : List ℕ)
         → Stores (store_line v) v.tree v.name → LacksNames (table_names old.table) v.tree
         → IsReply room bits old before after (store_line v) (stored t x) → IsStoredAgain v t x }
+{}
+
+/// Each line that `:names` tells reads as a store of a tree under its name. Where a session in which nothing is stored answers these lines
+/// in their order, each by a store, it holds the same names in the same order afterwards, each with a tree that has every meaning
+/// of the former one.
+pub fn told_names_are_stored_again()
+    ensures read { (words : List (List ℕ)) (options : Options) (breakers : List Breaker) (lines : List (List ℕ)) (turns : List Turn) (now : Moment)
+        → options_of words ≡ Some options → Chain (first_moment options breakers) lines turns now → ReadAsStores (stored_in now.state) }
+    ensures again { (words : List (List ℕ)) (options : Options) (breakers : List Breaker) (lines : List (List ℕ)) (turns : List Turn) (now : Moment)
+        → options_of words ≡ Some options → Chain (first_moment options breakers) lines turns now
+        → (start end : Moment) (stores : List Turn) → IsHeld start.state.table (trees start.state) → start.state.table.stored ≡ []
+        → Chain start (store_lines (trees now.state) now.state.table.stored) stores end → AreStores stores
+        → AreStoredAgain (stored_in now.state) (stored_in end.state) }
 {}

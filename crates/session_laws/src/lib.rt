@@ -14,6 +14,6 @@ pub use laws::{
     polynomials_are_expanded, roots_mean_what_they_say, same_coefficients_same_text,
     sessions_answer_their_lines, sessions_hold_no_small_tree, sessions_with_room_are_never_full,
     signs_mean_what_they_say, solutions_are_calculated, solutions_mean_what_they_say,
-    told_stores_mean_the_same, undecided_decimals_have_two_roots, undef_has_no_meaning,
-    words_ask_for_options,
+    told_names_are_stored_again, told_stores_mean_the_same, undecided_decimals_have_two_roots,
+    undef_has_no_meaning, words_ask_for_options,
 };
